@@ -1,0 +1,6 @@
+pub mod Floats
+pub mod Counts
+pub mod ListLaws
+pub mod RecordLaws
+pub mod All
+pub mod SortLaws

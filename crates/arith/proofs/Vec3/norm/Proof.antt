@@ -1,0 +1,13 @@
+use Rattle.arith.specs.Vec.{norm}
+use mathlib.Core.Path.{_∙_, ap}
+use Rattle.root.specs.Root.{root}
+use borrow.Author.Needs.{needs}
+use Rattle.arith.proofs.Vec3.norm.Statement.{statement}
+use Rattle.arith.proofs.Vec3.norm.Tie as tie
+
+returns : tie.Need-returns
+unfolding norm
+returns c = c .sqrt .ensures ∙ ap root (c .before .norm-squared .ensures)
+
+pub norm-spec : {M : Type 1} → statement M
+norm-spec = tie.close (tie.spec (λ c κs. search needs) (λ c κs. search needs) returns)

@@ -1,0 +1,58 @@
+-- "Vec3 as a struct of three floats": sums and products in the Rust's order, each rounded once.
+use mathlib.Core.Bool.{Bool, _&&_}
+use lib.Ieee.{Float, neg}
+use Rattle.arith.specs.F64.{_⊕_, _⊖_, _⊗_, _⊘_, 0·0}
+use Rattle.root.specs.Root.{root}
+use Rattle.arith.specs.declared.Vec3.{Vec3}
+use Rattle.arith.specs.declared.Vec2.{Vec2}
+
+-- a vector, and a pair, by its coordinates
+abbrev pub vec : Float → Float → Float → Vec3
+vec x y z = record { x = x; y = y; z = z }
+
+abbrev pub pair : Float → Float → Vec2
+pair x y = record { x = x; y = y }
+
+-- `Vec3::ZERO`
+abbrev pub origin : Vec3
+origin = vec 0·0 0·0 0·0
+
+-- `a + b`
+unfoldable pub plus : Vec3 → Vec3 → Vec3
+plus a b = vec (a .x ⊕ b .x) (a .y ⊕ b .y) (a .z ⊕ b .z)
+
+-- `a - b`
+unfoldable pub minus : Vec3 → Vec3 → Vec3
+minus a b = vec (a .x ⊖ b .x) (a .y ⊖ b .y) (a .z ⊖ b .z)
+
+-- `-a`
+unfoldable pub opposite : Vec3 → Vec3
+opposite a = vec (neg (a .x)) (neg (a .y)) (neg (a .z))
+
+-- `a * t`
+unfoldable pub times : Vec3 → Float → Vec3
+times a t = vec (a .x ⊗ t) (a .y ⊗ t) (a .z ⊗ t)
+
+-- `a / t`
+unfoldable pub over : Vec3 → Float → Vec3
+over a t = vec (a .x ⊘ t) (a .y ⊘ t) (a .z ⊘ t)
+
+-- `a.dot(b)`
+unfoldable pub dot : Vec3 → Vec3 → Float
+dot a b = a .x ⊗ b .x ⊕ a .y ⊗ b .y ⊕ a .z ⊗ b .z
+
+-- `a.norm_squared()`
+unfoldable pub normSquared : Vec3 → Float
+normSquared a = dot a a
+
+-- `a.norm()`
+unfoldable pub norm : Vec3 → Float
+norm a = root (normSquared a)
+
+-- `a.cross(b)`
+unfoldable pub cross : Vec3 → Vec3 → Vec3
+cross a b = vec (a .y ⊗ b .z ⊖ a .z ⊗ b .y) (a .z ⊗ b .x ⊖ a .x ⊗ b .z) (a .x ⊗ b .y ⊖ a .y ⊗ b .x)
+
+-- all three coordinates pass
+unfoldable pub each3 : (Float → Bool) → Vec3 → Bool
+each3 p a = p (a .x) && (p (a .y) && p (a .z))

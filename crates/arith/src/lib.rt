@@ -1,0 +1,32 @@
+// The arithmetic that mesh, lines and planes are written in: numbers in bytes, Rust's methods of
+// f64, vectors, and the order of angles with its sort.
+pub mod angles;
+pub mod bytes;
+pub mod float;
+pub mod sort;
+pub mod vector;
+
+// A point or a vector of the room.
+pub struct Vec3 {
+    pub x: f64,
+    pub y: f64,
+    pub z: f64,
+}
+
+// A point or a vector of a plane.
+pub struct Vec2 {
+    pub x: f64,
+    pub y: f64,
+}
+
+// A direction of a plane, as the angle order compares it.
+pub struct Angle {
+    pub quarter: u64,
+    pub slope: f64,
+}
+
+// Where something was found.
+pub enum Found {
+    At(usize),
+    Nothing,
+}
