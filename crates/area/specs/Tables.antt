@@ -1,0 +1,50 @@
+-- What a mesh is: points, faces and cells, with mesh.rs's fields.
+use Prim.Native.Nat.{ℕ}
+use mathlib.Core.List.{List, []}
+use lib.ListN.{getD}
+use lib.Ieee.{Float}
+use Rattle.arith.specs.F64.{0·0}
+use Rattle.arith.specs.Vec.{origin}
+use Rattle.arith.specs.declared.Vec3.{Vec3}
+use Rattle.arith.specs.declared.Found.{Found}
+use Rattle.arith.specs.declared.Found.the-variants.{Nothing}
+
+-- "A face has the first cell as owner, the second as neighbour."
+pub record Face : Type 0 where
+  pub vertices : List ℕ
+  pub owner : ℕ
+  pub neighbour : Found
+  pub centre : Vec3
+  pub area : Float
+  pub normal : Vec3
+  pub areaVector : Vec3
+
+-- its faces by number in the definition's order, its neighbours "in face order", its centre, and its area in 2D or volume in 3D
+pub record Cell : Type 0 where
+  pub faces : List ℕ
+  pub neighbours : List ℕ
+  pub centre : Vec3
+  pub volume : Float
+
+-- `UnstructuredMesh`: "The quality report and mesh id are left out."
+pub record Mesh : Type 0 where
+  pub points : List Vec3
+  pub faces : List Face
+  pub cells : List Cell
+
+-- a point, a face and a cell by number
+unfoldable pub pointAt : List Vec3 → ℕ → Vec3
+pointAt ps i = getD ps i origin
+
+abbrev pub noFace : Face
+noFace =
+    record { vertices = []; owner = 0; neighbour = Nothing; centre = origin; area = 0·0; normal = origin; areaVector = origin }
+
+unfoldable pub faceAt : List Face → ℕ → Face
+faceAt fs i = getD fs i noFace
+
+abbrev pub noCell : Cell
+noCell = record { faces = []; neighbours = []; centre = origin; volume = 0·0 }
+
+unfoldable pub cellAt : List Cell → ℕ → Cell
+cellAt cs i = getD cs i noCell
