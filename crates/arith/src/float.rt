@@ -72,12 +72,9 @@ pub fn clamp(x: f64) -> f64
     ensures { λ r. ⌜ r ≡ F64.clamp x ⌝ }
 {
     if x < 0.0 {
-        0.0
-    } else if x > 1.0 {
-        1.0
-    } else {
-        x
+        return 0.0;
     }
+    if x > 1.0 { 1.0 } else { x }
 }
 
 // The distance a comes before b: f64::total_cmp on distances.
