@@ -1,0 +1,26 @@
+use mathlib.Core.Path.{refl}
+use Rattle.arith_exports.proofs.Laws.{too-long, other-second, other-places, fits}
+use borrow.Author.Needs.{needs}
+use Rattle.arith_exports.proofs.hookyellow_sort.Statement.{statement}
+use Rattle.arith_exports.proofs.hookyellow_sort.Tie as tie
+
+returns : tie.Need-returns
+returns c = search (too-long, needs)
+
+returns-2 : tie.Need-returns-2
+returns-2 c = search (other-second, needs)
+
+returns-3 : tie.Need-returns-3
+returns-3 c = search (other-places, needs)
+
+sort-requires : tie.Need-sort-requires
+sort-requires c κs = search needs
+
+same-length : tie.Need-same-length
+same-length c = search needs
+
+returns-4 : tie.Need-returns-4
+returns-4 c = search (fits, needs)
+
+pub hookyellow-sort-spec : {M : Type 1} → statement M
+hookyellow-sort-spec = tie.close (tie.spec returns returns-2 returns-3 sort-requires same-length returns-4)
