@@ -1,0 +1,3 @@
+pub mod Neighbours
+pub mod Connection
+pub mod Search

@@ -1,0 +1,25 @@
+use Prim.Native.Nat.{_-_}
+use Rattle.faces.proofs.AreaLaws.{Clearing, clears}
+use borrow.Author.Needs.{needs}
+use Rattle.faces.proofs.clear.Statement.{statement}
+use Rattle.faces.proofs.clear.Tie as tie
+
+abbrev Inv-loop : tie.InvT-loop
+Inv-loop words₀ slots b₀ words b = Clearing words₀ words slots b
+
+abbrev μ-loop : tie.MeasureT-loop
+μ-loop words₀ slots b₀ words b = slots - b
+
+pub clear-spec : {M : Type 1} → statement M
+clear-spec =
+    tie.close
+    (tie.spec
+    Inv-loop
+    μ-loop
+    (λ c. search (clears, needs))
+    (λ c κs. search (clears, needs))
+    (λ c. search (clears, needs))
+    (λ c. search (clears, needs))
+    (λ c. search (clears, needs))
+    (λ c. search (clears, needs))
+    (λ c. search (clears, needs)))

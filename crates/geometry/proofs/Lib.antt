@@ -1,0 +1,3 @@
+pub mod SliceLaws
+pub mod FaceLaws
+pub mod AnswerLaws

@@ -1,0 +1,11 @@
+use Rattle.geometry.specs.Geometry.{addPart}
+use borrow.Author.Needs.{needs}
+use Rattle.geometry.proofs.add_part.Statement.{statement}
+use Rattle.geometry.proofs.add_part.Tie as tie
+
+returns : tie.Need-returns
+unfolding addPart
+returns c = rw (c .add .ensures)
+
+pub add-part-spec : {M : Type 1} → statement M
+add-part-spec = tie.close (tie.spec (λ c κs. search needs) returns)

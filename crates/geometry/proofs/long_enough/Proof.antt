@@ -1,0 +1,16 @@
+use Rattle.geometry.specs.Faces.{longEnough}
+use Rattle.geometry.specs.Answers.{vectorOf}
+use borrow.Author.Needs.{needs}
+use Rattle.geometry.proofs.long_enough.Statement.{statement}
+use Rattle.geometry.proofs.long_enough.Tie as tie
+
+returns : tie.Need-returns
+unfolding longEnough vectorOf
+returns c = rw (← (c .before .norm .ensures), c .if1 .taken)
+
+returns-2 : tie.Need-returns-2
+unfolding longEnough vectorOf
+returns-2 c = rw (← (c .before .norm .ensures), c .if1 .left)
+
+pub long-enough-spec : {M : Type 1} → statement M
+long-enough-spec = tie.close (tie.spec (λ c κs. search needs) returns returns-2)

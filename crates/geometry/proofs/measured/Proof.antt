@@ -1,0 +1,25 @@
+use Rattle.geometry.proofs.AnswerLaws.{measured-face, measured-none}
+use borrow.Author.Needs.{needs}
+use Rattle.geometry.proofs.measured.Statement.{statement}
+use Rattle.geometry.proofs.measured.Tie as tie
+
+returns : tie.Need-returns
+returns c =
+    let v = c .before .before .before .before in
+    measured-face _ _ _ _ _ _ _ _ (v .before .before .face-area-vector .ensures) (v .vector .given .1) (c .before .before .average-point .ensures) (c .before .norm .ensures) (c .div .ensures)
+
+returns-2 : tie.Need-returns-2
+returns-2 c = measured-none _ _ _ _ (c .before .before .face-area-vector .ensures) (c .enum-told .given .1)
+
+pub measured-spec : {M : Type 1} → statement M
+measured-spec =
+    tie.close
+    (tie.spec
+    (λ c κs. search needs)
+    (λ c. search needs)
+    (λ c κs. search needs)
+    (λ c κs. search needs)
+    (λ c κs. search needs)
+    (λ c. search needs)
+    returns
+    returns-2)

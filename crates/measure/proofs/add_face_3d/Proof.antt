@@ -1,0 +1,39 @@
+use mathlib.Core.Path.{sym, _∙_, ap}
+use lib.ListN.{length-take}
+use Rattle.geometry.specs.Geometry.{addFace3D}
+use Rattle.measure.specs.Records.{fansOf, added, degenerate}
+use native.Mathlib.Omega.{arith}
+use borrow.Author.Needs.{needs}
+use Rattle.measure.proofs.add_face_3d.Statement.{statement}
+use Rattle.measure.proofs.add_face_3d.Tie as tie
+
+slice-aggregate-add-turned : tie.Need-slice-aggregate-add-turned
+slice-aggregate-add-turned c = simp length-take (omega arith)
+
+add-turned-requires : tie.Need-add-turned-requires
+add-turned-requires c κs = (search needs, simp length-take (omega arith))
+
+returns : tie.Need-returns
+unfolding fansOf
+returns c =
+    let k = c .before .before .before .before .before .before .copy-face .ensures in
+    degenerate (ap (addFace3D _ _ _) (sym (k .copied)) ∙ sym (c .before .before .before .add-turned .ensures) ∙ ap fansOf (c .enum-told .given .1))
+
+returns-2 : tie.Need-returns-2
+unfolding fansOf
+returns-2 c =
+    let k = c .before .before .before .before .before .before .before .copy-face .ensures in
+    added (ap (addFace3D _ _ _) (sym (k .copied)) ∙ sym (c .before .before .before .before .add-turned .ensures) ∙ ap fansOf (c .before .sum .given .1)) (record { face = k .face; at-face = k .goes })
+
+pub add-face-3d-spec : {M : Type 1} → statement M
+add-face-3d-spec =
+    tie.close
+    (tie.spec
+    (λ c κs. search needs)
+    (λ c. search needs)
+    slice-aggregate-add-turned
+    add-turned-requires
+    (λ c. search needs)
+    (λ c. search needs)
+    returns
+    returns-2)

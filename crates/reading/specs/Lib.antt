@@ -1,0 +1,5 @@
+pub mod Result
+pub mod Asks
+pub mod Marks
+pub mod Served
+pub mod After
