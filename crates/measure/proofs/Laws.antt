@@ -15,7 +15,7 @@ use Rattle.reading.specs.Result.{Result, refused, fine, _>>=_, steps}
 use Rattle.reading.proofs.ResultLaws.{steps-next, steps-refused}
 use Rattle.casefile.specs.Faces.{Definition, polygon, solid, polyhedron, facesOf, faceCount}
 use Rattle.casefile.specs.Definitions.{definition}
-use Rattle.casefile.specs.Walker.{readOf, faceAt, AtFace, Headed, headOf, stepAt}
+use Rattle.casefile.specs.Walker.{definitionAt, readOf, faceAt, AtFace, Headed, headOf, stepAt}
 use Rattle.casefile.specs.declared.Head.{Head}
 use Rattle.casefile.specs.declared.FaceCursor.{FaceCursor}
 use Rattle.casefile.proofs.RecordLaws.{StepsTo, steps-to}
@@ -73,7 +73,7 @@ length-facesOf (solid places l) = length-map places _
 length-facesOf (polyhedron faces) = refl
 
 pub length-facesAt : (ws : List ℕ) (h : Head) → Headed ws h → length (facesAt ws h) ≡ h .faces
-unfolding facesAt readOf headOf
+unfolding facesAt definitionAt readOf headOf
 length-facesAt ws h g =
     let t = steps-to ws (h .at) h (g .next) (sym (g .step)) in
     rw (t .read, readOf) (length-facesOf (t .d) ∙ sym (ap (λ (x : Head). x .faces) (t .head)))

@@ -2,12 +2,11 @@
 use Prim.Native.Nat.{ℕ, _+_, _*_, _≤_, _<_}
 use mathlib.Core.Path.{_≡_}
 use mathlib.Core.List.{List}
-use lib.ListN.{length, drop}
+use lib.ListN.{length}
 use Rattle.arith.specs.declared.Vec3.{Vec3}
 use Rattle.reading.specs.Result.{Result, refused, fine}
 use Rattle.casefile.specs.Faces.{facesOf}
-use Rattle.casefile.specs.Definitions.{definition}
-use Rattle.casefile.specs.Walker.{readOf, faceAt, AtFace}
+use Rattle.casefile.specs.Walker.{definitionAt, faceAt, AtFace}
 use Rattle.casefile.specs.declared.Head.{Head}
 use Rattle.casefile.specs.declared.FaceCursor.{FaceCursor}
 use Rattle.geometry.specs.declared.Weight.{Weight}
@@ -25,7 +24,7 @@ pub record Points (case : List ℕ) (points : ℕ) : Type 0 where
 
 -- the faces of the record h
 unfoldable pub facesAt : List ℕ → Head → List (List ℕ)
-facesAt ws h = facesOf (readOf (definition (drop (h .at) ws)))
+facesAt ws h = facesOf (definitionAt ws (h .at))
 
 -- c is at a face of h
 pub record FaceTaken (ws : List ℕ) (h : Head) (c : FaceCursor) : Type 0 where

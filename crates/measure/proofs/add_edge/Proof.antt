@@ -1,3 +1,4 @@
+use Rattle.casefile.proofs.FaceLaws.{next-number}
 use Prim.Native.Nat.{ℕ}
 use mathlib.Core.Path.{_∙_, ap}
 use mathlib.Core.List.{List}
@@ -21,9 +22,9 @@ returns c =
       sum =
           c .before .add-triangle .ensures
           ∙ first-two _ _ _ _ _ _
-          (c .before .before .before .before .number .ensures ∙ ap (λ (l : List ℕ). getD l 0 0) (k .copied))
-          (c .before .before .number2 .ensures ∙ ap (λ (l : List ℕ). getD l 1 0) (k .copied));
-      next = record { face = k .face; at-face = k .goes };
+          (c .before .before .before .before .number .ensures ∙ ap (λ (l : List ℕ). getD l 0 0) (k .front))
+          (c .before .before .number2 .ensures ∙ ap (λ (l : List ℕ). getD l 1 0) (k .front));
+      next = record { face = next-number _ _ _ _ (k .follows); at-face = k .goes };
     }
 
 pub add-edge-spec : {M : Type 1} → statement M

@@ -1,3 +1,4 @@
+use Rattle.casefile.proofs.FaceLaws.{next-number}
 use mathlib.Core.Path.{sym, _∙_, ap}
 use lib.ListN.{length-take}
 use Rattle.geometry.specs.Geometry.{addFace3D}
@@ -17,13 +18,13 @@ returns : tie.Need-returns
 unfolding fansOf
 returns c =
     let k = c .before .before .before .before .before .before .copy-face .ensures in
-    degenerate (ap (addFace3D _ _ _) (sym (k .copied)) ∙ sym (c .before .before .before .add-turned .ensures) ∙ ap fansOf (c .enum-told .given .1))
+    degenerate (ap (addFace3D _ _ _) (sym (k .front)) ∙ sym (c .before .before .before .add-turned .ensures) ∙ ap fansOf (c .enum-told .given .1))
 
 returns-2 : tie.Need-returns-2
 unfolding fansOf
 returns-2 c =
     let k = c .before .before .before .before .before .before .before .copy-face .ensures in
-    added (ap (addFace3D _ _ _) (sym (k .copied)) ∙ sym (c .before .before .before .before .add-turned .ensures) ∙ ap fansOf (c .before .sum .given .1)) (record { face = k .face; at-face = k .goes })
+    added (ap (addFace3D _ _ _) (sym (k .front)) ∙ sym (c .before .before .before .before .add-turned .ensures) ∙ ap fansOf (c .before .sum .given .1)) (record { face = next-number _ _ _ _ (k .follows); at-face = k .goes })
 
 pub add-face-3d-spec : {M : Type 1} → statement M
 add-face-3d-spec =

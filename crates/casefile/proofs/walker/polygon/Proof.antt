@@ -1,6 +1,7 @@
 -- `casefile::walker::polygon` meets its contract. Assumes nothing.
 use Prim.Native.Nat.{_+_}
 use borrow.Author.Needs.{needs}
+use mathlib.Core.Path.{sym, _∙_}
 use native.Mathlib.Omega.{arith}
 use Rattle.casefile.proofs.WalkLaws.{list-count, polygon-bad, polygon-there}
 use Rattle.casefile.specs.Trailer.{wordsIn}
@@ -27,13 +28,13 @@ add-t9 c = search needs
 
 add-t10 : tie.Need-add-t10
 add-t10 c =
-    omega (arith, list-count (wordsIn (c .before .before .before .before .before .args .words .now)) (c .before .before .before .before .before .args .at + 1) 24 (c .before .n .given .0 .0) (cc) .few)
+    omega (arith, list-count (wordsIn (c .before .before .before .before .before .args .words .now)) (c .before .before .before .before .before .args .at + 1) 24 (c .before .n .given .0 .0) (sym (c .before .n .given .1) ∙ c .before .before .before .list-at .ensures) .few)
 
 returns : tie.Need-returns
-returns c = polygon-bad _ _ (c .before .before .before .before .pre) (cc)
+returns c = polygon-bad _ _ (c .before .before .before .before .pre) (sym (c .enum-told .given .1) ∙ c .before .before .list-at .ensures)
 
 returns-2 : tie.Need-returns-2
-returns-2 c = polygon-there _ _ (c .before .before .before .before .before .pre) _ (cc)
+returns-2 c = polygon-there _ _ (c .before .before .before .before .before .pre) _ (sym (c .before .n .given .1) ∙ c .before .before .before .list-at .ensures)
 
 pub polygon-spec : {M : Type 1} → statement M
 polygon-spec =

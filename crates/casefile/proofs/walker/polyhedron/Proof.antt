@@ -1,5 +1,6 @@
 -- `casefile::walker::polyhedron` meets its contract. Assumes nothing.
 use borrow.Author.Needs.{needs}
+use mathlib.Core.Path.{sym, _∙_}
 use native.Mathlib.Omega.{arith}
 use Rattle.casefile.proofs.WalkLaws.{polyhedron-none, polyhedron-over, polyhedron-short, polyhedron-there}
 use Rattle.casefile.specs.Trailer.{wordsIn}
@@ -45,12 +46,12 @@ add-t12 c = search needs
 returns-3 : tie.Need-returns-3
 returns-3 c =
     polyhedron-short (wordsIn (c .before .before .before .before .before .before .before .before .before .args .words .now)) (c .before .before .before .before .before .before .before .before .before .args .at) (c .before .before .before .before .before .before .before .before .before .pre) _ (omega arith) (c .before .before .before .before .before .word .ensures)
-    (c .before .before .before .before .if2 .left) _ (cc)
+    (c .before .before .before .before .if2 .left) _ (sym (c .before .r .given .1) ∙ c .before .before .before .skip-faces .ensures)
 
 returns-4 : tie.Need-returns-4
 returns-4 c =
     polyhedron-there (wordsIn (c .before .before .before .before .before .before .before .before .before .args .words .now)) (c .before .before .before .before .before .before .before .before .before .args .at) (c .before .before .before .before .before .before .before .before .before .pre) _ (omega arith) (c .before .before .before .before .before .word .ensures)
-    (c .before .before .before .before .if2 .left) _ (cc)
+    (c .before .before .before .before .if2 .left) _ (sym (c .before .next .given .1) ∙ c .before .before .before .skip-faces .ensures)
 
 pub polyhedron-spec : {M : Type 1} → statement M
 polyhedron-spec =

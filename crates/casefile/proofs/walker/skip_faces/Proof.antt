@@ -24,7 +24,7 @@ abbrev μ-loop : tie.MeasureT-loop
 -- the list that was found
 there : (c : tie.After-known-told Inv-loop μ-loop) →
     Lists (wordsIn (c .before .before .before .before .before .before .before .args .words .now)) (c .before .before .before .before .before .loop .at) 8 (c .before .count .given .0 .0)
-there c = list-count (wordsIn (c .before .before .before .before .before .before .before .args .words .now)) (c .before .before .before .before .before .loop .at) 8 (c .before .count .given .0 .0) (cc)
+there c = list-count (wordsIn (c .before .before .before .before .before .before .before .args .words .now)) (c .before .before .before .before .before .loop .at) 8 (c .before .count .given .0 .0) (sym (c .before .count .given .1) ∙ c .before .before .before .list-at .ensures)
 
 loop-holds : tie.Need-loop-holds Inv-loop μ-loop
 loop-holds c = (search needs, rw sub-zero)
@@ -40,7 +40,7 @@ enum-told c = search needs
 
 returns : tie.Need-returns Inv-loop μ-loop
 returns c =
-    skip-bad (wordsIn (c .before .before .before .before .before .before .args .words .now)) (c .before .before .before .before .before .before .args .n) (c .before .before .before .before .loop .i) (c .before .before .before .before .loop .at) (c .before .before .before .loop-test .taken) (cc)
+    skip-bad (wordsIn (c .before .before .before .before .before .before .args .words .now)) (c .before .before .before .before .before .before .args .n) (c .before .before .before .before .loop .i) (c .before .before .before .before .loop .at) (c .before .before .before .loop-test .taken) (sym (c .enum-told .given .1) ∙ c .before .before .list-at .ensures)
     ∙ c .before .before .before .before .loop .inv .1
 
 add-at : tie.Need-add-at Inv-loop μ-loop
@@ -60,7 +60,7 @@ loop-again c = (
   there c .room,
   sym
       (skip-next (wordsIn (c .before .before .before .before .before .before .before .args .words .now)) (c .before .before .before .before .before .before .before .args .n) (c .before .before .before .before .before .loop .i) (c .before .before .before .before .before .loop .at) (c .before .count .given .0 .0)
-      (c .before .before .before .before .loop-test .taken) (cc))
+      (c .before .before .before .before .loop-test .taken) (sym (c .before .count .given .1) ∙ c .before .before .before .list-at .ensures))
       ∙ c .before .before .before .before .before .loop .inv .1,
 )
 
