@@ -8,7 +8,9 @@ use lib.ListN.{length, getD, take, drop, replicate, length-append, length-take, 
 use lib.Seq.{length-take-le, getD-take, getD-drop, getD-append-add}
 use borrow.Author.Tests.{lt-ltb, le-ltb}
 use Rattle.arith.specs.Bytes.{le32, le64, floatAt, vecAt}
-use Rattle.casefile.specs.Trailer.{trailerWord, countsOf, wordsFrom, fieldFrom, pressuresFrom, trailerFrom, hasOffsets, hasParts, trailerRight, opened, pointsOf, wordsOf}
+use Rattle.arith.proofs.RecordLaws.{tab-same}
+use Rattle.area.specs.Layout.{pointsIn}
+use Rattle.casefile.specs.Trailer.{trailerWord, countsOf, wordsFrom, fieldFrom, pressuresFrom, trailerFrom, hasOffsets, hasParts, trailerRight, opened, wordsOf}
 use Rattle.casefile.proofs.ReadLaws.{same-readAll}
 use Rattle.casefile.proofs.TrailerLaws.{ends, Opens, opens}
 use Rattle.arith.specs.F64.{0·0}
@@ -92,13 +94,12 @@ module _ (file : List ℕ) (right : trailerRight file ≡ true) where
   same-opened = rw (same-counts, same-right, right, opened)
 
   -- points and definition words
-  pub same-points : pointsOf (outside file) (countsOf file .points) ≡ pointsOf file (countsOf file .points)
-  unfolding pointsOf
+  pub same-points : pointsIn (outside file) (countsOf file .points) ≡ pointsIn file (countsOf file .points)
+  unfolding pointsIn fieldFrom
   same-points =
       rw cut
-      (same-readAll _ _ 24 (fieldFrom (countsOf file)) (countsOf file .points) 0
-      (λ i h. vecAt-below (fieldFrom (countsOf file)) (32 * countsOf file .cells) file (omega (arith, long)) i h)
-      (unfold fieldFrom in omega arith))
+      (tab-same _ _ (countsOf file .points)
+      (λ i h. vecAt-below (fieldFrom (countsOf file)) (32 * countsOf file .cells) file (omega (arith, long)) (24 * i) (omega arith)))
 
   pub same-words : wordsOf (outside file) (countsOf file) ≡ wordsOf file (countsOf file)
   unfolding wordsOf wordsFrom
@@ -147,7 +148,7 @@ module _ (file : List ℕ) where
     outside-words = rw (o .same) (same-words file (o .right))
 
     -- refusals 9 and 10, and the mesh
-    pub outside-points : pointsOf (outside file) (n .points) ≡ pointsOf file (n .points)
+    pub outside-points : pointsIn (outside file) (n .points) ≡ pointsIn file (n .points)
     outside-points = rw (o .same) (same-points file (o .right))
 
     known : countsOf (outside file) ≡ n

@@ -8,7 +8,7 @@ use lib.ListN.{length, getD, take, drop, length-take, length-drop, List·getD-eq
 use lib.Seq.{getD-take, getD-drop}
 use Rattle.arith.specs.Bytes.{le32, vecAt, readAll}
 use Rattle.arith.specs.Vec.{origin}
-use Rattle.casefile.specs.Trailer.{pointsOf, pointAt, wordsIn}
+use Rattle.casefile.specs.Trailer.{wordsIn}
 
 module _ {A : Type 0} (f : ℕ → A) (stride : ℕ) where
   pub length-readAll : (n at : ℕ) → length (readAll f stride n at) ≡ n
@@ -39,18 +39,7 @@ pub same-readAll : {A : Type 0} (f g : ℕ → A) (stride bound n at : ℕ) → 
 same-readAll f g stride bound n at h b =
     moved-readAll f g stride bound n at 0 (λ i w. h i w ∙ ap g (sym (zero-add i))) b ∙ ap (readAll g stride n) (zero-add at)
 
--- ---- points
-
-pub point-there : (file : List ℕ) (points i : ℕ) → i < points → pointAt (pointsOf file points) i ≡ vecAt file (24 * i)
-unfolding pointAt pointsOf
-point-there file points i h = getD-readAll (vecAt file) 24 points 0 i origin h ∙ rw zero-add
-
-pub point-none : (file : List ℕ) (points i : ℕ) → points ≤ i → pointAt (pointsOf file points) i ≡ origin
-unfolding pointAt pointsOf
-point-none file points i h =
-    List·getD-eq-default (readAll (vecAt file) 24 points 0) origin (omega (arith, length-readAll (vecAt file) 24 points 0))
-
--- ---- words
+-- ---- the definition words
 
 pub length-wordsIn : (b : List ℕ) → length (wordsIn b) ≡ length b / 4
 unfolding wordsIn

@@ -5,10 +5,8 @@ use mathlib.Core.Path.{_≡_}
 use mathlib.Core.Bool.{Bool, cond, _&&_, _||_}
 use mathlib.Core.List.{List}
 use lib.Dec.{leb, ltb, eqb}
-use lib.ListN.{length, getD}
-use Rattle.arith.specs.Bytes.{le32, vecAt, readAll}
-use Rattle.arith.specs.Vec.{origin}
-use Rattle.arith.specs.declared.Vec3.{Vec3}
+use lib.ListN.{length}
+use Rattle.arith.specs.Bytes.{le32, readAll}
 use Rattle.reading.specs.Result.{Result, refused, fine}
 use Rattle.casefile.specs.declared.Counts.{Counts}
 use Rattle.casefile.specs.declared.Opened.{Opened}
@@ -71,14 +69,6 @@ opened file = cond (trailerRight file) (cond (overLimit (countsOf file)) (Refuse
 unfoldable pub openedCase : Opened → Result Counts
 openedCase (Case n) = fine n
 openedCase (Refused r) = refused r
-
--- "points (3 floats each)"
-unfoldable pub pointsOf : List ℕ → ℕ → List Vec3
-pointsOf file points = readAll (vecAt file) 24 points 0
-
--- a point by its number
-unfoldable pub pointAt : List Vec3 → ℕ → Vec3
-pointAt ps i = getD ps i origin
 
 -- "definition words (u32)": all of some bytes
 unfoldable pub wordsIn : List ℕ → List ℕ

@@ -1,0 +1,14 @@
+use mathlib.Core.Path.{refl}
+use Rattle.polygons.specs.Bins.{aspect}
+use Rattle.polygons.proofs.bins.aspect.Statement.{statement}
+use Rattle.polygons.proofs.bins.aspect.Tie as tie
+use Rattle.polygons.proofs.bins.aspect.Reads as reads
+use Rattle.polygons.proofs.bins.aspect.Lts as lts
+
+-- src/bins.rt:40:1
+returns : tie.Need-returns
+unfolding aspect
+returns c = refl
+
+pub aspect-spec : {M : Type 1} → statement M
+aspect-spec = tie.close (tie.spec returns)

@@ -1,0 +1,29 @@
+use mathlib.Core.Path.{refl}
+use borrow.Author.Needs.{needs}
+use Rattle.polygons.proofs.bins.bin_count.Statement.{statement}
+use Rattle.polygons.proofs.bins.bin_count.Tie as tie
+use Rattle.polygons.proofs.bins.bin_count.Reads as reads
+use Rattle.polygons.proofs.bins.bin_count.Lts as lts
+use Rattle.arith.proofs.float.ceil_usize.Reads as ceil-usize-reads
+use Rattle.polygons.proofs.bins.at_least_one.Reads as at-least-one-reads
+use Rattle.root.proofs.sqrt.Reads as sqrt-reads
+
+-- src/bins.rt:36:36
+sqrt-requires : tie.Need-sqrt-requires
+sqrt-requires c κs = search needs
+
+-- src/bins.rt:36:18
+ceil-usize-requires : tie.Need-ceil-usize-requires
+ceil-usize-requires c κs = search needs
+
+-- src/bins.rt:36:5
+at-least-one-requires : tie.Need-at-least-one-requires
+at-least-one-requires c κs = search needs
+
+-- src/bins.rt:33:1
+returns : tie.Need-returns
+returns c = (rw (c .at-least-one .ensures .0, c .before .ceil-usize .ensures, c .before .before .sqrt .ensures), c .at-least-one .ensures .1)
+
+pub bin-count-spec : {M : Type 1} → statement M
+bin-count-spec =
+    tie.close (tie.spec sqrt-requires ceil-usize-requires at-least-one-requires returns)

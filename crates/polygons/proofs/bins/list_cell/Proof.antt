@@ -1,0 +1,69 @@
+use native.Mathlib.Omega.{arith}
+use Rattle.polygons.proofs.GridLaws.{listed-by}
+use borrow.Author.Needs.{needs}
+use Rattle.polygons.proofs.bins.list_cell.Statement.{statement}
+use Rattle.polygons.proofs.bins.list_cell.Tie as tie
+use Rattle.polygons.proofs.bins.list_cell.Reads as reads
+use Rattle.polygons.proofs.bins.list_cell.Lts as lts
+use Rattle.polygons.proofs.bins.put_bins.Reads as put-bins-reads
+use Rattle.polygons.proofs.bounds.boundless.Reads as boundless-reads
+use Rattle.polygons.proofs.bounds.widened_by.Reads as widened-by-reads
+use Rattle.polygons.proofs.locate.bin_for.Reads as bin-for-reads
+use Rattle.polygons.proofs.locate.count_in.Reads as count-in-reads
+use Rattle.polygons.proofs.locate.floats_at.Reads as floats-at-reads
+use Rattle.polygons.proofs.locate.words_at.Reads as words-at-reads
+
+-- src/bins.rt:116:9
+count-in-requires : tie.Need-count-in-requires
+count-in-requires c κs = search needs
+
+-- src/bins.rt:117:34
+boundless-requires : tie.Need-boundless-requires
+boundless-requires c κs = search needs
+
+-- src/bins.rt:117:63
+floats-at-requires : tie.Need-floats-at-requires
+floats-at-requires c κs = search needs
+
+-- src/bins.rt:117:9
+widened-by-requires : tie.Need-widened-by-requires
+widened-by-requires c κs = search needs
+
+-- src/bins.rt:118:9
+bin-for-requires : tie.Need-bin-for-requires
+bin-for-requires c κs = search needs
+
+-- src/bins.rt:119:9
+bin-for-requires-2 : tie.Need-bin-for-requires-2
+bin-for-requires-2 c κs = search needs
+
+-- src/bins.rt:120:21
+words-at-requires : tie.Need-words-at-requires
+words-at-requires c κs = search needs
+
+-- src/bins.rt:120:5
+put-bins-requires : tie.Need-put-bins-requires
+put-bins-requires c κs = search needs
+
+-- src/bins.rt:112:1
+same-length : tie.Need-same-length
+same-length c = search needs
+
+-- src/bins.rt:112:1
+returns : tie.Need-returns
+returns c = listed-by _ _ _ _ _ _ _ _ _ _ _ _ _ (c .before .before .before .before .before .before .before .before .before .boundless .ensures) (c .before .before .before .before .before .before .before .before .floats-at .ensures) (c .before .before .before .before .before .before .before .before .before .before .count-in .ensures .0) (c .before .before .before .before .before .before .before .widened-by .ensures) (c .before .before .before .before .before .before .bin-for .ensures .0) (c .before .before .before .before .before .bin-for2 .ensures .0) (c .before .before .before .words-at .ensures) (c .before .before .put-bins .ensures) (omega (arith, c .before .before .before .before .before .before .before .before .before .before .before .before .before .before .pre))
+
+pub list-cell-spec : {M : Type 1} → statement M
+list-cell-spec =
+    tie.close
+    (tie.spec
+    count-in-requires
+    boundless-requires
+    floats-at-requires
+    widened-by-requires
+    bin-for-requires
+    bin-for-requires-2
+    words-at-requires
+    put-bins-requires
+    same-length
+    returns)

@@ -1,0 +1,20 @@
+use mathlib.Core.Path.{refl}
+use Rattle.polygons.specs.Bounds.{boundless}
+use lib.Ieee.{ofBits, neg, nanBits}
+use Rattle.polygons.proofs.bounds.boundless.Statement.{statement}
+use Rattle.polygons.proofs.bounds.boundless.Tie as tie
+use Rattle.polygons.proofs.bounds.boundless.Reads as reads
+use Rattle.polygons.proofs.bounds.boundless.Lts as lts
+
+-- src/bounds.rt:21:15
+float-from-bits-top : tie.Need-float-from-bits-top
+unfolding ofBits neg nanBits
+float-from-bits-top c = tt
+
+-- src/bounds.rt:18:1
+returns : tie.Need-returns
+unfolding ofBits neg nanBits boundless
+returns c = refl
+
+pub boundless-spec : {M : Type 1} → statement M
+boundless-spec = tie.close (tie.spec float-from-bits-top returns)

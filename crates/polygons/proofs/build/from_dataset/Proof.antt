@@ -1,0 +1,82 @@
+use Rattle.polygons.proofs.BuildLaws.{lent-words, lent-floats}
+use native.Mathlib.Omega.{arith}
+use Rattle.polygons.proofs.BuildLaws.{refused-field, made-field}
+use borrow.Author.Needs.{needs}
+use Rattle.polygons.proofs.build.from_dataset.Statement.{statement}
+use Rattle.polygons.proofs.build.from_dataset.Tie as tie
+use Rattle.polygons.proofs.build.from_dataset.Reads as reads
+use Rattle.polygons.proofs.build.from_dataset.Lts as lts
+use Rattle.polygons.proofs.bins.bin_counts.Reads as bin-counts-reads
+use Rattle.polygons.proofs.bins.grid_for.Reads as grid-for-reads
+use Rattle.polygons.proofs.bins.list_cells.Reads as list-cells-reads
+use Rattle.polygons.proofs.bounds.all_bounds.Reads as all-bounds-reads
+use Rattle.polygons.proofs.build.put_polygons.Reads as put-polygons-reads
+
+-- src/build.rt:103:5
+put-polygons-requires : tie.Need-put-polygons-requires
+put-polygons-requires c κs = search needs
+
+-- src/build.rt:104:9
+all-bounds-requires : tie.Need-all-bounds-requires
+all-bounds-requires c κs = search needs
+
+-- src/build.rt:105:9
+bin-counts-requires : tie.Need-bin-counts-requires
+bin-counts-requires c κs = search needs
+
+-- src/build.rt:106:9
+grid-for-requires : tie.Need-grid-for-requires
+grid-for-requires c κs = search needs
+
+enum-told : tie.Need-enum-told
+enum-told c = search needs
+
+-- src/build.rt:109:21
+enum-known-built : tie.Need-enum-known-built
+enum-known-built c = search needs
+
+-- src/build.rt:110:13
+list-cells-requires : tie.Need-list-cells-requires
+list-cells-requires c κs = (lent-words _ _ _ (c .before .before .before .before .before .before .before .before .before .before .before .before .before .before .before .before .before .before .before .before .pre .0 .2) (search needs), lent-floats _ _ _ (c .before .before .before .before .before .before .before .before .before .before .before .before .before .before .before .before .before .before .before .before .pre .0 .3) (search needs), c .before .before .before .before .before .grid-for .ensures .1 _ (c .before .before .before .built .given .1))
+
+-- src/build.rt:97:1
+same-length : tie.Need-same-length
+same-length c = search needs
+
+-- src/build.rt:97:1
+same-length-2 : tie.Need-same-length-2
+same-length-2 c = search needs
+
+-- src/build.rt:97:1
+returns : tie.Need-returns
+returns c = refused-field _ _ _ _ _ _ _ _ _ (c .before .before .before .before .before .before .before .before .before .before .before .put-polygons .ensures .0) (c .before .before .before .before .before .before .before .before .before .before .before .put-polygons .ensures .1) (c .before .before .before .before .all-bounds .ensures) (c .before .before .before .bin-counts .ensures .counts) (c .before .before .grid-for .ensures .0) (c .before .before .grid-for .ensures .1) _ (c .enum-told .given .1)
+
+-- src/build.rt:97:1
+same-length-3 : tie.Need-same-length-3
+same-length-3 c = search needs
+
+-- src/build.rt:97:1
+same-length-4 : tie.Need-same-length-4
+same-length-4 c = search needs
+
+-- src/build.rt:97:1
+returns-2 : tie.Need-returns-2
+returns-2 c = made-field _ _ _ _ _ _ _ _ _ (c .before .before .before .before .before .before .before .before .before .before .before .before .before .before .before .before .before .put-polygons .ensures .0) (c .before .before .before .before .before .before .before .before .before .before .before .before .before .before .before .before .before .put-polygons .ensures .1) (c .before .before .before .before .before .before .before .before .before .before .all-bounds .ensures) (c .before .before .before .before .before .before .before .before .before .bin-counts .ensures .counts) (c .before .before .before .before .before .before .before .before .grid-for .ensures .0) (c .before .before .before .before .before .before .before .before .grid-for .ensures .1) _ _ (c .before .before .before .before .before .before .built .given .1) (c .before .before .list-cells .ensures .0) (c .before .before .list-cells .ensures .1)
+
+pub from-dataset-spec : {M : Type 1} → statement M
+from-dataset-spec =
+    tie.close
+    (tie.spec
+    put-polygons-requires
+    all-bounds-requires
+    bin-counts-requires
+    grid-for-requires
+    enum-told
+    enum-known-built
+    list-cells-requires
+    same-length
+    same-length-2
+    returns
+    same-length-3
+    same-length-4
+    returns-2)

@@ -1,0 +1,81 @@
+use Rattle.polygons.proofs.CornerLaws.{cell-start, cell-fits, cell-turn, cell-end}
+use Rattle.polygons.specs.Layout.{cornersIn}
+use Rattle.polygons.specs.Corners.{addCorners, cornersOf}
+use Rattle.area.specs.Layout.{cellsIn, meshIn, pointsIn}
+use Rattle.area.specs.Tables.{cellAt}
+use Rattle.arith.specs.Lists.{foldl}
+use lib.ListN.{drop, length}
+use mathlib.Core.List.{[]}
+use mathlib.Core.Path.{_≡_}
+use Prim.Native.Nat.{_≤_, _-_}
+use borrow.Author.Needs.{needs}
+use Rattle.polygons.proofs.corners.corners.Statement.{statement}
+use Rattle.polygons.proofs.corners.corners.Tie as tie
+use Rattle.polygons.proofs.corners.corners.Reads as reads
+use Rattle.polygons.proofs.corners.corners.Lts as lts
+use Rattle.area.proofs.cell_face.Reads as cell-face-reads
+use Rattle.area.proofs.face_count.Reads as face-count-reads
+use Rattle.polygons.proofs.corners.add_face.Reads as add-face-reads
+
+abbrev Inv-loop : tie.InvT-loop
+Inv-loop case points words s i xs₀ ys₀ count n₀ k₀ xs ys n k = (k ≤ count) × (n ≤ 24) × (foldl (addCorners (meshIn (pointsIn case points) s words [])) (cornersIn xs ys n) (drop k (cellAt (cellsIn s words []) i .faces)) ≡ cornersOf (meshIn (pointsIn case points) s words []) (cellAt (cellsIn s words []) i)) × (length xs ≡ length xs₀) × (length ys ≡ length ys₀)
+
+abbrev μ-loop : tie.MeasureT-loop
+μ-loop case points words s i xs₀ ys₀ count n₀ k₀ xs ys n k = count - k
+
+-- src/corners.rt:88:9
+face-count-requires : tie.Need-face-count-requires Inv-loop μ-loop
+face-count-requires c κs = search needs
+
+-- src/corners.rt:91:5
+loop-holds : tie.Need-loop-holds Inv-loop μ-loop
+loop-holds c = (search needs, search needs, cell-start _ _ _ _ _ _, search needs, search needs)
+
+-- src/corners.rt:92:13
+cell-face-requires : tie.Need-cell-face-requires Inv-loop μ-loop
+cell-face-requires c κs = search needs
+
+-- src/corners.rt:93:9
+add-face-requires : tie.Need-add-face-requires Inv-loop μ-loop
+add-face-requires c κs = (search needs, cell-fits _ _ _ _ _ _ _ _ (c .before .before .before .before .before .face-count .ensures .0 []) (c .before .before .before .before .loop .inv .2) _ (c .before .before .before .loop-test .taken) (c .before .before .cell-face .ensures .0 []) (c .before .before .before .before .before .before .before .before .before .before .pre .1))
+
+-- src/corners.rt:94:9
+add-k : tie.Need-add-k Inv-loop μ-loop
+add-k c = search needs
+
+-- src/corners.rt:91:5
+loop-less : tie.Need-loop-less Inv-loop μ-loop
+loop-less c = search needs
+
+-- src/corners.rt:91:5
+loop-again : tie.Need-loop-again Inv-loop μ-loop
+loop-again c = (search needs, search needs, cell-turn _ _ _ _ _ _ _ _ (c .before .before .before .before .before .before .before .before .before .before .face-count .ensures .0 []) (c .before .before .before .before .before .before .before .before .before .loop .inv .2) _ (c .before .before .before .before .before .before .before .before .loop-test .taken) (c .before .before .before .before .before .before .before .cell-face .ensures .0 []) _ (c .before .before .before .before .add-face .ensures .0), search needs, search needs)
+
+-- src/corners.rt:83:1
+same-length : tie.Need-same-length Inv-loop μ-loop
+same-length c = search needs
+
+-- src/corners.rt:83:1
+same-length-2 : tie.Need-same-length-2 Inv-loop μ-loop
+same-length-2 c = search needs
+
+-- src/corners.rt:83:1
+returns : tie.Need-returns Inv-loop μ-loop
+returns c = (cell-end _ _ _ _ _ _ _ _ (c .before .before .face-count .ensures .0 []) (c .before .loop .inv .2) (c .loop-test .left), search needs)
+
+pub corners-spec : {M : Type 1} → statement M
+corners-spec =
+    tie.close
+    (tie.spec
+    Inv-loop
+    μ-loop
+    face-count-requires
+    loop-holds
+    cell-face-requires
+    add-face-requires
+    add-k
+    loop-less
+    loop-again
+    same-length
+    same-length-2
+    returns)

@@ -1,0 +1,19 @@
+use Rattle.polygons.specs.Corners.{flat}
+use borrow.Author.Needs.{needs}
+use Rattle.polygons.proofs.corners.flat_at.Statement.{statement}
+use Rattle.polygons.proofs.corners.flat_at.Tie as tie
+use Rattle.polygons.proofs.corners.flat_at.Reads as reads
+use Rattle.polygons.proofs.corners.flat_at.Lts as lts
+use Rattle.area.proofs.point_at.Reads as point-at-reads
+
+-- src/corners.rt:57:9
+point-at-requires : tie.Need-point-at-requires
+point-at-requires c κs = search needs
+
+-- src/corners.rt:53:1
+returns : tie.Need-returns
+unfolding flat
+returns c = rw (c .point-at .ensures)
+
+pub flat-at-spec : {M : Type 1} → statement M
+flat-at-spec = tie.close (tie.spec point-at-requires returns)

@@ -1,0 +1,37 @@
+use native.Mathlib.Nat.{mod-lt}
+use native.Mathlib.Omega.{arith}
+use Rattle.arith.proofs.Counts.{whole-in}
+use Rattle.polygons.specs.Bins.{binAlong}
+use borrow.Author.Needs.{needs}
+use Rattle.polygons.proofs.locate.bin_along.Statement.{statement}
+use Rattle.polygons.proofs.locate.bin_along.Tie as tie
+use Rattle.polygons.proofs.locate.bin_along.Reads as reads
+use Rattle.polygons.proofs.locate.bin_along.Lts as lts
+use Rattle.arith.proofs.float.clamp.Reads as clamp-reads
+use Rattle.arith.proofs.float.floor_usize.Reads as floor-usize-reads
+
+-- src/locate.rt:27:9
+clamp-requires : tie.Need-clamp-requires
+clamp-requires c κs = search needs
+
+-- src/locate.rt:28:38
+int-to-float-floor-usize : tie.Need-int-to-float-floor-usize
+int-to-float-floor-usize c = whole-in _ (omega arith)
+
+-- src/locate.rt:28:5
+floor-usize-requires : tie.Need-floor-usize-requires
+floor-usize-requires c κs = search needs
+
+-- src/locate.rt:28:5
+rem-result : tie.Need-rem-result
+rem-result c = search needs
+
+-- src/locate.rt:23:1
+returns : tie.Need-returns
+unfolding binAlong
+returns c = (rw (c .floor-usize .ensures, c .before .before .clamp .ensures), mod-lt _ (omega arith))
+
+pub bin-along-spec : {M : Type 1} → statement M
+bin-along-spec =
+    tie.close
+    (tie.spec clamp-requires int-to-float-floor-usize floor-usize-requires rem-result returns)

@@ -1,0 +1,24 @@
+use native.Mathlib.Omega.{arith}
+use Rattle.polygons.specs.Bins.{binFor}
+use borrow.Author.Needs.{needs}
+use Rattle.polygons.proofs.locate.bin_for.Statement.{statement}
+use Rattle.polygons.proofs.locate.bin_for.Tie as tie
+use Rattle.polygons.proofs.locate.bin_for.Reads as reads
+use Rattle.polygons.proofs.locate.bin_for.Lts as lts
+use Rattle.polygons.proofs.locate.bin_along.Reads as bin-along-reads
+
+-- src/locate.rt:37:12
+bin-along-requires : tie.Need-bin-along-requires
+bin-along-requires c κs = search needs
+
+-- src/locate.rt:38:12
+bin-along-requires-2 : tie.Need-bin-along-requires-2
+bin-along-requires-2 c κs = search needs
+
+-- src/locate.rt:32:1
+returns : tie.Need-returns
+unfolding binFor
+returns c = (rw (c .before .bin-along .ensures .0, c .bin-along2 .ensures .0), omega arith, omega arith)
+
+pub bin-for-spec : {M : Type 1} → statement M
+bin-for-spec = tie.close (tie.spec bin-along-requires bin-along-requires-2 returns)

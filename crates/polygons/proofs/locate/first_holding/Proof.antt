@@ -1,0 +1,61 @@
+use Rattle.polygons.proofs.LocateLaws.{locate-here, locate-next, locate-end}
+use Rattle.polygons.specs.Layout.{cellPolygonsIn}
+use Rattle.polygons.specs.Locate.{holds}
+use Rattle.arith.specs.Lists.{firstFrom}
+use lib.ListN.{drop}
+use mathlib.Core.Path.{_≡_}
+use Prim.Native.Nat.{_≤_, _-_}
+use borrow.Author.Needs.{needs}
+use Rattle.polygons.proofs.locate.first_holding.Statement.{statement}
+use Rattle.polygons.proofs.locate.first_holding.Tie as tie
+use Rattle.polygons.proofs.locate.first_holding.Reads as reads
+use Rattle.polygons.proofs.locate.first_holding.Lts as lts
+use Rattle.polygons.proofs.locate.holds.Reads as holds-reads
+
+abbrev Inv-loop : tie.InvT-loop
+Inv-loop words floats s b q i₀ i = (i ≤ s .cells) × (firstFrom (holds b q) i (drop i (cellPolygonsIn s words floats)) ≡ firstFrom (holds b q) 0 (cellPolygonsIn s words floats))
+
+abbrev μ-loop : tie.MeasureT-loop
+μ-loop words floats s b q i₀ i = s .cells - i
+
+-- src/locate.rt:125:5
+loop-holds : tie.Need-loop-holds Inv-loop μ-loop
+loop-holds c = search needs
+
+-- src/locate.rt:126:12
+holds-requires : tie.Need-holds-requires Inv-loop μ-loop
+holds-requires c κs = search needs
+
+-- src/locate.rt:127:13
+returns : tie.Need-returns Inv-loop μ-loop
+returns c = search (locate-here, needs)
+
+-- src/locate.rt:129:9
+add-i : tie.Need-add-i Inv-loop μ-loop
+add-i c = search needs
+
+-- src/locate.rt:125:5
+loop-less : tie.Need-loop-less Inv-loop μ-loop
+loop-less c = search needs
+
+-- src/locate.rt:125:5
+loop-again : tie.Need-loop-again Inv-loop μ-loop
+loop-again c = search (locate-next, needs)
+
+-- src/locate.rt:120:1
+returns-2 : tie.Need-returns-2 Inv-loop μ-loop
+returns-2 c = search (locate-end, needs)
+
+pub first-holding-spec : {M : Type 1} → statement M
+first-holding-spec =
+    tie.close
+    (tie.spec
+    Inv-loop
+    μ-loop
+    loop-holds
+    holds-requires
+    returns
+    add-i
+    loop-less
+    loop-again
+    returns-2)

@@ -1,0 +1,6 @@
+pub mod Corners
+pub mod Bounds
+pub mod Bins
+pub mod Locate
+pub mod Field
+pub mod Layout

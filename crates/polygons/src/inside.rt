@@ -1,0 +1,94 @@
+// Whether a point lies in a polygon, whose vertices stand as x and y from `at` on.
+use arith::Vec2;
+use arith::float;
+ghost use mathlib.Core.Path.{_≡_};
+ghost use Prim.Native.Nat.{_+_, _*_, _<_, _≤_};
+ghost use lib.ListN.{length};
+ghost use Rattle.arith.specs.Lists.{after};
+ghost use Rattle.arith.specs.Polygon as Polygon;
+ghost use Rattle.polygons.specs.Locate as Locate;
+ghost use Rattle.polygons.specs.Layout.{pairFrom, pairsFrom};
+
+// The point whose x and y stand at `at`.
+pub fn pair_at(floats: &[f64], at: usize) -> Vec2
+    requires { ⌜ at + 2 ≤ length (now floats) ⌝ }
+    ensures { λ r. ⌜ r ≡ pairFrom (now (floats .entry)) at ⌝ }
+{
+    Vec2 {
+        x: floats[at],
+        y: floats[at + 1],
+    }
+}
+
+// a lies from the lower to the higher of b and c, within 1e-12.
+fn between(a: f64, b: f64, c: f64) -> bool
+    ensures { λ r. ⌜ r ≡ Locate.between a b c ⌝ }
+{
+    if a >= float::min(b, c) - 1.0e-12 {
+        a <= float::max(b, c) + 1.0e-12
+    } else {
+        false
+    }
+}
+
+// q lies on the line from a to b, within 1e-12.
+fn on_line(q: Vec2, a: Vec2, b: Vec2) -> bool
+    ensures { λ r. ⌜ r ≡ Locate.onLine q (record { from = a; to = b }) ⌝ }
+{
+    float::abs((b.x - a.x) * (q.y - a.y) - (b.y - a.y) * (q.x - a.x)) <= 1.0e-12
+}
+
+// q lies on the side from a to b, within 1e-12.
+fn on_edge(q: Vec2, a: Vec2, b: Vec2) -> bool
+    ensures { λ r. ⌜ r ≡ Locate.onEdge q (record { from = a; to = b }) ⌝ }
+{
+    if on_line(q, a, b) {
+        if between(q.x, a.x, b.x) {
+            between(q.y, a.y, b.y)
+        } else {
+            false
+        }
+    } else {
+        false
+    }
+}
+
+// The line from q to the right crosses the side from a to b.
+fn crosses(q: Vec2, a: Vec2, b: Vec2) -> bool
+    ensures { λ r. ⌜ r ≡ Polygon.crosses q (record { from = a; to = b }) ⌝ }
+{
+    (a.y > q.y) != (b.y > q.y) && q.x < (b.x - a.x) * (q.y - a.y) / (b.y - a.y) + a.x
+}
+
+// The number after i, of n in a round.
+fn next_of(i: usize, n: usize) -> usize
+    requires { ⌜ i < n ⌝ }
+    ensures { λ r. ⌜ (r ≡ after n i) × (r < n) ⌝ }
+{
+    let j = i + 1;
+    if j == n { 0 } else { j }
+}
+
+// q lies on some side, or crosses an odd number of them.
+pub fn point_in_polygon(q: Vec2, floats: &[f64], at: usize, n: usize) -> bool
+    requires { ⌜ (at + 2 * n ≤ length (now floats)) × (n ≤ 24) ⌝ }
+    ensures { λ r. ⌜ r ≡ Locate.contains q (pairsFrom (now (floats .entry)) at n) ⌝ }
+{
+    if n < 3 {
+        return false;
+    }
+    let mut inside = false;
+    let mut i = 0;
+    while i < n {
+        let a = pair_at(floats, at + 2 * i);
+        let b = pair_at(floats, at + 2 * next_of(i, n));
+        if on_edge(q, a, b) {
+            return true;
+        }
+        if crosses(q, a, b) {
+            inside = !inside;
+        }
+        i += 1;
+    }
+    inside
+}

@@ -1,0 +1,6 @@
+pub mod Turns
+pub mod HeldLaws
+pub mod PlaneLaws
+pub mod MeshLaws
+pub mod AngleLaws
+pub mod PieceLaws
