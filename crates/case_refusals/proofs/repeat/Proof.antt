@@ -1,0 +1,57 @@
+-- `case_refusals::repeat` is safe and ends. The measure is what is left up to the end. Assumes nothing.
+use Prim.Native.Nat.{_≤_, _-_}
+use mathlib.Core.Path.{_≡_}
+use borrow.Author.Needs.{needs}
+use native.Mathlib.Omega.{arith}
+use lib.ListN.{length, length-set}
+use Rattle.case_refusals.proofs.repeat.Statement.{statement}
+use Rattle.case_refusals.proofs.repeat.Tie as tie
+
+abbrev Inv-loop : tie.InvT-loop
+Inv-loop case₀ n from end k₀ case k = (n ≤ k) × (length case ≡ length case₀)
+
+abbrev μ-loop : tie.MeasureT-loop
+μ-loop case₀ n from end k₀ case k = end - k
+
+loop-holds : tie.Need-loop-holds Inv-loop μ-loop
+loop-holds c = search needs
+
+sub-case : tie.Need-sub-case Inv-loop μ-loop
+sub-case c = omega arith
+
+slice-read-case : tie.Need-slice-read-case Inv-loop μ-loop
+slice-read-case c = omega arith
+
+slice-write-case : tie.Need-slice-write-case Inv-loop μ-loop
+slice-write-case c = omega arith
+
+add-k : tie.Need-add-k Inv-loop μ-loop
+add-k c = omega arith
+
+loop-less : tie.Need-loop-less Inv-loop μ-loop
+loop-less c = omega arith
+
+loop-again : tie.Need-loop-again Inv-loop μ-loop
+loop-again c = simp length-set (omega arith)
+
+same-length : tie.Need-same-length Inv-loop μ-loop
+same-length c = search needs
+
+returns : tie.Need-returns Inv-loop μ-loop
+returns c = search needs
+
+pub repeat-spec : {M : Type 1} → statement M
+repeat-spec =
+    tie.close
+    (tie.spec
+    Inv-loop
+    μ-loop
+    loop-holds
+    sub-case
+    slice-read-case
+    slice-write-case
+    add-k
+    loop-less
+    loop-again
+    same-length
+    returns)

@@ -1,0 +1,3 @@
+pub mod Cells
+pub mod Drafting
+pub mod Steps

@@ -1,0 +1,4 @@
+pub mod DraftLaws
+pub mod CellLaws
+pub mod Laws
+pub mod HeldLaws

@@ -1,0 +1,35 @@
+use Prim.Native.Nat.{_≤_, _-_}
+use mathlib.Core.Path.{_≡_}
+use lib.ListN.{length}
+use Rattle.casefile.specs.Trailer.{wordsIn}
+use Rattle.area.specs.Layout.{pointsIn}
+use Rattle.finish.specs.Steps.{Going}
+use Rattle.finish.proofs.Laws.{all-cells}
+use borrow.Author.Needs.{needs}
+use Rattle.finish.proofs.finish_cells.Statement.{statement}
+use Rattle.finish.proofs.finish_cells.Tie as tie
+
+abbrev Inv-loop : tie.InvT-loop
+Inv-loop case points dimension ws words floats₀ s c₀ i₀ floats c i =
+    (i ≤ s .cells) × (length floats ≡ length floats₀) × Going dimension (pointsIn case points) (wordsIn ws) s words floats₀ floats i (c .at)
+
+abbrev μ-loop : tie.MeasureT-loop
+μ-loop case points dimension ws words floats₀ s c₀ i₀ floats c i = s .cells - i
+
+pub finish-cells-spec : {M : Type 1} → statement M
+finish-cells-spec =
+    tie.close
+    (tie.spec
+    Inv-loop
+    μ-loop
+    (λ c. search (all-cells, needs))
+    (λ c κs. search (all-cells, needs))
+    (λ c. search needs)
+    (λ c. search needs)
+    (λ c. search needs)
+    (λ c. search (all-cells, needs))
+    (λ c. search needs)
+    (λ c. search needs)
+    (λ c. search (all-cells, needs))
+    (λ c. search needs)
+    (λ c. search (all-cells, needs)))

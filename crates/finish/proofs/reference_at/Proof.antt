@@ -1,0 +1,23 @@
+use Rattle.area.specs.Layout.{vecFrom}
+use borrow.Author.Needs.{needs}
+use Rattle.finish.proofs.reference_at.Statement.{statement}
+use Rattle.finish.proofs.reference_at.Tie as tie
+
+returns : tie.Need-returns
+unfolding vecFrom
+returns c = search needs
+
+pub reference-at-spec : {M : Type 1} → statement M
+reference-at-spec =
+    tie.close
+    (tie.spec
+    (λ c. search needs)
+    (λ c. search needs)
+    (λ c. search needs)
+    (λ c. search needs)
+    (λ c. search needs)
+    (λ c. search needs)
+    (λ c. search needs)
+    (λ c. search needs)
+    (λ c κs. search needs)
+    returns)
