@@ -1,0 +1,316 @@
+-- Laws of the parts of `from_cells`. Assumes nothing.
+use Prim.Native.Nat.{ℕ, zero, suc, _+_, _-_, _*_, _≤_, _<_}
+use native.Mathlib.Omega.{arith}
+use mathlib.Core.Path.{_≡_, refl, ap, ap₂, sym, _∙_, subst}
+use mathlib.Core.Bool.{Bool, true, false, not}
+use mathlib.Core.List.{List, [], _∷_, map}
+use lib.ListN.{length, getD, take, drop, length-drop}
+use lib.Seq.{getD-take, take-take}
+use lib.Ieee.{Float, nan}
+use lib.Dec.{eqb, ltb}
+use borrow.Author.Tests.{eq-eqb, ne-eqb, lt-ltb, le-ltb}
+use Rattle.arith.specs.Lists.{any, all, foldl}
+use Rattle.arith.specs.Records.{tab}
+use Rattle.arith.specs.declared.Vec3.{Vec3}
+use Rattle.arith.proofs.RecordLaws.{tab-same, same-below}
+use Rattle.reading.specs.Result.{Result, refused, fine, _>>=_, refuse, mapAll}
+use Rattle.casefile.specs.Faces.{Definition, faceCount, addFaceCount, facesCounted}
+use Rattle.casefile.specs.Definitions.{definition, definitions}
+use Rattle.casefile.specs.Trailer.{opened, openedCase, wordsOf}
+use Rattle.casefile.specs.Walker.{walked}
+use Rattle.casefile.specs.declared.Counts.{Counts}
+use Rattle.casefile.specs.declared.Opened.{Opened}
+use Rattle.casefile.specs.declared.Opened.the-variants as Opened
+use Rattle.casefile.specs.declared.Walked.{Walked}
+use Rattle.casefile.specs.declared.Walked.the-variants as Walked
+use Rattle.area.specs.declared.Sizes.{Sizes}
+use Rattle.area.specs.Tables.{Face, Cell, Mesh}
+use Rattle.area.specs.Layout.{wordsEnd, floatsEnd, meshWords, meshFloats, vecFrom, faceIn, facesIn, cellsIn, meshIn, LentWords, LentFloats, pointsIn}
+use Rattle.area.proofs.LayoutLaws.{mesh-same}
+use Rattle.measure.specs.Orientation.{misplaced}
+use Rattle.connection.specs.Neighbours.{linked, Linked}
+use Rattle.connection.specs.Connection.{connectedCells}
+use Rattle.connection.specs.Search.{Connected}
+use Rattle.mesh.specs.Mesh.{joined}
+use Rattle.mesh.specs.Case.{Surveyed-case, surveyOf, areaShort, meshOf, meshFrom, Surveying, surveyed, refusing, Building, built, barred}
+use Rattle.arith.specs.Bytes.{le32}
+use Rattle.arith.specs.F64.{finite, within}
+use Rattle.arith.specs.Vec.{each3}
+use Rattle.reading.proofs.ResultLaws.{bound}
+use Rattle.casefile.specs.Trailer.{wordsFrom}
+use Rattle.casefile.proofs.RecordLaws.{DefinitionRead, definition-read}
+use Rattle.casefile.proofs.ReadLaws.{length-readAll}
+use Rattle.casefile.proofs.TrailerLaws.{Opens, opens}
+use Rattle.connection.specs.Neighbours.{Laid}
+use Rattle.faces.specs.Chains.{sized}
+use Rattle.cells.specs.Cells.{Draft, Drafts, drafts}
+use Rattle.cells.specs.Drafting as cells
+use Rattle.cells.specs.Drafting.{draftIn, draftsIn, Lists, Held, Adding, added}
+use Rattle.cells.specs.declared.Drafted.{Drafted}
+use Rattle.cells.specs.declared.Drafted.the-variants as Drafted
+use Rattle.finish.specs.Finish.{finished, finishedAs}
+use Rattle.finish.specs.declared.Finished.{Finished}
+use Rattle.finish.specs.declared.Finished.the-variants as Finished
+use Rattle.mesh.specs.Mesh.{completed, filled, acceptable, fromCells}
+use Rattle.mesh.specs.Steps.{acceptedAs, draftsHeld}
+use Rattle.mesh.specs.declared.Surveyed.{Surveyed}
+use Rattle.mesh.specs.declared.Surveyed.the-variants as Surveyed
+use Rattle.mesh.specs.declared.Built.{Built}
+use Rattle.mesh.specs.declared.Built.the-variants as Built
+
+-- ---- 16 and 17
+
+module _ (ps : List Vec3) (fs : List Face) (cs : List Cell) where
+  pub join-16 : any (misplaced cs) fs ≡ true → joined ps fs cs ≡ refused 16
+  unfolding joined refuse _>>=_
+  join-16 e = rw (e, refuse, _>>=_)
+
+  pub join-17 : any (misplaced cs) fs ≡ false → connectedCells (linked fs cs) ≡ false → joined ps fs cs ≡ refused 17
+  unfolding joined refuse _>>=_
+  join-17 e g = rw (e, g, refuse, _>>=_)
+
+  pub join-fine : any (misplaced cs) fs ≡ false → connectedCells (linked fs cs) ≡ true → joined ps fs cs ≡ fine (record { points = ps; faces = fs; cells = linked fs cs })
+  unfolding joined refuse _>>=_
+  join-fine e g = rw (e, g, refuse, _>>=_)
+
+-- what neighbours and search leave
+module _ (ps : List Vec3) (s : Sizes) (w w′ w″ : List ℕ) (floats : List Float) (r : Bool) (l : Linked s w w′) (k : Connected s w′ w″ r) where
+  reached : r ≡ connectedCells (linked (facesIn s w floats) (cellsIn s w floats))
+  reached = k .result floats ∙ ap connectedCells (l .cells floats)
+
+  mesh-joined : meshIn ps s w″ floats ≡ record { points = ps; faces = facesIn s w floats; cells = linked (facesIn s w floats) (cellsIn s w floats) }
+  unfolding meshIn
+  mesh-joined = mesh-same ps s w′ w″ floats floats (k .kept) refl ∙ rw (l .faces floats, l .cells floats)
+
+  pub joined-17 : any (misplaced (cellsIn s w floats)) (facesIn s w floats) ≡ false → r ≡ false → Building (joined ps (facesIn s w floats) (cellsIn s w floats)) ps w″ floats (Built.Refused 17)
+  joined-17 e g = barred (join-17 ps (facesIn s w floats) (cellsIn s w floats) e (sym reached ∙ g))
+
+  pub joined-mesh : any (misplaced (cellsIn s w floats)) (facesIn s w floats) ≡ false → r ≡ true → LentWords s w → LentFloats s floats → length w″ ≡ length w → Building (joined ps (facesIn s w floats) (cellsIn s w floats)) ps w″ floats (Built.Mesh s)
+  joined-mesh e g lw lf n =
+      built (join-fine ps (facesIn s w floats) (cellsIn s w floats) e (sym reached ∙ g) ∙ ap fine (sym mesh-joined))
+      (record { few-slots = lw .few-slots; few-faces = lw .few-faces; few-cells = lw .few-cells; long = rw n (lw .long) }) lf
+
+-- ---- 1, 2 and 3
+
+module _ (file : List ℕ) where
+  pub survey-shut : (k : ℕ) → opened file ≡ Opened.Refused k → surveyOf file ≡ refused k
+  unfolding surveyOf openedCase _>>=_
+  survey-shut k e = rw (e, openedCase, _>>=_)
+
+  module _ (n : Counts) (o : opened file ≡ Opened.Case n) where
+    pub survey-wrong : (k : ℕ) → definitions (n .cells) (wordsOf file n) ≡ refused k → surveyOf file ≡ refused k
+    unfolding surveyOf openedCase _>>=_
+    survey-wrong k e = rw (o, openedCase, _>>=_) (rw (e, _>>=_))
+
+    pub survey-right : (ds : List Definition) → definitions (n .cells) (wordsOf file n) ≡ fine ds → surveyOf file ≡ fine (record { counts = n; definitions = ds })
+    unfolding surveyOf openedCase _>>=_
+    survey-right ds e = rw (o, openedCase, _>>=_) (rw (e, _>>=_))
+
+pub walked-wrong : (r : Result (List Definition)) (k : ℕ) → Walked.Refused k ≡ walked r → r ≡ refused k
+unfolding walked
+walked-wrong (refused n) k e = let g : n ≡ k = cc in ap refused g
+walked-wrong (fine ds) k e = absurd (let z : _≡_ {A = ℕ} 0 1 = cc in omega arith)
+
+-- what `survey` answers
+pub record Surveys (file : List ℕ) (n : Counts) (f : ℕ) : Type 0 where
+  pub ds : List Definition
+  pub opens : opened file ≡ Opened.Case n
+  pub right : definitions (n .cells) (wordsOf file n) ≡ fine ds
+  pub count : f ≡ facesCounted ds
+
+pub survey-refused : {file : List ℕ} {r : Surveyed} (k : ℕ) → Surveying file r → r ≡ Surveyed.Refused k → surveyOf file ≡ refused k
+survey-refused k (refusing {k = j} e) g = let h : j ≡ k = cc in e ∙ ap refused h
+survey-refused k (surveyed o d f) g = absurd (let z : _≡_ {A = ℕ} 0 1 = cc in omega arith)
+
+pub survey-case : {file : List ℕ} {r : Surveyed} (n : Counts) (f : ℕ) → Surveying file r → r ≡ Surveyed.Case n f → Surveys file n f
+survey-case n f (refusing e) g = absurd (let z : _≡_ {A = ℕ} 0 1 = cc in omega arith)
+survey-case {file} n f (surveyed {n = m} {ds = ds} {f = h} o d e) g =
+    let p : m ≡ n = cc in
+    let q : h ≡ f = cc in
+    record {
+      ds = ds;
+      opens = o ∙ ap Opened.Case p;
+      right = subst (λ (x : Counts). definitions (x .cells) (wordsOf file x) ≡ fine ds) p d;
+      count = sym q ∙ e;
+    }
+
+-- ---- every face takes a word
+
+counted-few : (n : ℕ) (ws : List ℕ) (ds : List Definition) (k : ℕ) → definitions n ws ≡ fine ds → foldl addFaceCount k ds ≤ k + length ws
+unfolding definitions foldl addFaceCount
+counted-few zero [] ds k e = let w : [] ≡ ds = cc in rw (← w) (omega arith)
+counted-few zero (x ∷ ws) ds k e = absurd (let z : _≡_ {A = ℕ} 0 1 = cc in omega arith)
+counted-few (suc n) ws ds k e =
+    let b1 = bound _ _ _ e in
+    let b2 = bound _ _ _ (b1 .then) in
+    let w : b1 .value .read ∷ b2 .value ≡ ds = cc (b2 .then) in
+    let r = definition-read ws 0 (b1 .value) (b1 .had) in
+    let l : length (b1 .value .left) ≡ length ws - r .end = ap length (r .left) ∙ length-drop (r .end) ws in
+    let rest = counted-few n (b1 .value .left) (b2 .value) (k + faceCount (b1 .value .read)) (b2 .had) in
+    rw (← w) (omega (arith, r .past, r .within))
+
+pub length-wordsOf : (file : List ℕ) (n : Counts) → length (wordsOf file n) ≡ n .words
+unfolding wordsOf
+length-wordsOf file n = length-readAll (le32 file) 4 (n .words) (wordsFrom n)
+
+pub faces-few : (file : List ℕ) (n : Counts) (ds : List Definition) → opened file ≡ Opened.Case n → definitions (n .cells) (wordsOf file n) ≡ fine ds → facesCounted ds ≤ 1048576
+unfolding facesCounted
+faces-few file n ds o e =
+    let few = opens file n o .words in
+    let c = counted-few (n .cells) (wordsOf file n) ds 0 e in
+    omega (arith, length-wordsOf file n)
+
+-- ---- 8, 9 and 10
+
+module _ (ps : List Vec3) (defs : List Definition) where
+  pub accept-8 : length defs ≡ 0 → acceptedAs 8 ≡ acceptable ps defs
+  unfolding acceptedAs acceptable refuse _>>=_
+  accept-8 e = rw (eq-eqb (length defs) 0 e, refuse, _>>=_)
+
+  module _ (some : length defs ≡ 0 → ⊥) where
+    pub accept-9 : all (each3 finite) ps ≡ false → acceptedAs 9 ≡ acceptable ps defs
+    unfolding acceptedAs acceptable refuse _>>=_
+    accept-9 e = rw (ne-eqb (length defs) 0 some, e, refuse, _>>=_)
+
+    module _ (fin : all (each3 finite) ps ≡ true) where
+      pub accept-10 : all (each3 within) ps ≡ false → acceptedAs 10 ≡ acceptable ps defs
+      unfolding acceptedAs acceptable refuse _>>=_
+      accept-10 e = rw (ne-eqb (length defs) 0 some, fin, e, refuse, _>>=_)
+
+      pub accept-all : all (each3 within) ps ≡ true → acceptedAs 0 ≡ acceptable ps defs
+      unfolding acceptedAs acceptable refuse _>>=_
+      accept-all e = rw (ne-eqb (length defs) 0 some, fin, e, refuse, _>>=_)
+
+  pub from-refused : (d k : ℕ) → acceptedAs k ≡ acceptable ps defs → (k ≡ 0 → ⊥) → fromCells d ps defs ≡ refused k
+  unfolding fromCells acceptedAs _>>=_
+  from-refused d zero e n = absurd (n refl)
+  from-refused d (suc k) e n = rw (← e, _>>=_)
+
+  pub from-filled : (d k : ℕ) → acceptedAs k ≡ acceptable ps defs → k ≡ 0 → fromCells d ps defs ≡ filled d ps defs
+  unfolding fromCells acceptedAs _>>=_
+  from-filled d zero e n = rw (← e, _>>=_)
+  from-filled d (suc k) e n = absurd (omega arith)
+
+  -- ---- 11 to 15
+
+  pub filled-refused : (d k : ℕ) → drafts d ps defs ≡ refused k → filled d ps defs ≡ refused k
+  unfolding filled _>>=_
+  filled-refused d k e = rw (e, _>>=_)
+
+  pub filled-fine : (d : ℕ) (t : Drafts) → drafts d ps defs ≡ fine t → completed d ps t ≡ filled d ps defs
+  unfolding filled _>>=_
+  filled-fine d t e = rw (e, _>>=_)
+
+pub completed-15 : (d : ℕ) (ps : List Vec3) (t : Drafts) → mapAll (finished d ps) (t .cells) ≡ refused 15 → completed d ps t ≡ refused 15
+unfolding completed _>>=_
+completed-15 d ps t e = rw (e, _>>=_)
+
+pub completed-fine : (d : ℕ) (ps : List Vec3) (t : Drafts) (cs : List Cell) → mapAll (finished d ps) (t .cells) ≡ fine cs → joined ps (t .faces) cs ≡ completed d ps t
+unfolding completed _>>=_
+completed-fine d ps t cs e = rw (e, _>>=_)
+
+-- what `add_cells` answers
+pub record Drafted-mesh (d : ℕ) (ps : List Vec3) (ws : List ℕ) (defs : List Definition) (s : Sizes) (words : List ℕ) (floats : List Float) (n : ℕ) : Type 0 where
+  pub t : Drafts
+  pub drafted : drafts d ps defs ≡ fine t
+  pub held : Held ws s words floats n t
+
+module _ {d : ℕ} {ps : List Vec3} {ws : List ℕ} {defs : List Definition} {s : Sizes} {words : List ℕ} {floats : List Float} where
+  pub adding-refused : {r : Drafted} (k : ℕ) → Adding d ps ws defs s words floats r → r ≡ Drafted.Refused k → drafts d ps defs ≡ refused k
+  adding-refused k (cells.refusing {k = j} e) g = let h : j ≡ k = cc in e ∙ ap refused h
+  adding-refused k (added e h) g = absurd (let z : _≡_ {A = ℕ} 0 1 = cc in omega arith)
+
+  pub adding-faces : {r : Drafted} (n : ℕ) → Adding d ps ws defs s words floats r → r ≡ Drafted.Faces n → Drafted-mesh d ps ws defs s words floats n
+  adding-faces n (cells.refusing e) g = absurd (let z : _≡_ {A = ℕ} 0 1 = cc in omega arith)
+  adding-faces n (added {n = m} {t = t} e h) g = let p : m ≡ n = cc in record { t = t; drafted = e; held = subst (λ (x : ℕ). Held ws s words floats x t) p h }
+
+-- the drafts that the area holds are those
+pub held-is : (ws : List ℕ) (s : Sizes) (words : List ℕ) (floats : List Float) (n : ℕ) (t : Drafts) → Held ws s words floats n t → draftsHeld ws (sized s n) words floats ≡ t
+unfolding draftsHeld draftsIn draftIn
+held-is ws s words floats n t h = ap₂ (λ (f : List Face) (c : List Draft). record { faces = f; cells = c }) (h .table) (h .cells)
+
+-- the lists of the cells follow each other
+pub laid-out : (ws : List ℕ) (s : Sizes) (words : List ℕ) → Lists ws s words (s .cells) (s .slots) → ((f : ℕ) → f < s .faces → getD words (12 * f + 0) 0 ≤ 8) → Laid s words
+laid-out ws s words l c =
+    record {
+      corners = c;
+      next = λ i h. let e = l .next i h in omega arith;
+      last = λ i h. let e = l .last i h in omega arith;
+    }
+
+-- the number of faces in the sizes does not matter to the drafts
+pub held-sized : (ws : List ℕ) (s : Sizes) (words : List ℕ) (floats : List Float) (n : ℕ) (t : Drafts) → Held ws s words floats n t → Held ws (sized s n) words floats n t
+unfolding draftsIn draftIn
+held-sized ws s words floats n t h =
+    record {
+      table = h .table;
+      few = h .few;
+      corners = h .corners;
+      cells = h .cells;
+      lists =
+          record {
+            first = h .lists .first;
+            next = h .lists .next;
+            last = h .lists .last;
+            none = h .lists .none;
+            few = h .lists .few;
+            counts = h .lists .counts;
+            lonely = h .lists .lonely;
+          };
+    }
+
+-- an area that is as long as before is lent for n faces
+pub lent-words : (s : Sizes) (n : ℕ) (w w′ : List ℕ) → LentWords s w → length w′ ≡ length w → n ≤ s .slots → LentWords (sized s n) w′
+lent-words s n w w′ l e h = record { few-slots = l .few-slots; few-faces = h; few-cells = l .few-cells; long = rw e (l .long) }
+
+pub lent-floats : (s : Sizes) (n : ℕ) (f f′ : List Float) → LentFloats s f → length f′ ≡ length f → n ≤ s .slots → LentFloats (sized s n) f′
+lent-floats s n f f′ l e h = record { few-slots = l .few-slots; few-faces = h; few-cells = l .few-cells; long = rw e (l .long) }
+
+-- ---- 4
+
+module _ (file : List ℕ) (n : Counts) (ds : List Definition) (o : opened file ≡ Opened.Case n) (r : definitions (n .cells) (wordsOf file n) ≡ fine ds) (words floats : ℕ) where
+  there : surveyOf file ≡ fine (record { counts = n; definitions = ds })
+  there = survey-right file n o ds r
+
+  pub short-words : words < 16 * facesCounted ds + 96 * n .cells → meshFrom file words floats ≡ refused 4
+  unfolding meshFrom areaShort refuse _>>=_
+  short-words h = rw (there, _>>=_) (rw (lt-ltb words (16 * facesCounted ds + 96 * n .cells) h, refuse, _>>=_))
+
+  pub short-floats : 16 * facesCounted ds + 96 * n .cells ≤ words → floats < 12 * facesCounted ds + 64 * n .cells → meshFrom file words floats ≡ refused 4
+  unfolding meshFrom areaShort refuse _>>=_
+  short-floats g h =
+      rw (there, _>>=_) (rw (le-ltb words (16 * facesCounted ds + 96 * n .cells) g, lt-ltb floats (12 * facesCounted ds + 64 * n .cells) h, refuse, _>>=_))
+
+  pub long-enough : 16 * facesCounted ds + 96 * n .cells ≤ words → 12 * facesCounted ds + 64 * n .cells ≤ floats → meshFrom file words floats ≡ fromCells (n .dimension) (pointsIn file (n .points)) ds
+  unfolding meshFrom meshOf areaShort refuse _>>=_
+  long-enough g h =
+      rw (there, _>>=_) (rw (le-ltb words (16 * facesCounted ds + 96 * n .cells) g, le-ltb floats (12 * facesCounted ds + 64 * n .cells) h, refuse, _>>=_))
+
+pub mesh-shut : (file : List ℕ) (words floats k : ℕ) → surveyOf file ≡ refused k → meshFrom file words floats ≡ refused k
+unfolding meshFrom _>>=_
+mesh-shut file words floats k e = rw (e, _>>=_)
+
+-- ---- what `finish_cells` answers
+
+pub finish-zero : (m : Result (List Cell)) (r : Finished) (cs : List Cell) → m ≡ finishedAs r cs → r ≡ Finished.ZeroVolume → m ≡ refused 15
+unfolding finishedAs
+finish-zero m r cs e g = e ∙ ap (λ (r : Finished). finishedAs r cs) g
+
+pub finish-done : (m : Result (List Cell)) (r : Finished) (cs : List Cell) → m ≡ finishedAs r cs → r ≡ Finished.Done → m ≡ fine cs
+unfolding finishedAs
+finish-done m r cs e g = e ∙ ap (λ (r : Finished). finishedAs r cs) g
+
+module _ (d : ℕ) (ps : List Vec3) (ws : List ℕ) (s : Sizes) (words : List ℕ) (floats : List Float) where
+  pub complete-15 : (w : List ℕ) (f : List Float) → mapAll (finished d ps) (draftsIn ws s words floats (s .cells)) ≡ refused 15 → Building (completed d ps (draftsHeld ws s words floats)) ps w f (Built.Refused 15)
+  unfolding draftsHeld
+  complete-15 w f e = barred (completed-15 d ps (draftsHeld ws s words floats) e)
+
+  pub complete-done : (fs : List Face) (cs : List Cell) (w : List ℕ) (f : List Float) (r : Built) → fs ≡ facesIn s words floats
+      → mapAll (finished d ps) (draftsIn ws s words floats (s .cells)) ≡ fine cs → Building (joined ps fs cs) ps w f r → Building (completed d ps (draftsHeld ws s words floats)) ps w f r
+  unfolding draftsHeld
+  complete-done fs cs w f r e g b =
+      subst (λ (m : Result Mesh). Building m ps w f r) (ap (λ (x : List Face). joined ps x cs) e ∙ completed-fine d ps (draftsHeld ws s words floats) cs g) b
+
+-- the mesh of a definition is that of another
+pub built-as : {m m′ : Result Mesh} {ps : List Vec3} {w : List ℕ} {f : List Float} {r : Built} → m ≡ m′ → Building m ps w f r → Building m′ ps w f r
+built-as {ps} {w} {f} {r} e b = subst (λ (m : Result Mesh). Building m ps w f r) e b

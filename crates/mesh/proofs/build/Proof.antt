@@ -1,0 +1,56 @@
+use mathlib.Core.Path.{_≡_, refl, sym, ap, _∙_, subst}
+use lib.ListN.{length}
+use native.Mathlib.Omega.{arith}
+use Rattle.casefile.specs.Trailer.{wordsFrom, wordsOf}
+use Rattle.casefile.proofs.TrailerLaws.{Opens, opens}
+use Rattle.casefile.proofs.Walking.{length-definitions}
+use Rattle.mesh.specs.Case.{barred}
+use Rattle.mesh.proofs.Laws.{from-refused, from-filled, faces-few, length-wordsOf, built-as}
+use borrow.Author.Needs.{needs}
+use Rattle.mesh.proofs.build.Statement.{statement}
+use Rattle.mesh.proofs.build.Tie as tie
+
+unacceptable-requires : tie.Need-unacceptable-requires
+unacceptable-requires c κs = let o = opens _ _ (c .before .before .before .pre .opens) in record { few = o .points; long = omega arith }
+
+returns : tie.Need-returns
+returns c = λ defs e. barred (from-refused _ defs _ _ (c .before .unacceptable .ensures defs (length-definitions _ _ _ e)) (c .if1 .taken))
+
+words-requires : tie.Need-words-requires
+unfolding wordsFrom
+words-requires c κs = let o = opens _ _ (c .before .before .before .before .before .pre .opens) in omega arith
+
+fill-requires : tie.Need-fill-requires
+fill-requires c κs =
+    let p = c .before .before .before .before .before .before .before .before .pre in
+    let o = opens _ _ (p .opens) in
+    let few = rw (← p .counted) at (faces-few _ _ _ (p .opens) (p .right)) in
+    let ws = c .before .before .words .ensures in
+    record {
+      lent-words = record { few-slots = few; few-faces = search needs; few-cells = o .cells; long = p .long-words };
+      lent-floats = record { few-slots = few; few-faces = search needs; few-cells = o .cells; long = p .long-floats };
+      empty = refl;
+      points-few = o .points;
+      points-there = omega arith;
+      words-few = rw ws (omega (arith, length-wordsOf (c .before .before .before .before .before .before .before .before .args .case .now) (c .before .before .before .before .before .before .before .before .args .n)));
+      defs = p .defs;
+      right = rw ws (p .right);
+      slots = p .counted;
+    }
+
+returns-2 : tie.Need-returns-2
+returns-2 c = λ defs e.
+    built-as (sym (from-filled _ defs _ _ (c .before .before .before .before .before .before .before .before .before .unacceptable .ensures defs (length-definitions _ _ _ e)) (c .before .before .before .before .before .before .before .before .if1 .left)))
+    (c .before .before .before .before .fill .ensures defs (rw (c .before .before .before .before .before .before .before .words .ensures) e))
+
+pub build-spec : {M : Type 1} → statement M
+build-spec =
+    tie.close
+    (tie.spec
+    unacceptable-requires
+    returns
+    words-requires
+    fill-requires
+    (λ c. search needs)
+    (λ c. search needs)
+    returns-2)

@@ -1,0 +1,61 @@
+-- What a case says outside its fields: its counts and its cells' definitions, and the mesh of them.
+use Prim.Native.Nat.{ℕ, _+_, _*_, _≤_}
+use mathlib.Core.Path.{_≡_}
+use mathlib.Core.Bool.{Bool, _||_}
+use mathlib.Core.List.{List}
+use lib.Dec.{ltb}
+use lib.ListN.{length}
+use lib.Ieee.{Float}
+use Rattle.arith.specs.declared.Vec3.{Vec3}
+use Rattle.reading.specs.Result.{Result, refused, fine, _>>=_, refuse}
+use Rattle.casefile.specs.Faces.{Definition, facesCounted}
+use Rattle.casefile.specs.Definitions.{definitions}
+use Rattle.casefile.specs.Trailer.{opened, openedCase, wordsOf}
+use Rattle.casefile.specs.declared.Counts.{Counts}
+use Rattle.casefile.specs.declared.Opened.the-variants.{Case}
+use Rattle.area.specs.Tables.{Mesh}
+use Rattle.area.specs.Layout.{pointsIn, meshIn, LentWords, LentFloats}
+use Rattle.area.specs.declared.Sizes.{Sizes}
+use Rattle.mesh.specs.Mesh.{fromCells}
+use Rattle.mesh.specs.declared.Surveyed.{Surveyed}
+use Rattle.mesh.specs.declared.Surveyed.the-variants as Surveyed
+use Rattle.mesh.specs.declared.Built.{Built}
+use Rattle.mesh.specs.declared.Built.the-variants as Built
+
+-- the counts and the definitions of a case
+pub record Surveyed-case : Type 0 where
+  pub counts : Counts
+  pub definitions : List Definition
+
+-- refusals 1, 2 and 3
+unfoldable pub surveyOf : List ℕ → Result Surveyed-case
+surveyOf file =
+    openedCase (opened file) >>= λ n.
+    definitions (n .cells) (wordsOf file n) >>= λ ds.
+    fine (record { counts = n; definitions = ds })
+
+-- refusal 4: "work area under 16F+96C words or 12F+64C floats"
+unfoldable pub areaShort : Surveyed-case → ℕ → ℕ → Bool
+areaShort c words floats =
+    let f = facesCounted (c .definitions) in
+    ltb words (16 * f + 96 * c .counts .cells) || ltb floats (12 * f + 64 * c .counts .cells)
+
+-- refusals 8 to 17, or the mesh
+unfoldable pub meshOf : List ℕ → Surveyed-case → Result Mesh
+meshOf file c = fromCells (c .counts .dimension) (pointsIn file (c .counts .points)) (c .definitions)
+
+-- a case alone: refusals 1 to 4, then 8 to 17
+unfoldable pub meshFrom : List ℕ → ℕ → ℕ → Result Mesh
+meshFrom file words floats = surveyOf file >>= λ c. refuse 4 (areaShort c words floats) >>= λ _. meshOf file c
+
+-- ---- what the answers stand for
+
+-- a case with its counts and the number of faces of all its definitions, or the refusal
+pub data Surveying (file : List ℕ) : Surveyed → Type 0 where
+  surveyed : {n : Counts} {ds : List Definition} {f : ℕ} → opened file ≡ Case n → definitions (n .cells) (wordsOf file n) ≡ fine ds → f ≡ facesCounted ds → Surveying file (Surveyed.Case n f)
+  refusing : {k : ℕ} → surveyOf file ≡ refused k → Surveying file (Surveyed.Refused k)
+
+-- the mesh stands in the area, or the refusal
+pub data Building (m : Result Mesh) (ps : List Vec3) (words : List ℕ) (floats : List Float) : Built → Type 0 where
+  built : {s : Sizes} → m ≡ fine (meshIn ps s words floats) → LentWords s words → LentFloats s floats → Building m ps words floats (Built.Mesh s)
+  barred : {k : ℕ} → m ≡ refused k → Building m ps words floats (Built.Refused k)

@@ -1,0 +1,44 @@
+-- `UnstructuredMesh::from_cells`, with refusals 8 to 17 in 01's order.
+use Prim.Native.Nat.{ℕ}
+use mathlib.Core.Bool.{Bool, not}
+use mathlib.Core.List.{List}
+use lib.Dec.{eqb}
+use lib.ListN.{length}
+use Rattle.arith.specs.F64.{finite, within}
+use Rattle.arith.specs.Lists.{any, all}
+use Rattle.arith.specs.Vec.{each3}
+use Rattle.arith.specs.declared.Vec3.{Vec3}
+use Rattle.reading.specs.Result.{Result, fine, _>>=_, refuse, mapAll}
+use Rattle.casefile.specs.Faces.{Definition}
+use Rattle.area.specs.Tables.{Face, Cell, Mesh}
+use Rattle.measure.specs.Orientation.{misplaced}
+use Rattle.connection.specs.Neighbours.{linked}
+use Rattle.connection.specs.Connection.{connectedCells}
+use Rattle.cells.specs.Cells.{Drafts, drafts}
+use Rattle.finish.specs.Finish.{finished}
+
+-- 16 "orientation"; the neighbours of each cell "in face order"; 17 "not connected"
+unfoldable pub joined : List Vec3 → List Face → List Cell → Result Mesh
+joined ps fs cs =
+    refuse 16 (any (misplaced cs) fs) >>= λ _.
+    refuse 17 (not (connectedCells (linked fs cs))) >>= λ _.
+    fine (record { points = ps; faces = fs; cells = linked fs cs })
+
+-- 8 "no cells"; 9 "a coordinate not finite"; 10 "one beyond 1,048,576 in size (added)"
+unfoldable pub acceptable : List Vec3 → List Definition → Result (Unit {0})
+acceptable ps defs =
+    refuse 8 (eqb (length defs) 0) >>= λ _.
+    refuse 9 (not (all (each3 finite) ps)) >>= λ _.
+    refuse 10 (not (all (each3 within) ps))
+
+-- 15 for all cells, 16 for all faces, 17
+unfoldable pub completed : ℕ → List Vec3 → Drafts → Result Mesh
+completed d ps t = mapAll (finished d ps) (t .cells) >>= λ cs. joined ps (t .faces) cs
+
+-- before them 11 to 14, cell by cell
+unfoldable pub filled : ℕ → List Vec3 → List Definition → Result Mesh
+filled d ps defs = drafts d ps defs >>= λ t. completed d ps t
+
+-- and 8, 9 and 10 first
+unfoldable pub fromCells : ℕ → List Vec3 → List Definition → Result Mesh
+fromCells d ps defs = acceptable ps defs >>= λ _. filled d ps defs

@@ -1,0 +1,166 @@
+// UnstructuredMesh::from_cells: the mesh of a case, into the lent work area.
+use area::Sizes;
+use casefile::Counts;
+use casefile::Opened;
+use casefile::Walked;
+use casefile::trailer;
+use casefile::walker;
+use cells::Drafted;
+use finish::Finished;
+ghost use mathlib.Core.Path.{_≡_};
+ghost use Prim.Native.Nat.{_+_, _*_, _≤_, _<_};
+ghost use lib.ListN.{length};
+ghost use Rattle.area.specs.Layout.{pointsIn};
+ghost use Rattle.casefile.specs.Trailer.{wordsIn};
+ghost use mathlib.Core.List.{List};
+ghost use Rattle.arith.specs.declared.Vec3.{Vec3};
+ghost use Rattle.area.specs.Layout.{facesIn, cellsIn};
+ghost use Rattle.reading.specs.Result.{fine};
+ghost use Rattle.casefile.specs.Faces.{Definition};
+ghost use Rattle.casefile.specs.Definitions.{definitions};
+ghost use Rattle.casefile.specs.Trailer.{countsOf, wordsOf};
+ghost use Rattle.measure.specs.Records.{Points};
+ghost use Rattle.cells.specs.Steps.{Addable};
+ghost use Rattle.mesh.specs.Mesh.{joined, completed, filled, acceptable, fromCells};
+ghost use Rattle.mesh.specs.Case.{Surveying, Building, meshFrom};
+ghost use Rattle.mesh.specs.Steps.{Joinable, Completable, Buildable, draftsHeld, acceptedAs};
+
+// The counts of a case and the number of faces of all its definitions, or refusal 1, 2 or 3.
+pub enum Surveyed {
+    Case(Counts, usize),
+    Refused(u64),
+}
+
+// The mesh in the area, or the refusal.
+pub enum Built {
+    Mesh(Sizes),
+    Refused(u64),
+}
+
+// Opens a case and walks its definitions.
+pub fn survey(case: &[u8]) -> Surveyed
+    ensures { λ r. ⌜ Surveying (now (case .entry)) r ⌝ }
+{
+    match trailer::open(case) {
+        Opened::Refused(k) => Surveyed::Refused(k),
+        Opened::Case(n) => match walker::walk(walker::words(case, n), n.cells) {
+            Walked::Refused(k) => Surveyed::Refused(k),
+            Walked::Faces(f) => Surveyed::Case(n, f),
+        },
+    }
+}
+
+// 16, then the neighbours of each cell, then 17.
+fn join(words: &mut [u32], floats: &[f64], s: Sizes) -> Built
+    requires { ⌜ Joinable s (now words) (now floats) ⌝ }
+    ensures { λ r. ⌜ ((ps : List Vec3) → Building (joined ps (facesIn s (now (words .entry)) (now (floats .entry))) (cellsIn s (now (words .entry)) (now (floats .entry)))) ps (now (words .exit)) (now (floats .entry)) r) ⌝ }
+{
+    if measure::any_misplaced(words, floats, s) {
+        return Built::Refused(16);
+    }
+    connection::fill_neighbours(words, s);
+    if connection::ensure_connected(words, s) {
+        Built::Mesh(s)
+    } else {
+        Built::Refused(17)
+    }
+}
+
+// The drafts in the area with their centres (15), then 16 and 17.
+fn complete(
+    case: &[u8],
+    n: Counts,
+    ws: &[u8],
+    words: &mut [u32],
+    floats: &mut [f64],
+    s: Sizes,
+) -> Built
+    requires { ⌜ Completable (now case) (n .points) (wordsIn (now ws)) (now words) (now floats) s ⌝ }
+    ensures { λ r. ⌜ Building (completed (n .dimension) (pointsIn (now (case .entry)) (n .points)) (draftsHeld (wordsIn (now (ws .entry))) s (now (words .entry)) (now (floats .entry)))) (pointsIn (now (case .entry)) (n .points)) (now (words .exit)) (now (floats .exit)) r ⌝ }
+{
+    match finish::finish_cells(case, n.points, n.dimension, ws, words, floats, s) {
+        Finished::ZeroVolume => Built::Refused(15),
+        Finished::Done => join(words, floats, s),
+    }
+}
+
+// 11 to 17.
+fn fill(case: &[u8], n: Counts, ws: &[u8], words: &mut [u32], floats: &mut [f64], s: Sizes) -> Built
+    requires { ⌜ Addable (now case) (n .points) (wordsIn (now ws)) (now words) (now floats) s ⌝ }
+    ensures { λ r. ⌜ ((defs : List Definition) → definitions (s .cells) (wordsIn (now (ws .entry))) ≡ fine defs → Building (filled (n .dimension) (pointsIn (now (case .entry)) (n .points)) defs) (pointsIn (now (case .entry)) (n .points)) (now (words .exit)) (now (floats .exit)) r) ⌝ }
+{
+    match cells::add_cells(case, n.points, n.dimension, ws, words, floats, s) {
+        Drafted::Refused(k) => Built::Refused(k),
+        Drafted::Faces(faces) => complete(
+            case,
+            n,
+            ws,
+            words,
+            floats,
+            Sizes {
+                slots: s.slots,
+                faces,
+                cells: s.cells,
+            },
+        ),
+    }
+}
+
+// Refusal 8, 9 or 10, or 0.
+fn unacceptable(case: &[u8], n: Counts) -> u64
+    requires { ⌜ Points (now case) (n .points) ⌝ }
+    ensures { λ r. ⌜ ((defs : List Definition) → length defs ≡ n .cells → acceptedAs r ≡ acceptable (pointsIn (now (case .entry)) (n .points)) defs) ⌝ }
+{
+    if n.cells == 0 {
+        return 8;
+    }
+    if !measure::all_finite(case, n.points) {
+        return 9;
+    }
+    if !measure::all_within(case, n.points) {
+        return 10;
+    }
+    0
+}
+
+// The mesh of a case that was surveyed, into an area that is long enough: refusals 8 to 17.
+pub fn build(case: &[u8], n: Counts, faces: usize, words: &mut [u32], floats: &mut [f64]) -> Built
+    requires { ⌜ Buildable (now case) n faces (now words) (now floats) ⌝ }
+    ensures { λ r. ⌜ ((defs : List Definition) → definitions (n .cells) (wordsOf (now (case .entry)) n) ≡ fine defs → Building (fromCells (n .dimension) (pointsIn (now (case .entry)) (n .points)) defs) (pointsIn (now (case .entry)) (n .points)) (now (words .exit)) (now (floats .exit)) r) ⌝ }
+{
+    let k = unacceptable(case, n);
+    if k != 0 {
+        return Built::Refused(k);
+    }
+    let ws = walker::words(case, n);
+    fill(
+        case,
+        n,
+        ws,
+        words,
+        floats,
+        Sizes {
+            slots: faces,
+            faces: 0,
+            cells: n.cells,
+        },
+    )
+}
+
+// The mesh of a case: refusals 1 to 4, and 8 to 17.
+pub fn from_cells(case: &[u8], words: &mut [u32], floats: &mut [f64]) -> Built
+    ensures { λ r. ⌜ Building (meshFrom (now (case .entry)) (length (now (words .entry))) (length (now (floats .entry)))) (pointsIn (now (case .entry)) (countsOf (now (case .entry)) .points)) (now (words .exit)) (now (floats .exit)) r ⌝ }
+{
+    match survey(case) {
+        Surveyed::Refused(k) => Built::Refused(k),
+        Surveyed::Case(n, faces) => {
+            if words.len() < 16 * faces + 96 * n.cells {
+                return Built::Refused(4);
+            }
+            if floats.len() < 12 * faces + 64 * n.cells {
+                return Built::Refused(4);
+            }
+            build(case, n, faces, words, floats)
+        }
+    }
+}
