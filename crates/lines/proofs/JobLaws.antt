@@ -1,0 +1,168 @@
+-- From a line to the answer of a job: the refusals 34 and 35, the seeds of a rake and its lines. Assumes nothing.
+use Prim.Native.Nat.{ℕ, zero, suc, _+_, _-_, _*_, _≤_, _<_}
+use native.Mathlib.Omega.{arith}
+use native.Mathlib.Numerals.{add-one}
+use mathlib.Core.Path.{_≡_, refl, ap, sym, _∙_, fun-ext}
+use mathlib.Core.Bool.{Bool, true, false, not}
+use mathlib.Core.List.{List, [], _∷_, _++_, append-assoc, append-nil}
+use lib.ListN.{length, set, getD, drop, length-append}
+use lib.Seq.{sets}
+use lib.Ieee.{Float}
+use Rattle.arith.specs.Lists.{any}
+use Rattle.arith.proofs.RecordLaws.{length-tab, getD-tab, drop-tab, drop-end}
+use Rattle.arith.proofs.ListLaws.{any-here, any-next}
+use Rattle.arith.specs.declared.Vec3.{Vec3}
+use Rattle.arith.specs.declared.Found.{Found}
+use Rattle.arith.specs.declared.Found.the-variants.{At, Nothing}
+use Rattle.reading.specs.declared.Values.{Values}
+use Rattle.reading.specs.Asks.{Asks, give, run, reads, _>>=_}
+use Rattle.reading.specs.Marks.{markAll}
+use Rattle.reading.specs.Served.{Served, Going}
+use Rattle.reading.proofs.AsksLaws.{bind-assoc, bind-give, run-bind, reads-bind}
+use Rattle.reading.proofs.ServedLaws.{going-start, going-part, going-end}
+use Rattle.reading.specs.Result as result
+use Rattle.reading.specs.Result.{Result, fine, refused, refuse}
+use Rattle.area.specs.declared.Sizes.{Sizes}
+use Rattle.polygons.specs.declared.Grid.{Grid}
+use Rattle.polygons.specs.Locate.{locate}
+use Rattle.polygons.specs.Field.{StreamlineField}
+use Rattle.polygons.specs.Layout.{cellPolygonsIn, fieldIn}
+use Rattle.lines.specs.declared.Traced.{Traced}
+use Rattle.lines.specs.declared.Traced.the-variants.{Words, Refused}
+use Rattle.lines.specs.declared.StreamlineDirection.{StreamlineDirection}
+use Rattle.lines.specs.declared.StreamlineOptions.{StreamlineOptions}
+use Rattle.lines.specs.Line.{areGood, isNowhere, nowhere, lineAnswer, integrate}
+use Rattle.lines.specs.Rake.{seedAt, seeds, linesWords}
+use Rattle.lines.specs.Ready.{Written}
+use Rattle.lines.specs.Answered.{Answered, tracedOf, readsOf, wordsOf}
+use Rattle.lines.proofs.VelocityLaws.{locate-in}
+use Rattle.lines.proofs.LineLaws.{give-then, sets-append, sets-set}
+
+-- ---- a point that locates, or not
+
+module _ (g : Grid) (s : Sizes) (w : List ℕ) (f : List Float) (p : Vec3) (r : Found) (e : r ≡ locate g (cellPolygonsIn s w f) p) where
+  pub nowhere-not : (i : ℕ) → r ≡ At i → false ≡ nowhere (fieldIn g s w f) p
+  unfolding nowhere isNowhere
+  nowhere-not i h = rw (sym (locate-in g s w f p r e) ∙ h)
+
+  pub nowhere-so : r ≡ Nothing → true ≡ nowhere (fieldIn g s w f) p
+  unfolding nowhere isNowhere
+  nowhere-so h = rw (sym (locate-in g s w f p r e) ∙ h)
+
+-- ---- the answer of a job
+
+module _ {j : Result (Asks (List ℕ))} {f : ℕ → Values} {m o : List ℕ} where
+  pub answered-refused : (k : ℕ) → j ≡ refused k → Answered j f m m o o (Refused k)
+  unfolding tracedOf readsOf wordsOf
+  answered-refused k e = record { result = rw e; marks = rw e; words = rw e }
+
+  pub answered-fine : {m′ o′ : List ℕ} {r : ℕ} (t : Asks (List ℕ)) → j ≡ fine t → Written t f m m′ o o′ 0 r → Answered j f m m′ o o′ (Words r)
+  unfolding tracedOf readsOf wordsOf
+  answered-fine t e w = record { result = rw e (ap Words (w .count)); marks = rw e (w .marks); words = rw e (w .words) }
+
+-- the two refusals, whatever follows
+module _ {good : Bool} (lost : Bool) (t : Asks (List ℕ)) {a : Bool} (ea : a ≡ good) where
+  pub not-good : a ≡ false → result._>>=_ (refuse 34 (not good)) (λ _. result._>>=_ (refuse 35 lost) (λ _. fine t)) ≡ refused 34
+  unfolding refuse result._>>=_
+  not-good h = rw (sym ea ∙ h)
+
+  module _ {b : Bool} (h : a ≡ true) (eb : b ≡ lost) where
+    pub is-lost : b ≡ true → result._>>=_ (refuse 34 (not good)) (λ _. result._>>=_ (refuse 35 lost) (λ _. fine t)) ≡ refused 35
+    unfolding refuse result._>>=_
+    is-lost k = rw (sym ea ∙ h, sym eb ∙ k)
+
+    pub is-fine : b ≡ false → result._>>=_ (refuse 34 (not good)) (λ _. result._>>=_ (refuse 35 lost) (λ _. fine t)) ≡ fine t
+    unfolding refuse result._>>=_
+    is-fine k = rw (sym ea ∙ h, sym eb ∙ k)
+
+-- ---- the seeds of a rake
+
+module _ (start end : Vec3) (count : ℕ) where
+  length-seeds : length (seeds start end count) ≡ count
+  unfolding seeds
+  length-seeds = length-tab (seedAt start end count) count
+
+  seeds-at : (i : ℕ) → i < count → drop i (seeds start end count) ≡ seedAt start end count i ∷ drop (i + 1) (seeds start end count)
+  unfolding seeds
+  seeds-at i h = drop-tab (seedAt start end count) count i h
+
+  seeds-end : (i : ℕ) → count ≤ i → drop i (seeds start end count) ≡ []
+  seeds-end i h = drop-end (seeds start end count) i (rw length-seeds h)
+
+  seed-here : (i : ℕ) → i < count → getD (seeds start end count) i start ≡ seedAt start end count i
+  unfolding seeds
+  seed-here i h = getD-tab (seedAt start end count) count i start h
+
+  module _ (F : StreamlineField) (i : ℕ) (r : Bool) (inv : any (nowhere F) (drop i (seeds start end count)) ≡ r) where
+    pub seed-lost : (t : Bool) (p : Vec3) → i < count → p ≡ seedAt start end count i → t ≡ nowhere F p → t ≡ true → true ≡ r
+    seed-lost t p h ep e w =
+        let in-range : i < length (seeds start end count) = rw length-seeds h in
+        sym (any-here (seeds start end count) i start in-range (nowhere F) (rw (seed-here i h, ← ep) (sym e ∙ w))) ∙ inv
+
+    pub seed-found : (t : Bool) (p : Vec3) → i < count → p ≡ seedAt start end count i → t ≡ nowhere F p → t ≡ false → any (nowhere F) (drop (i + 1) (seeds start end count)) ≡ r
+    seed-found t p h ep e w =
+        let in-range : i < length (seeds start end count) = rw length-seeds h in
+        sym (any-next (seeds start end count) i start in-range (nowhere F) (rw (seed-here i h, ← ep) (sym e ∙ w))) ∙ inv
+
+    pub all-found : count ≤ i → false ≡ r
+    unfolding any
+    all-found h = rw (seeds-end i h) at inv
+
+-- ---- line after line
+
+module _ (F : StreamlineField) (o : StreamlineOptions) (d : StreamlineDirection) where
+  -- what is left where the words of `done` were written
+  abbrev pub left : List ℕ → List Vec3 → Asks (List ℕ)
+  left done ps = linesWords F o d ps >>= λ ws. give (done ++ ws)
+
+  left-next : (done : List ℕ) (p : Vec3) (ps : List Vec3) → left done (p ∷ ps) ≡ lineAnswer F o d p >>= λ l. left (done ++ l) ps
+  unfolding linesWords
+  left-next done p ps =
+      bind-assoc (lineAnswer F o d p) _ _ ∙ ap (λ r. lineAnswer F o d p >>= r) (fun-ext each)
+    where
+      same : (l ws : List ℕ) → (give (l ++ ws) >>= λ k. give (done ++ k)) ≡ give ((done ++ l) ++ ws)
+      same l ws = give-then (l ++ ws) (λ k. give (done ++ k)) ∙ ap {B = Asks (List ℕ)} give (sym (append-assoc done l ws))
+
+      each : (l : List ℕ) → ((linesWords F o d ps >>= λ ws. give (l ++ ws)) >>= λ k. give (done ++ k)) ≡ left (done ++ l) ps
+      each l = bind-assoc (linesWords F o d ps) _ _ ∙ ap (λ r. linesWords F o d ps >>= r) (fun-ext (same l))
+
+  pub lines-begun : {f : ℕ → Values} {m : List ℕ} (ps : List Vec3) → Going (linesWords F o d ps) f m (left [] ps) m
+  lines-begun {f} {m} ps = rw (bind-give (linesWords F o d ps)) (going-start (linesWords F o d ps) f m)
+
+  module _ {w : Asks (List ℕ)} {f : ℕ → Values} {m₀ m : List ℕ} (start end : Vec3) (count : ℕ) (done : List ℕ) (i : ℕ)
+      (g : Going w f m₀ (left done (drop i (seeds start end count))) m) where
+    pub lines-turned : {m′ b b′ : List ℕ} {at r : ℕ} (p : Vec3) → i < count → p ≡ seedAt start end count i → Written (lineAnswer F o d p) f m m′ b b′ at r
+        → Going w f m₀ (left (done ++ run (lineAnswer F o d p) f) (drop (i + 1) (seeds start end count))) m′
+    lines-turned p h e t =
+        going-part (λ l. left (done ++ l) (drop (i + 1) (seeds start end count)))
+        (rw (seeds-at start end count i h, ← e, left-next done p (drop (i + 1) (seeds start end count))) at g) (record { answer = refl; marks = t .marks })
+
+    pub lines-ended : count ≤ i → Served w f m₀ m done
+    unfolding linesWords _>>=_
+    lines-ended h = going-end (rw append-nil at (rw (seeds-end start end count i h) at g))
+
+pub lines-written : {w : Asks (List ℕ)} {f : ℕ → Values} {m₀ m o o′ : List ℕ} {at n : ℕ} {done : List ℕ} →
+    Served w f m₀ m done → o′ ≡ sets o at done → n ≡ length done → Written w f m₀ m o o′ at n
+lines-written {o} {at} s wr e = record { marks = s .marks; words = wr ∙ ap (λ l. sets o at l) (s .answer); count = e ∙ ap length (s .answer) }
+
+-- the words of one more line
+abbrev pub written-words : {t : Asks (List ℕ)} {f : ℕ → Values} {m m′ o o′ : List ℕ} {at r : ℕ} → Written t f m m′ o o′ at r → List ℕ
+written-words {t} {f} w = run t f
+
+pub words-more : {t : Asks (List ℕ)} {f : ℕ → Values} {m m′ : List ℕ} (o o′ o″ done : List ℕ) (n r : ℕ) → n ≡ length done → o′ ≡ sets o 1 done
+    → Written t f m m′ o′ o″ (n + 1) r → o″ ≡ sets o 1 (done ++ run t f)
+words-more {t} {f} o o′ o″ done n r e h w =
+    let at : n + 1 ≡ 1 + length done = omega arith in
+    w .words ∙ rw (h, at) (sym (sets-append o 1 done (run t f)))
+
+-- the count before them
+pub rake-written : (t : Asks (List ℕ)) {f : ℕ → Values} {m m′ : List ℕ} (o o′ o″ : List ℕ) (count r : ℕ) → Written t f m m′ o o′ 1 r → o″ ≡ set o′ 0 count
+    → Written (t >>= λ ws. give (count ∷ ws)) f m m′ o o″ 0 (r + 1)
+rake-written t {f} {m} o o′ o″ count r w e =
+    let answer : run (t >>= λ ws. give (count ∷ ws)) f ≡ count ∷ run t f = run-bind t (λ ws. give (count ∷ ws)) f in
+    let asked : reads (t >>= λ ws. give (count ∷ ws)) f ≡ reads t f = reads-bind t (λ ws. give (count ∷ ws)) f ∙ append-nil _ in
+    record {
+      marks = w .marks ∙ ap (markAll m) (sym asked);
+      words = e ∙ ap (λ l. set l 0 count) (w .words) ∙ rw answer (sets-set (run t f) o 0 1 count (omega arith));
+      count = rw answer (add-one r ∙ ap suc (w .count));
+    }

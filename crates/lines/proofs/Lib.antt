@@ -1,0 +1,4 @@
+pub mod VelocityLaws
+pub mod StepLaws
+pub mod LineLaws
+pub mod JobLaws

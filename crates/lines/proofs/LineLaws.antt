@@ -1,0 +1,154 @@
+-- A turn of a line's loop, over plain values: what is left to serve, and what was written. Assumes nothing.
+use Prim.Native.Nat.{ℕ, zero, suc, _+_, _-_, _*_, _≤_, _<_}
+use native.Mathlib.Nat.{add-zero, sub-zero}
+use native.Mathlib.Numerals.{add-one, add-two}
+use native.Mathlib.Omega.{arith}
+use mathlib.Core.Path.{_≡_, refl, ap, sym, _∙_, subst, fun-ext}
+use mathlib.Core.List.{List, [], _∷_, _++_, append-assoc, append-nil}
+use lib.ListN.{length, set, length-append}
+use lib.Seq.{sets, set-out, set-comm}
+use lib.Ieee.{Float}
+use Rattle.arith.specs.F64.{_⊕_, 0·0, word}
+use Rattle.arith.specs.declared.Vec3.{Vec3}
+use Rattle.reading.specs.declared.Values.{Values}
+use Rattle.reading.specs.Asks.{Asks, give, run, reads, _>>=_}
+use Rattle.reading.specs.Marks.{markAll}
+use Rattle.reading.specs.Served.{Served, Going}
+use Rattle.reading.proofs.AsksLaws.{bind-assoc, bind-give, run-bind, reads-bind}
+use Rattle.reading.proofs.ServedLaws.{going-start, going-part, going-end, served-then, served-give}
+use Rattle.polygons.specs.Field.{StreamlineField}
+use Rattle.lines.specs.declared.Step.{Step}
+use Rattle.lines.specs.declared.Step.the-variants.{Next, Ended}
+use Rattle.lines.specs.declared.StreamlineDirection.{StreamlineDirection}
+use Rattle.lines.specs.declared.StreamlineOptions.{StreamlineOptions}
+use Rattle.lines.specs.Step.{step}
+use Rattle.lines.specs.Line.{onward, lineFrom, line, signedStep, pointWords, lineWords, lineAnswer}
+use Rattle.lines.specs.Ready.{Drawn, Written}
+
+pub give-then : {A B : Type 0} (a : A) (k : A → Asks B) → (give a >>= k) ≡ k a
+unfolding _>>=_
+give-then a k = refl
+
+module _ (F : StreamlineField) (o : StreamlineOptions) (h : Float) where
+  -- what is left where the points of `done` were drawn: n more at most, from p
+  abbrev pub left : List Vec3 → ℕ → Vec3 → Float → Asks (List Vec3)
+  left done n p total = lineFrom F o h n p total >>= λ l. give (done ++ l)
+
+  -- after a step
+  abbrev after : List Vec3 → ℕ → Float → Step → Asks (List Vec3)
+  after done n total Ended = give (done ++ [])
+  after done n total (Next q segment) = left (done ++ q ∷ []) n q (total ⊕ segment)
+
+  after-ended : (done : List Vec3) (n : ℕ) (total : Float) → (onward (lineFrom F o h n) total Ended >>= λ l. give (done ++ l)) ≡ give (done ++ [])
+  unfolding onward _>>=_
+  after-ended done n total = refl
+
+  after-next : (done : List Vec3) (n : ℕ) (total : Float) (q : Vec3) (segment : Float)
+      → (onward (lineFrom F o h n) total (Next q segment) >>= λ l. give (done ++ l)) ≡ left (done ++ q ∷ []) n q (total ⊕ segment)
+  unfolding onward
+  after-next done n total q segment =
+      bind-assoc (lineFrom F o h n q (total ⊕ segment)) _ _
+      ∙ ap (λ k. lineFrom F o h n q (total ⊕ segment) >>= k) (fun-ext (λ l. same l))
+    where
+      same : (l : List Vec3) → (give (q ∷ l) >>= λ k. give (done ++ k)) ≡ give ((done ++ q ∷ []) ++ l)
+      same l = give-then (q ∷ l) (λ k. give (done ++ k)) ∙ ap {B = Asks (List Vec3)} give (sym (append-assoc done (q ∷ []) l))
+
+  left-suc : (done : List Vec3) (n : ℕ) (p : Vec3) (total : Float) → left done (suc n) p total ≡ step F o h p total >>= after done n total
+  unfolding lineFrom
+  left-suc done n p total = bind-assoc (step F o h p total) _ _ ∙ ap (λ r. step F o h p total >>= r) (fun-ext each)
+    where
+      each : (r : Step) → (onward (lineFrom F o h n) total r >>= λ l. give (done ++ l)) ≡ after done n total r
+      each Ended = after-ended done n total
+      each (Next q segment) = after-next done n total q segment
+
+  module _ {w : Asks (List Vec3)} {f : ℕ → Values} {m₀ m : List ℕ} (done : List Vec3) (n k : ℕ) (p : Vec3) (total : Float) (below : k < n)
+      (g : Going w f m₀ (left done (n - k) p total) m) where
+    pub turned : {m′ : List ℕ} {r : Step} → Served (step F o h p total) f m m′ r → Going w f m₀ (after done (n - (k + 1)) total r) m′
+    turned s =
+        let e : n - k ≡ suc (n - (k + 1)) = omega arith in
+        going-part (after done (n - (k + 1)) total) (rw (e, left-suc done (n - (k + 1)) p total) at g) s
+
+  -- before the first step
+  pub begun : {f : ℕ → Values} {m : List ℕ} (n : ℕ) (p : Vec3) (total : Float) → Going (lineFrom F o h n p total) f m (left [] (n - 0) p total) m
+  begun {f} {m} n p total = rw (sub-zero, bind-give (lineFrom F o h n p total)) (going-start (lineFrom F o h n p total) f m)
+
+  -- after the last one
+  pub finished : {w : Asks (List Vec3)} {f : ℕ → Values} {m₀ m : List ℕ} (done : List Vec3) (n : ℕ) (p : Vec3) (total : Float) → n ≡ 0 →
+      Going w f m₀ (left done n p total) m → Served w f m₀ m done
+  unfolding lineFrom _>>=_
+  finished done n p total e g = going-end (rw append-nil at (rw e at g))
+
+-- the line ends
+pub ended : {w : Asks (List Vec3)} {f : ℕ → Values} {m₀ m : List ℕ} (done : List Vec3) → Going w f m₀ (give (done ++ [])) m → Served w f m₀ m done
+ended done g = going-end (rw append-nil at g)
+
+-- what a drawing promises, from what was served
+pub drawn : {w : Asks (List Vec3)} {f : ℕ → Values} {m₀ m o o′ : List ℕ} {at n : ℕ} {done : List Vec3} →
+    Served w f m₀ m done → o′ ≡ sets o at (pointWords done) → n ≡ length done → Drawn w f m₀ m o o′ at n
+drawn {o} {at} s wr e = record { marks = s .marks; words = wr ∙ ap (λ l. sets o at (pointWords l)) (s .answer); count = e ∙ ap length (s .answer) }
+
+-- ---- what was written
+
+pub unwritten : (l : List ℕ) (i w : ℕ) → length l ≤ i → l ≡ set l i w
+unwritten l i w h = sym (set-out l i w h)
+
+pub length-points : (l : List Vec3) → length (pointWords l) ≡ 3 * length l
+unfolding pointWords
+length-points [] = refl
+length-points (p ∷ l) = let e = length-points l in omega arith
+
+points-append : (l k : List Vec3) → pointWords (l ++ k) ≡ pointWords l ++ pointWords k
+unfolding pointWords
+points-append [] k = refl
+points-append (p ∷ l) k = ap {B = List ℕ} (λ r. word (p .x) ∷ word (p .y) ∷ word (p .z) ∷ r) (points-append l k)
+
+pub sets-append : (o : List ℕ) (i : ℕ) (a b : List ℕ) → sets o i (a ++ b) ≡ sets (sets o i a) (i + length a) b
+sets-append o i [] b = ap (λ j. sets o j b) (sym (add-zero i))
+sets-append o i (x ∷ a) b =
+    let e : suc i + length a ≡ i + suc (length a) = omega arith in
+    sets-append (set o i x) (suc i) a b ∙ ap (λ j. sets (sets (set o i x) (suc i) a) j b) e
+
+-- three more words
+pub written-more : (o o′ o″ : List ℕ) (done : List Vec3) (q : Vec3) (at k : ℕ) → k ≡ length done → o′ ≡ sets o at (pointWords done)
+    → o″ ≡ set (set (set o′ (at + 3 * k) (word (q .x))) (at + 3 * k + 1) (word (q .y))) (at + 3 * k + 2) (word (q .z)) → o″ ≡ sets o at (pointWords (done ++ q ∷ []))
+written-more o o′ o″ done q at k e h w =
+    let l : at + length (pointWords done) ≡ at + 3 * k = omega (arith, length-points done) in
+    w ∙ rw (points-append done (q ∷ []), sets-append o at (pointWords done) (pointWords (q ∷ [])), l, h, add-one, add-two) (unfold pointWords in refl)
+
+-- ---- the words of a whole line
+
+pub sets-set : (vs o : List ℕ) (i j w : ℕ) → i < j → set (sets o j vs) i w ≡ sets (set o i w) j vs
+sets-set [] o i j w h = refl
+sets-set (v ∷ vs) o i j w h =
+    let ne : j ≡ i → ⊥ = λ e. omega arith in
+    sets-set vs (set o j v) i (suc j) w (omega arith) ∙ ap (λ l. sets l (suc j) vs) (set-comm o j i v w ne)
+
+line-words : (p : Vec3) (l : List Vec3) → lineWords (p ∷ l) ≡ suc (length l) ∷ word (p .x) ∷ word (p .y) ∷ word (p .z) ∷ pointWords l
+unfolding lineWords pointWords
+line-words p l = refl
+
+front : (b : List ℕ) (at c x y z : ℕ) (l : List ℕ)
+    → sets (set (set (set (set b (suc at) x) (suc (suc at)) y) (suc (suc (suc at))) z) at c) (suc (suc (suc (suc at)))) l ≡ sets b at (c ∷ x ∷ y ∷ z ∷ l)
+front b at c x y z l =
+    ap (λ k. sets k (suc (suc (suc (suc at)))) l) (sets-set (x ∷ y ∷ z ∷ []) b at (suc at) c (omega arith))
+
+pub traced : (F : StreamlineField) (o : StreamlineOptions) (d : StreamlineDirection) (f : ℕ → Values) (m m′ b b₁ b₂ b₃ : List ℕ) (at count : ℕ) (seed : Vec3) (h : Float)
+    → h ≡ signedStep o d → b₁ ≡ set (set (set b (at + 1) (word (seed .x))) (at + 1 + 1) (word (seed .y))) (at + 1 + 2) (word (seed .z))
+    → Drawn (lineFrom F o h (o .«max_steps») seed 0·0) f m m′ b₁ b₂ (at + 4) count → b₃ ≡ set b₂ at (count + 1) → Written (lineAnswer F o d seed) f m m′ b b₃ at (3 * count + 4)
+traced F o d f m m′ b b₁ b₂ b₃ at count seed h eh e₁ t e₃ =
+    let pts = run (lineFrom F o (signedStep o d) (o .«max_steps») seed 0·0) f in
+    let t′ = rw eh at t in
+    let answer : run (lineAnswer F o d seed) f ≡ lineWords (seed ∷ pts) = unfold lineAnswer line in run-bind (lineFrom F o (signedStep o d) (o .«max_steps») seed 0·0 >>= λ l. give (seed ∷ l)) (λ l. give (lineWords l)) f ∙ ap lineWords (run-bind (lineFrom F o (signedStep o d) (o .«max_steps») seed 0·0) (λ l. give (seed ∷ l)) f) in
+    let asked : reads (lineAnswer F o d seed) f ≡ reads (lineFrom F o (signedStep o d) (o .«max_steps») seed 0·0) f = unfold lineAnswer line in reads-bind (lineFrom F o (signedStep o d) (o .«max_steps») seed 0·0 >>= λ l. give (seed ∷ l)) (λ l. give (lineWords l)) f ∙ append-nil _ ∙ reads-bind (lineFrom F o (signedStep o d) (o .«max_steps») seed 0·0) (λ l. give (seed ∷ l)) f ∙ append-nil _ in
+    let n₁ : at + 1 + 1 ≡ suc (suc at) = omega arith in
+    let n₂ : at + 1 + 2 ≡ suc (suc (suc at)) = omega arith in
+    let n₃ : at + 4 ≡ suc (suc (suc (suc at))) = omega arith in
+    let n₄ : count + 1 ≡ suc (length pts) = add-one count ∙ ap suc (t′ .count) in
+    let inside : at < at + 4 = omega arith in
+    record {
+      marks = t′ .marks ∙ ap (markAll m) (sym asked);
+      words =
+          e₃ ∙ ap (λ l. set l at (count + 1)) (t′ .words) ∙ sets-set (pointWords pts) b₁ at (at + 4) (count + 1) inside
+          ∙ rw (answer, line-words seed pts, e₁, n₁, n₂, n₃, n₄, add-one at) (front b at (suc (length pts)) (word (seed .x)) (word (seed .y)) (word (seed .z)) (pointWords pts));
+      count = rw (answer, line-words seed pts) (omega (arith, length-points pts, t′ .count));
+    }

@@ -1,0 +1,114 @@
+use Rattle.lines.proofs.LineLaws.{left, begun, turned, ended, finished, drawn, written-more}
+use Rattle.lines.specs.Line.{lineFrom, pointWords}
+use Rattle.polygons.specs.Layout.{fieldIn}
+use Rattle.casefile.specs.Field.{valuesOf}
+use Rattle.reading.specs.Served.{Going}
+use Rattle.arith.specs.declared.Vec3.{Vec3}
+use Rattle.arith.specs.F64.{0·0}
+use lib.Seq.{sets}
+use lib.ListN.{length, length-append}
+use mathlib.Core.List.{List, [], _∷_, _++_}
+use mathlib.Core.Path.{_≡_, refl}
+use Prim.Native.Nat.{ℕ, _≤_, _-_, _+_}
+use native.Mathlib.Omega.{arith}
+use borrow.Author.Needs.{needs}
+use Rattle.lines.proofs.line.points_after.Statement.{statement}
+use Rattle.lines.proofs.line.points_after.Tie as tie
+use Rattle.lines.proofs.line.points_after.Reads as reads
+use Rattle.lines.proofs.line.points_after.Lts as lts
+use Rattle.lines.proofs.line.put_point.Reads as put-point-reads
+use Rattle.lines.proofs.rk4.step.Reads as step-reads
+
+abbrev Inv-loop : tie.InvT-loop
+Inv-loop case n words floats s g marks₀ out₀ at h options most total₀ p₀ k₀ marks out total p k = record { done : List Vec3; count : k ≡ length done; below : k ≤ most; kept : length marks ≡ length marks₀; as-long : length out ≡ length out₀; written : out ≡ sets out₀ at (pointWords done); going : Going (lineFrom (fieldIn g s words floats) options h most p₀ 0·0) (valuesOf case) marks₀ (left (fieldIn g s words floats) options h done (most - k) p total) marks }
+
+abbrev μ-loop : tie.MeasureT-loop
+μ-loop case n words floats s g marks₀ out₀ at h options most total₀ p₀ k₀ marks out total p k = most - k
+
+-- src/line.rt:51:5
+loop-holds : tie.Need-loop-holds Inv-loop μ-loop
+unfolding pointWords
+loop-holds c = record { done = []; count = refl; below = omega arith; kept = refl; as-long = refl; written = refl; going = begun _ _ _ _ _ _ }
+
+-- src/line.rt:52:13
+step-requires : tie.Need-step-requires Inv-loop μ-loop
+step-requires c κs = search needs
+
+-- src/line.rt:55:17
+enum-told : tie.Need-enum-told Inv-loop μ-loop
+enum-told c = search needs
+
+-- src/line.rt:55:17
+same-length : tie.Need-same-length Inv-loop μ-loop
+same-length c = search needs
+
+-- src/line.rt:55:17
+same-length-2 : tie.Need-same-length-2 Inv-loop μ-loop
+same-length-2 c = search needs
+
+-- src/line.rt:55:17
+returns : tie.Need-returns Inv-loop μ-loop
+returns c = let i = c .before .before .before .before .before .before .before .loop .inv in (drawn (ended (i .done) (rw (c .enum-told .given .1) at (turned _ _ _ (i .done) _ _ _ _ (c .before .before .before .before .before .before .loop-test .taken) (i .going) (c .before .before .before .before .step .ensures)))) (i .written) (i .count), i .below)
+
+-- src/line.rt:57:24
+enum-known-next : tie.Need-enum-known-next Inv-loop μ-loop
+enum-known-next c = search needs
+
+-- src/line.rt:58:37
+mul-put-point : tie.Need-mul-put-point Inv-loop μ-loop
+mul-put-point c = search needs
+
+-- src/line.rt:58:32
+add-put-point : tie.Need-add-put-point Inv-loop μ-loop
+add-put-point c = search needs
+
+-- src/line.rt:58:17
+put-point-requires : tie.Need-put-point-requires Inv-loop μ-loop
+put-point-requires c κs = search needs
+
+-- src/line.rt:63:13
+add-k : tie.Need-add-k Inv-loop μ-loop
+add-k c = search needs
+
+-- src/line.rt:51:5
+loop-less : tie.Need-loop-less Inv-loop μ-loop
+loop-less c = search needs
+
+-- src/line.rt:51:5
+loop-again : tie.Need-loop-again Inv-loop μ-loop
+loop-again c = let i = c .before .before .before .before .before .before .before .before .before .before .before .before .loop .inv in let x = c .before .before .before .before .before .next .given in record { done = i .done ++ x .0 .0 ∷ []; count = rw length-append (omega arith); below = omega arith; kept = omega arith; as-long = omega arith; written = written-more _ _ _ (i .done) (x .0 .0) _ _ (i .count) (i .written) (c .before .before .put-point .ensures); going = rw (x .1) at (turned _ _ _ (i .done) _ _ _ _ (c .before .before .before .before .before .before .before .before .before .before .before .loop-test .taken) (i .going) (c .before .before .before .before .before .before .before .before .before .step .ensures)) }
+
+-- src/line.rt:42:1
+same-length-3 : tie.Need-same-length-3 Inv-loop μ-loop
+same-length-3 c = search needs
+
+-- src/line.rt:42:1
+same-length-4 : tie.Need-same-length-4 Inv-loop μ-loop
+same-length-4 c = search needs
+
+-- src/line.rt:42:1
+returns-2 : tie.Need-returns-2 Inv-loop μ-loop
+returns-2 c = let i = c .before .loop .inv in (drawn (finished _ _ _ (i .done) _ _ _ (omega arith) (i .going)) (i .written) (i .count), i .below)
+
+pub points-after-spec : {M : Type 1} → statement M
+points-after-spec =
+    tie.close
+    (tie.spec
+    Inv-loop
+    μ-loop
+    loop-holds
+    step-requires
+    enum-told
+    same-length
+    same-length-2
+    returns
+    enum-known-next
+    mul-put-point
+    add-put-point
+    put-point-requires
+    add-k
+    loop-less
+    loop-again
+    same-length-3
+    same-length-4
+    returns-2)

@@ -1,0 +1,78 @@
+use Rattle.lines.proofs.LineLaws.{traced}
+use Rattle.lines.specs.Line.{signedStep}
+use native.Mathlib.Omega.{arith}
+use borrow.Author.Needs.{needs}
+use Rattle.lines.proofs.line.trace.Statement.{statement}
+use Rattle.lines.proofs.line.trace.Tie as tie
+use Rattle.lines.proofs.line.trace.Reads as reads
+use Rattle.lines.proofs.line.trace.Lts as lts
+use Rattle.lines.proofs.line.points_after.Reads as points-after-reads
+use Rattle.lines.proofs.line.put.Reads as put-reads
+use Rattle.lines.proofs.line.put_point.Reads as put-point-reads
+use Rattle.lines.proofs.line.sign.Reads as sign-reads
+
+-- src/line.rt:84:33
+sign-requires : tie.Need-sign-requires
+sign-requires c κs = search needs
+
+-- src/line.rt:85:20
+add-put-point : tie.Need-add-put-point
+add-put-point c = search needs
+
+-- src/line.rt:85:5
+put-point-requires : tie.Need-put-point-requires
+put-point-requires c κs = search needs
+
+-- src/line.rt:86:72
+add-points-after : tie.Need-add-points-after
+add-points-after c = search needs
+
+-- src/line.rt:86:9
+points-after-requires : tie.Need-points-after-requires
+points-after-requires c κs = (c .before .before .before .before .before .before .before .before .before .before .before .before .before .pre .0, omega (arith, c .before .before .before .before .before .before .before .before .before .before .before .before .before .pre .1))
+
+-- src/line.rt:87:19
+add-put : tie.Need-add-put
+add-put c = omega (arith, c .before .before .before .before .before .points-after .ensures .1, c .before .before .before .before .before .before .before .before .before .before .before .before .before .before .before .before .before .before .before .pre .1)
+
+-- src/line.rt:87:5
+put-requires : tie.Need-put-requires
+put-requires c κs = search needs
+
+-- src/line.rt:88:5
+mul-result : tie.Need-mul-result
+mul-result c = omega (arith, c .before .before .before .before .before .before .before .before .points-after .ensures .1, c .before .before .before .before .before .before .before .before .before .before .before .before .before .before .before .before .before .before .before .before .before .before .pre .1)
+
+-- src/line.rt:88:5
+add-result : tie.Need-add-result
+add-result c = omega (arith, c .before .before .before .before .before .before .before .before .points-after .ensures .1, c .before .before .before .before .before .before .before .before .before .before .before .before .before .before .before .before .before .before .before .before .before .before .pre .1)
+
+-- src/line.rt:79:1
+same-length : tie.Need-same-length
+same-length c = search needs
+
+-- src/line.rt:79:1
+same-length-2 : tie.Need-same-length-2
+same-length-2 c = search needs
+
+-- src/line.rt:79:1
+returns : tie.Need-returns
+unfolding signedStep
+returns c = (traced _ _ _ _ _ _ _ _ _ _ _ _ _ _ (rw (c .before .before .before .before .before .before .before .before .before .before .before .before .before .before .before .before .sign .ensures)) (c .before .before .before .before .before .before .before .before .before .before .before .before .before .put-point .ensures) (c .before .before .before .before .before .before .before .before .points-after .ensures .0) (c .before .before .put .ensures), omega (arith, c .before .before .before .before .before .before .before .before .points-after .ensures .1, c .before .before .before .before .before .before .before .before .before .before .before .before .before .before .before .before .before .before .before .before .before .before .pre .1))
+
+pub trace-spec : {M : Type 1} → statement M
+trace-spec =
+    tie.close
+    (tie.spec
+    sign-requires
+    add-put-point
+    put-point-requires
+    add-points-after
+    points-after-requires
+    add-put
+    put-requires
+    mul-result
+    add-result
+    same-length
+    same-length-2
+    returns)

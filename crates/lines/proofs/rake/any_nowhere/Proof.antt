@@ -1,0 +1,68 @@
+use Rattle.lines.proofs.JobLaws.{seed-lost, seed-found, all-found}
+use Rattle.lines.specs.Line.{nowhere}
+use Rattle.lines.specs.Rake.{seeds}
+use Rattle.polygons.specs.Layout.{fieldIn}
+use Rattle.arith.specs.Lists.{any}
+use lib.ListN.{drop}
+use mathlib.Core.Path.{_≡_}
+use Prim.Native.Nat.{_≤_, _-_}
+use borrow.Author.Needs.{needs}
+use Rattle.lines.proofs.rake.any_nowhere.Statement.{statement}
+use Rattle.lines.proofs.rake.any_nowhere.Tie as tie
+use Rattle.lines.proofs.rake.any_nowhere.Reads as reads
+use Rattle.lines.proofs.rake.any_nowhere.Lts as lts
+use Rattle.lines.proofs.integrate.is_nowhere.Reads as is-nowhere-reads
+use Rattle.lines.proofs.rake.seed_at.Reads as seed-at-reads
+
+abbrev Inv-loop : tie.InvT-loop
+Inv-loop words floats s g start end count i₀ i = (i ≤ count) × (any (nowhere (fieldIn g s words floats)) (drop i (seeds start end count)) ≡ any (nowhere (fieldIn g s words floats)) (seeds start end count))
+
+abbrev μ-loop : tie.MeasureT-loop
+μ-loop words floats s g start end count i₀ i = count - i
+
+-- src/rake.rt:47:5
+loop-holds : tie.Need-loop-holds Inv-loop μ-loop
+loop-holds c = search needs
+
+-- src/rake.rt:48:55
+seed-at-requires : tie.Need-seed-at-requires Inv-loop μ-loop
+seed-at-requires c κs = search needs
+
+-- src/rake.rt:48:12
+is-nowhere-requires : tie.Need-is-nowhere-requires Inv-loop μ-loop
+is-nowhere-requires c κs = search needs
+
+-- src/rake.rt:49:13
+returns : tie.Need-returns Inv-loop μ-loop
+returns c = seed-lost _ _ _ _ _ _ (c .before .before .before .before .loop .inv .1) _ _ (c .before .before .before .loop-test .taken) (c .before .before .seed-at .ensures) (c .before .is-nowhere .ensures) (c .if1 .taken)
+
+-- src/rake.rt:51:9
+add-i : tie.Need-add-i Inv-loop μ-loop
+add-i c = search needs
+
+-- src/rake.rt:47:5
+loop-less : tie.Need-loop-less Inv-loop μ-loop
+loop-less c = search needs
+
+-- src/rake.rt:47:5
+loop-again : tie.Need-loop-again Inv-loop μ-loop
+loop-again c = (search needs, seed-found _ _ _ _ _ _ (c .before .before .before .before .loop .inv .1) _ _ (c .before .before .before .loop-test .taken) (c .before .before .seed-at .ensures) (c .before .is-nowhere .ensures) (c .if1 .left))
+
+-- src/rake.rt:33:1
+returns-2 : tie.Need-returns-2 Inv-loop μ-loop
+returns-2 c = all-found _ _ _ _ _ _ (c .before .loop .inv .1) (c .loop-test .left)
+
+pub any-nowhere-spec : {M : Type 1} → statement M
+any-nowhere-spec =
+    tie.close
+    (tie.spec
+    Inv-loop
+    μ-loop
+    loop-holds
+    seed-at-requires
+    is-nowhere-requires
+    returns
+    add-i
+    loop-less
+    loop-again
+    returns-2)

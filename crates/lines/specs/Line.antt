@@ -1,0 +1,84 @@
+-- `integrate`: the line from a seed, with the refusals 34 and 35, and its answer words.
+use Prim.Native.Nat.{ℕ, zero, suc}
+use mathlib.Core.Path.{_≡_}
+use mathlib.Core.Bool.{Bool, true, false, not, _&&_}
+use mathlib.Core.List.{List, [], _∷_, _++_}
+use lib.Dec.{ltb}
+use lib.ListN.{length}
+use lib.Ieee.{Float}
+use Rattle.arith.specs.F64.{_⊕_, _⊗_, _≺_, _≼_, 0·0, 1·0, -1·0, finite, word}
+use Rattle.arith.specs.declared.Vec3.{Vec3}
+use Rattle.arith.specs.declared.Found.{Found}
+use Rattle.arith.specs.declared.Found.the-variants.{At, Nothing}
+use Rattle.reading.specs.Asks.{Asks, give, _>>=_}
+use Rattle.reading.specs.Result as result
+use Rattle.reading.specs.Result.{Result, fine, refuse}
+use Rattle.polygons.specs.Field.{StreamlineField}
+use Rattle.lines.specs.declared.Step.{Step}
+use Rattle.lines.specs.declared.Step.the-variants.{Next, Ended}
+use Rattle.lines.specs.declared.StreamlineDirection.{StreamlineDirection}
+use Rattle.lines.specs.declared.StreamlineDirection.the-variants.{Forward, Backward}
+use Rattle.lines.specs.declared.StreamlineOptions.{StreamlineOptions}
+use Rattle.lines.specs.Velocity.{locateIn}
+use Rattle.lines.specs.Step.{step}
+
+-- "direction (0 forward, 1 backward)"
+unfoldable pub sign : StreamlineDirection → Float
+sign Forward = 1·0
+sign Backward = -1·0
+
+-- `options.«step_size» * sign`
+unfoldable pub signedStep : StreamlineOptions → StreamlineDirection → Float
+signedStep o d = o .«step_size» ⊗ sign d
+
+-- after a step: the next point, and what `rest` adds to it
+unfoldable pub onward : (Vec3 → Float → Asks (List Vec3)) → Float → Step → Asks (List Vec3)
+onward rest total Ended = give []
+onward rest total (Next q segment) = rest q (total ⊕ segment) >>= λ l. give (q ∷ l)
+
+-- the points after p, at most n, the line being `total` long at p
+unfoldable pub lineFrom : StreamlineField → StreamlineOptions → Float → ℕ → Vec3 → Float → Asks (List Vec3)
+lineFrom f o h zero p total = give []
+lineFrom f o h (suc n) p total = step f o h p total >>= onward (lineFrom f o h n) total
+
+-- the whole line, its seed first
+unfoldable pub line : StreamlineField → StreamlineOptions → StreamlineDirection → Vec3 → Asks (List Vec3)
+line f o d seed = lineFrom f o (signedStep o d) (o .«max_steps») seed 0·0 >>= λ l. give (seed ∷ l)
+
+-- finite, and above 0; finite, and not below 0
+unfoldable pub isLength : Float → Bool
+isLength x = finite x && (0·0 ≺ x)
+
+unfoldable pub isSpeed : Float → Bool
+isSpeed x = finite x && (0·0 ≼ x)
+
+-- 34 "an option that `integrate` refuses" is not there
+unfoldable pub areGood : StreamlineOptions → Bool
+areGood o = isLength (o .«step_size») && (ltb 0 (o .«max_steps») && (isLength (o .«max_length») && isSpeed (o .«stagnation_speed»)))
+
+-- 35 "seed locates nowhere"
+unfoldable pub isNowhere : Found → Bool
+isNowhere Nothing = true
+isNowhere (At i) = false
+
+unfoldable pub nowhere : StreamlineField → Vec3 → Bool
+nowhere f p = isNowhere (locateIn f p)
+
+-- "3: point count, points"
+unfoldable pub pointWords : List Vec3 → List ℕ
+pointWords [] = []
+pointWords (p ∷ l) = word (p .x) ∷ word (p .y) ∷ word (p .z) ∷ pointWords l
+
+unfoldable pub lineWords : List Vec3 → List ℕ
+lineWords l = length l ∷ pointWords l
+
+-- its answer
+unfoldable pub lineAnswer : StreamlineField → StreamlineOptions → StreamlineDirection → Vec3 → Asks (List ℕ)
+lineAnswer f o d seed = line f o d seed >>= λ l. give (lineWords l)
+
+-- `integrate`
+unfoldable pub integrate : StreamlineField → Vec3 → StreamlineDirection → StreamlineOptions → Result (Asks (List ℕ))
+integrate f seed d o =
+    result._>>=_ (refuse 34 (not (areGood o))) (λ _.
+    result._>>=_ (refuse 35 (nowhere f seed)) (λ _.
+    fine (lineAnswer f o d seed)))

@@ -1,0 +1,38 @@
+-- What the functions that trace lines ask of their arguments.
+use Prim.Native.Nat.{ℕ}
+use mathlib.Core.Path.{_≡_}
+use mathlib.Core.List.{List}
+use lib.ListN.{length}
+use lib.Seq.{sets}
+use lib.Ieee.{Float}
+use Rattle.arith.specs.declared.Vec3.{Vec3}
+use Rattle.reading.specs.declared.Values.{Values}
+use Rattle.reading.specs.Asks.{Asks, run, reads}
+use Rattle.reading.specs.Marks.{markAll}
+use Rattle.casefile.specs.declared.Counts.{Counts}
+use Rattle.casefile.specs.declared.Opened.the-variants.{Case}
+use Rattle.casefile.specs.Trailer.{opened}
+use Rattle.area.specs.declared.Sizes.{Sizes}
+use Rattle.area.specs.Layout.{LentWords, LentFloats}
+use Rattle.polygons.specs.declared.Grid.{Grid}
+use Rattle.polygons.specs.Bins.{Binned}
+use Rattle.lines.specs.Line.{pointWords}
+
+-- a case that opens, an area of the right sizes, and a grid with bins
+pub record Ready (case : List ℕ) (n : Counts) (words : List ℕ) (floats : List Float) (s : Sizes) (g : Grid) : Type 0 where
+  pub opens : opened case ≡ Case n
+  pub lent-words : LentWords s words
+  pub lent-floats : LentFloats s floats
+  pub binned : Binned g
+
+-- the words of the answer stand from `at` on, as far as they fit; their number is r; the cells that were read are marked
+pub record Written (t : Asks (List ℕ)) (f : ℕ → Values) (m m′ o o′ : List ℕ) (at r : ℕ) : Type 0 where
+  pub marks : m′ ≡ markAll m (reads t f)
+  pub words : o′ ≡ sets o at (run t f)
+  pub count : r ≡ length (run t f)
+
+-- the same of the points of a line, r in number
+pub record Drawn (t : Asks (List Vec3)) (f : ℕ → Values) (m m′ o o′ : List ℕ) (at r : ℕ) : Type 0 where
+  pub marks : m′ ≡ markAll m (reads t f)
+  pub words : o′ ≡ sets o at (pointWords (run t f))
+  pub count : r ≡ length (run t f)

@@ -1,0 +1,128 @@
+// A line from its seed: its points go to the answer words as far as they fit.
+use crate::Step;
+use crate::StreamlineDirection;
+use crate::StreamlineOptions;
+use crate::rk4;
+use area::Sizes;
+use arith::Vec3;
+use arith::bytes;
+use casefile::Counts;
+use polygons::Grid;
+ghost use mathlib.Core.Path.{_≡_};
+ghost use mathlib.Core.List.{[], _∷_};
+ghost use Prim.Native.Nat.{_+_, _*_, _<_, _≤_};
+ghost use lib.ListN.{length, set};
+ghost use lib.Seq.{sets};
+ghost use Rattle.arith.specs.F64.{0·0, word};
+ghost use Rattle.casefile.specs.Field.{valuesOf};
+ghost use Rattle.polygons.specs.Layout.{fieldIn};
+ghost use Rattle.lines.specs.Line as Line;
+ghost use Rattle.lines.specs.Ready.{Ready, Drawn, Written};
+
+// Stores an answer word, where there is room for it.
+pub fn put(out: &mut [u64], at: usize, w: u64)
+    ensures { λ _. ⌜ now (out .exit) ≡ set (now (out .entry)) at w ⌝ }
+{
+    if at < out.len() {
+        out[at] = w;
+    }
+}
+
+// Stores the three words of a point.
+fn put_point(out: &mut [u64], at: usize, p: Vec3)
+    requires { ⌜ at < 4294967296 ⌝ }
+    ensures { λ _. ⌜ now (out .exit) ≡ set (set (set (now (out .entry)) at (word (p .x))) (at + 1) (word (p .y))) (at + 2) (word (p .z)) ⌝ }
+{
+    put(out, at, bytes::bits_of(p.x));
+    put(out, at + 1, bytes::bits_of(p.y));
+    put(out, at + 2, bytes::bits_of(p.z));
+}
+
+// The points after the seed go to the words from `at` on; how many there are.
+fn points_after(
+    case: &[u8],
+    n: Counts,
+    words: &[u32],
+    floats: &[f64],
+    s: Sizes,
+    g: Grid,
+    marks: &mut [u8],
+    out: &mut [u64],
+    at: usize,
+    seed: Vec3,
+    h: f64,
+    options: StreamlineOptions,
+) -> usize
+    requires { ⌜ Ready (now case) n (now words) (now floats) s g ⌝ }
+    requires { ⌜ (at ≤ 16777216) × (options .«max_steps» ≤ 65536) ⌝ }
+    ensures { λ r. ⌜ Drawn (Line.lineFrom (fieldIn g s (now (words .entry)) (now (floats .entry))) options h (options .«max_steps») seed 0·0) (valuesOf (now (case .entry))) (now (marks .entry)) (now (marks .exit)) (now (out .entry)) (now (out .exit)) at r × (r ≤ options .«max_steps») ⌝ }
+{
+    let most = options.max_steps;
+    let mut total = 0.0;
+    let mut p = seed;
+    let mut k: usize = 0;
+    while k < most {
+        let next = rk4::step(case, n, words, floats, s, g, marks, options, h, p, total);
+        match next {
+            Step::Ended => {
+                return k;
+            }
+            Step::Next(q, segment) => {
+                put_point(out, at + 3 * k, q);
+                p = q;
+                total = total + segment;
+            }
+        }
+        k = k + 1;
+    }
+    k
+}
+
+// The sign of a direction.
+fn sign(d: StreamlineDirection) -> f64
+    ensures { λ r. ⌜ r ≡ Line.sign d ⌝ }
+{
+    match d {
+        StreamlineDirection::Forward => 1.0,
+        StreamlineDirection::Backward => -1.0,
+    }
+}
+
+// The words of the line from a seed go to those from `at` on; how many there are.
+pub fn trace(
+    case: &[u8],
+    n: Counts,
+    words: &[u32],
+    floats: &[f64],
+    s: Sizes,
+    g: Grid,
+    marks: &mut [u8],
+    out: &mut [u64],
+    at: usize,
+    seed: Vec3,
+    d: StreamlineDirection,
+    options: StreamlineOptions,
+) -> usize
+    requires { ⌜ Ready (now case) n (now words) (now floats) s g ⌝ }
+    requires { ⌜ (at ≤ 16000000) × (options .«max_steps» ≤ 65536) ⌝ }
+    ensures { λ r. ⌜ Written (Line.lineAnswer (fieldIn g s (now (words .entry)) (now (floats .entry))) options d seed) (valuesOf (now (case .entry))) (now (marks .entry)) (now (marks .exit)) (now (out .entry)) (now (out .exit)) at r × (r ≤ 196612) ⌝ }
+{
+    let h = options.step_size * sign(d);
+    put_point(out, at + 1, seed);
+    let count = points_after(
+        case,
+        n,
+        words,
+        floats,
+        s,
+        g,
+        marks,
+        out,
+        at + 4,
+        seed,
+        h,
+        options,
+    );
+    put(out, at, (count + 1) as u64);
+    3 * count + 4
+}
