@@ -29,7 +29,7 @@ use Rattle.sections.specs.Work.{heldIn, signWith, addSign, faceSigns, si
 module _ (c : Cut) (l : List Vec3) (x y z : List Float) (n : ℕ) (len : n ≡ length l) where
   pub piece-few : n < 3 → PiecedAbout c l Empty x y z
   unfolding pieceAbout pieceIn only verticesOf
-  piece-few h = record { piece = λ cell. rw (← len, lt-leb 3 n h); few = omega arith }
+  piece-few h = record { piece = λ cell. rw (← len, lt-leb 3 n h); few = omega arith; full = tt }
 
   module _ (centre : Vec3) (ec : centre ≡ middle l) (el : heldIn x y z n ≡ sort (earlierOn (c .plane) centre) l) (three : 3 ≤ n) (t : Bool) (et : t ≡ wide c (heldIn x y z n)) where
     pub piece-wide : t ≡ true → n ≤ 192 → PiecedAbout c l (Of centre n) x y z
@@ -38,6 +38,7 @@ module _ (c : Cut) (l : List Vec3) (x y z : List Float) (n : ℕ) (len : n ≡ l
         record {
           piece = λ cell. rw (← ec, ← el, ← len, le-leb 3 n three, sym et ∙ h);
           few = b;
+          full = three;
         }
 
     pub piece-flat : t ≡ false → PiecedAbout c l Empty x y z
@@ -46,6 +47,7 @@ module _ (c : Cut) (l : List Vec3) (x y z : List Float) (n : ℕ) (len : n ≡ l
         record {
           piece = λ cell. rw (← ec, ← el, ← len, le-leb 3 n three, sym et ∙ h);
           few = omega arith;
+          full = tt;
         }
 
 -- ---- the piece of a cell
@@ -53,12 +55,12 @@ module _ (c : Cut) (l : List Vec3) (x y z : List Float) (n : ℕ) (len : n ≡ l
 module _ (m : Mesh) (c : Cut) (cell : ℕ) (x y z : List Float) where
   pub piece-foreign : (t : Bool) → t ≡ any (foreign m c cell) (cellAt (m .cells) cell .faces) → t ≡ true → Pieced m c cell Empty x y z
   unfolding pieceOf pieceIn verticesOf
-  piece-foreign t e h = record { piece = rw (sym e ∙ h); few = omega arith }
+  piece-foreign t e h = record { piece = rw (sym e ∙ h); few = omega arith; full = tt }
 
   pub piece-met : (t : Bool) (l : List Vec3) (r : Piece) → t ≡ any (foreign m c cell) (cellAt (m .cells) cell .faces) → t ≡ false →
       l ≡ meetings m c (cellAt (m .cells) cell .faces) → PiecedAbout c l r x y z → Pieced m c cell r x y z
   unfolding pieceOf
-  piece-met t l r e h el p = record { piece = rw (sym e ∙ h, ← el) (p .piece cell); few = p .few }
+  piece-met t l r e h el p = record { piece = rw (sym e ∙ h, ← el) (p .piece cell); few = p .few; full = p .full }
 
 -- ---- by its signs
 
@@ -155,7 +157,7 @@ module _ (m : Mesh) (c : Cut) where
   pub piece-unmet : (cell : ℕ) (x y z : List Float) (t : Bool) → t ≡ mayMeet (signsOf m c cell) → t ≡ false → Pieced m c cell Empty x y z
   unfolding pieceOf pieceAbout pieceIn only verticesOf
   piece-unmet cell x y z t e h =
-      record { piece = rw (unmet cell (sym e ∙ h)) (by (any (foreign m c cell) (cellAt (m .cells) cell .faces))); few = omega arith }
+      record { piece = rw (unmet cell (sym e ∙ h)) (by (any (foreign m c cell) (cellAt (m .cells) cell .faces))); few = omega arith; full = tt }
     where
       by : {A : Type 0} (b : Bool) → [] ≡ cond {A = List A} b [] []
       by true = refl
@@ -211,4 +213,4 @@ pub pieced-any : (case : List ℕ) (n : ℕ) (s : Sizes) (words : List ℕ) (c :
     (floats : List Float) → Pieced (meshIn (pointsIn case n) s words floats) c cell r x y z
 unfolding bare
 pieced-any case n s words c cell r x y z p floats =
-    record { piece = p .piece ∙ sym (same-piece (pointsIn case n) s words floats c cell); few = p .few }
+    record { piece = p .piece ∙ sym (same-piece (pointsIn case n) s words floats c cell); few = p .few; full = p .full }

@@ -115,15 +115,22 @@ unfoldable pub verticesOf : Piece → ℕ
 verticesOf (Of centre n) = n
 verticesOf Empty = 0
 
+-- it has three vertices or more
+abbrev pub Full : Piece → Type 0
+Full (Of centre n) = 3 ≤ n
+Full Empty = Unit
+
 -- the piece is that of the points l, and has at most 192 vertices
 pub record PiecedAbout (c : Cut) (l : List Vec3) (r : Piece) (x y z : List Float) : Type 0 where
   pub piece : (cell : ℕ) → pieceIn cell r x y z ≡ pieceAbout c cell l (middle l)
   pub few : verticesOf r ≤ 192
+  pub full : Full r
 
 -- the piece is that of a cell of the mesh
 pub record Pieced (m : Mesh) (c : Cut) (cell : ℕ) (r : Piece) (x y z : List Float) : Type 0 where
   pub piece : pieceIn cell r x y z ≡ pieceOf m c cell (cellAt (m .cells) cell)
   pub few : verticesOf r ≤ 192
+  pub full : Full r
 
 -- ---- points sorted by their angles
 

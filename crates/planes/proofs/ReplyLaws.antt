@@ -1,0 +1,96 @@
+-- From what was kept to the answer. Assumes nothing.
+use Prim.Native.Nat.{ℕ, suc, _+_}
+use mathlib.Core.Path.{_≡_, refl, ap, sym, _∙_}
+use mathlib.Core.Bool.{Bool, true, false, cond}
+use mathlib.Core.List.{List, [], _∷_}
+use lib.ListN.{length}
+use lib.Seq.{sets}
+use lib.Ieee.{Float}
+use Rattle.arith.specs.F64.{_≺_, _⊖_, 0·0, word}
+use Rattle.arith.specs.declared.Vec2.{Vec2}
+use Rattle.reading.specs.Result.{Result, refused, fine}
+use Rattle.planes.specs.declared.Answered.{Answered}
+use Rattle.planes.specs.declared.Answered.the-variants.{Words, Refused}
+use Rattle.planes.specs.declared.Sums.{Sums}
+use Rattle.planes.specs.declared.Integral.{Integral}
+use Rattle.planes.specs.declared.Summed.{Summed}
+use Rattle.planes.specs.declared.Summed.the-variants.{Total, Unsummed}
+use Rattle.planes.specs.declared.Weighed.{Weighed}
+use Rattle.planes.specs.declared.Weighed.the-variants.{Whole, Unweighed}
+use Rattle.planes.specs.declared.Probed.{Probed}
+use Rattle.planes.specs.declared.Tally.{Tally}
+use Rattle.planes.specs.declared.Tally.the-variants.{Section, Statistics, Integrals, Probe}
+use Rattle.planes.specs.declared.Tallied.{Tallied}
+use Rattle.planes.specs.declared.Tallied.the-variants.{Done, Bad}
+use Rattle.planes.specs.Statistics.{empty, statisticsWords, fractionWords}
+use Rattle.planes.specs.Integrals.{vacant, integralWords}
+use Rattle.planes.specs.Answers.{probeWords}
+use Rattle.planes.specs.Reply.{answeredOf, wordsOf, statisticsEnd, integralsEnd, ended, lastWords, Ended, Closed}
+
+pub no-word : word 0·0 ≡ 0
+unfolding lib.Ieee.toBits lib.Ieee.ofBits
+no-word = refl
+
+module _ (o o′ : List ℕ) where
+  pub ended-no : (n : ℕ) → Ended (refused n) (Refused n) o o
+  unfolding answeredOf wordsOf
+  ended-no n = record { result = refl; answers = refl }
+
+  pub ended-yes : (ws : List ℕ) (n : ℕ) → length ws ≡ n → o′ ≡ sets o 0 ws → Ended (fine ws) (Words n) o o′
+  unfolding answeredOf wordsOf
+  ended-yes ws n e h = record { result = rw (← e); answers = h }
+
+  module _ (r : Weighed) (t : Integral) (b : Bool) (e : r ≡ Whole t) (eb : b ≡ vacant t) where
+    pub integrals-refused : b ≡ true → Ended (integralsEnd r) (Refused 43) o o
+    unfolding integralsEnd
+    integrals-refused h = rw (e, sym eb ∙ h) (ended-no 43)
+
+    pub integrals-put : b ≡ false → o′ ≡ sets o 0 (integralWords t) → Ended (integralsEnd r) (Words 4) o o′
+    unfolding integralsEnd integralWords
+    integrals-put h eo = rw (e, sym eb ∙ h) (ended-yes (integralWords t) 4 refl eo)
+
+  pub integrals-none : (r : Weighed) → r ≡ Unweighed → Ended (integralsEnd r) (Refused 42) o o
+  unfolding integralsEnd
+  integrals-none r e = rw e (ended-no 42)
+
+  module _ (r : Summed) (t : Sums) (b : Bool) (e : r ≡ Total t) (eb : b ≡ empty t) where
+    pub statistics-refused : b ≡ true → Ended (statisticsEnd r) (Refused 41) o o
+    unfolding statisticsEnd
+    statistics-refused h = rw (e, sym eb ∙ h) (ended-no 41)
+
+    three : (d : Bool) (a c : ℕ) → length (cond d (1 ∷ a ∷ c ∷ []) (0 ∷ 0 ∷ 0 ∷ [])) ≡ 3
+    three true a c = refl
+    three false a c = refl
+
+    thirteen : length (statisticsWords t) ≡ 13
+    unfolding statisticsWords fractionWords
+    thirteen = rw (three (0·0 ≺ (t .positive ⊖ t .negative)))
+
+    pub statistics-put : b ≡ false → o′ ≡ sets o 0 (statisticsWords t) → Ended (statisticsEnd r) (Words 13) o o′
+    unfolding statisticsEnd
+    statistics-put h eo = rw (e, sym eb ∙ h) (ended-yes (statisticsWords t) 13 thirteen eo)
+
+  pub statistics-none : (r : Summed) → r ≡ Unsummed → Ended (statisticsEnd r) (Refused 40) o o
+  unfolding statisticsEnd
+  statistics-none r e = rw e (ended-no 40)
+
+  module _ (r : Tallied) (t : Tally) (e : r ≡ Done t) where
+    pub close-section : (p at : ℕ) → t ≡ Section p at → o′ ≡ sets o 0 (p ∷ []) → Closed r (Words at) o o′
+    unfolding ended lastWords
+    close-section p at w h = record { result = rw (e, w); answers = rw (e, w) h }
+
+    pub close-statistics : (a : Answered) (field : ℕ) (s : Summed) → t ≡ Statistics field s → Ended (statisticsEnd s) a o o′ → Closed r a o o′
+    unfolding ended lastWords
+    close-statistics a field s w h = record { result = rw (e, w) (h .result); answers = rw (e, w) (h .answers) }
+
+    pub close-integrals : (a : Answered) (s : Weighed) → t ≡ Integrals s → Ended (integralsEnd s) a o o′ → Closed r a o o′
+    unfolding ended lastWords
+    close-integrals a s w h = record { result = rw (e, w) (h .result); answers = rw (e, w) (h .answers) }
+
+    pub close-probe : (q : Vec2) (s : Probed) → t ≡ Probe q s → o′ ≡ sets o 0 (probeWords s) → Closed r (Words 5) o o′
+    unfolding ended lastWords
+    close-probe q s w h = record { result = rw (e, w); answers = rw (e, w) h }
+
+  pub close-bad : (r : Tallied) → r ≡ Bad → Closed r (Refused 39) o o
+  unfolding ended lastWords
+  close-bad r e = record { result = rw e; answers = rw e }

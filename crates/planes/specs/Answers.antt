@@ -1,0 +1,61 @@
+-- The words of the answers of codes 5 to 8, and their trees.
+use Prim.Native.Nat.{ℕ, _-_, _^_}
+use mathlib.Core.List.{List, [], _∷_, _++_, map}
+use lib.ListN.{length}
+use Rattle.arith.specs.F64.{word}
+use Rattle.arith.specs.Lists.{concat}
+use Rattle.arith.specs.declared.Vec3.{Vec3}
+use Rattle.reading.specs.declared.Values.{Values}
+use Rattle.reading.specs.Result as result
+use Rattle.reading.specs.Result.{Result, fine}
+use Rattle.reading.specs.Asks.{Asks, give, _>>=_}
+use Rattle.area.specs.Tables.{Mesh}
+use Rattle.sections.specs.declared.Plane.{Plane}
+use Rattle.sections.specs.Plane.{normalOf}
+use Rattle.sections.specs.Intersect.{intersect}
+use Rattle.planes.specs.declared.Probed.{Probed}
+use Rattle.planes.specs.declared.Probed.the-variants.{Hit, Missed}
+use Rattle.planes.specs.Sample.{Sample, sample}
+use Rattle.planes.specs.Statistics.{statistics}
+use Rattle.planes.specs.Integrals.{integrals}
+use Rattle.planes.specs.Probe.{probe}
+
+-- three floats, each by its bits
+unfoldable pub vecWords : Vec3 → List ℕ
+vecWords p = word (p .x) ∷ word (p .y) ∷ word (p .z) ∷ []
+
+-- "velocity, pressure"
+unfoldable pub valuesWords : Values → List ℕ
+valuesWords v = vecWords (v .velocity) ++ word (v .pressure) ∷ []
+
+-- "cell, vertex count, centre, vertices, velocity, pressure"
+unfoldable pub sampleWords : Sample → List ℕ
+sampleWords s =
+    s .geometry .cell
+    ∷ length (s .geometry .polygon)
+    ∷ (vecWords (s .geometry .centre) ++ (concat (map vecWords (s .geometry .polygon)) ++ valuesWords (s .values)))
+
+-- "polygon count; each: .."
+unfoldable pub sectionWords : List Sample → List ℕ
+sectionWords l = length l ∷ concat (map sampleWords l)
+
+-- "cell or 2^64-1, velocity, pressure (zeros for none)"
+unfoldable pub probeWords : Probed → List ℕ
+probeWords (Hit i v) = i ∷ valuesWords v
+probeWords Missed = (2 ^ 64 - 1) ∷ 0 ∷ 0 ∷ 0 ∷ 0 ∷ []
+
+-- codes 5 to 8 "read what their sample reads"; the answer is made of all samples, so that 39 goes before 40 to 43
+unfoldable pub sampled : Mesh → Plane → (List Sample → Result (List ℕ)) → Asks (Result (List ℕ))
+sampled m s answer = sample (intersect m s) >>= λ r. give (result._>>=_ r answer)
+
+unfoldable pub sectionOf : Mesh → Plane → Asks (Result (List ℕ))
+sectionOf m s = sampled m s (λ l. fine (sectionWords l))
+
+unfoldable pub statisticsOf : Mesh → Plane → ℕ → Asks (Result (List ℕ))
+statisticsOf m s field = sampled m s (statistics (normalOf s) field)
+
+unfoldable pub integralsOf : Mesh → Plane → Asks (Result (List ℕ))
+integralsOf m s = sampled m s (integrals (normalOf s))
+
+unfoldable pub probeOf : Mesh → Plane → Vec3 → Asks (Result (List ℕ))
+probeOf m s p = sampled m s (λ l. fine (probeWords (probe s p l)))

@@ -1,0 +1,7 @@
+pub mod Sample
+pub mod Statistics
+pub mod Integrals
+pub mod Probe
+pub mod Answers
+pub mod Stream
+pub mod Reply

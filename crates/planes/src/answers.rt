@@ -1,0 +1,311 @@
+// The answers of codes 5 to 8.
+use crate::Answered;
+use crate::Integral;
+use crate::Probed;
+use crate::Summed;
+use crate::Sums;
+use crate::Tallied;
+use crate::Tally;
+use crate::Weighed;
+use crate::measures;
+use crate::samples;
+use crate::write;
+use area::Sizes;
+use arith::Vec2;
+use arith::Vec3;
+use arith::bytes;
+use arith::float;
+use casefile::Counts;
+use reading::Values;
+use sections::Plane;
+ghost use mathlib.Core.Path.{_≡_};
+ghost use mathlib.Core.Bool.{_&&_};
+ghost use mathlib.Core.List.{List};
+ghost use Prim.Native.Nat.{_<_};
+ghost use lib.Seq.{sets};
+ghost use lib.Ieee.{Float};
+ghost use Rattle.casefile.specs.Field.{valuesOf};
+ghost use Rattle.area.specs.Layout.{pointsIn, meshIn};
+ghost use Rattle.sections.specs.Intersect.{intersect};
+ghost use Rattle.planes.specs.Statistics as Statistics;
+ghost use Rattle.planes.specs.Integrals as Integrals;
+ghost use Rattle.planes.specs.Probe as Probe;
+ghost use Rattle.planes.specs.Answers.{probeWords, sectionOf, statisticsOf, integralsOf, probeOf};
+ghost use Rattle.planes.specs.Stream.{Ready};
+ghost use Rattle.planes.specs.Reply.{statisticsEnd, integralsEnd, missing, leftBy, Ended, Closed, Replied};
+
+fn both(a: bool, b: bool) -> bool
+    ensures { λ r. ⌜ r ≡ (a && b) ⌝ }
+{
+    if a { b } else { false }
+}
+
+// All integrals are finite.
+fn finite_integral(t: Integral) -> bool
+    ensures { λ r. ⌜ r ≡ Integrals.finiteIntegral t ⌝ }
+{
+    let flux = float::is_finite(t.flux);
+    let speed = both(float::is_finite(t.speed), flux);
+    let pressure = both(float::is_finite(t.pressure), speed);
+    both(float::is_finite(t.area), pressure)
+}
+
+// There is no area, or an integral is not finite.
+fn is_vacant(t: Integral) -> bool
+    ensures { λ r. ⌜ r ≡ Integrals.vacant t ⌝ }
+{
+    if t.area <= 0.0 {
+        return true;
+    }
+    !finite_integral(t)
+}
+
+// Area, means and flux.
+fn put_integrals(answers: &mut [u64], t: Integral)
+    ensures { λ _. ⌜ now (answers .exit) ≡ sets (now (answers .entry)) 0 (Integrals.integralWords t) ⌝ }
+{
+    let means = Vec3 {
+        x: t.area,
+        y: t.pressure / t.area,
+        z: t.speed / t.area,
+    };
+    write::put_vec(answers, 0, means);
+    write::put(answers, 3, bytes::bits_of(t.flux));
+}
+
+// The answer by the integrals.
+fn end_integrals(r: Weighed, answers: &mut [u64]) -> Answered
+    ensures { λ a. ⌜ Ended (integralsEnd r) a (now (answers .entry)) (now (answers .exit)) ⌝ }
+{
+    match r {
+        Weighed::Whole(t) => {
+            if is_vacant(t) {
+                Answered::Refused(43)
+            } else {
+                put_integrals(answers, t);
+                Answered::Words(4)
+            }
+        }
+        Weighed::Unweighed => Answered::Refused(42),
+    }
+}
+
+// All sums are finite.
+fn finite_sums(t: Sums) -> bool
+    ensures { λ r. ⌜ r ≡ Statistics.finiteSums t ⌝ }
+{
+    let weighted = float::is_finite(t.weighted);
+    let negative = both(float::is_finite(t.negative), weighted);
+    let positive = both(float::is_finite(t.positive), negative);
+    let flux = both(float::is_finite(t.flux), positive);
+    let integral = both(float::is_finite(t.integral), flux);
+    both(float::is_finite(t.area), integral)
+}
+
+// There is no area, or a sum is not finite.
+fn is_empty(t: Sums) -> bool
+    ensures { λ r. ⌜ r ≡ Statistics.empty t ⌝ }
+{
+    if t.area <= 0.0 {
+        return true;
+    }
+    !finite_sums(t)
+}
+
+// Weighted value and reverse fraction.
+fn put_fractions(answers: &mut [u64], t: Sums, absolute: f64)
+    ensures { λ _. ⌜ now (answers .exit) ≡ sets (now (answers .entry)) 10 (Statistics.fractionWords t absolute) ⌝ }
+{
+    if absolute > 0.0 {
+        write::put(answers, 10, 1);
+        write::put(answers, 11, bytes::bits_of(t.weighted / absolute));
+        write::put(answers, 12, bytes::bits_of(-t.negative / absolute));
+    } else {
+        write::put(answers, 10, 0);
+        write::put(answers, 11, 0);
+        write::put(answers, 12, 0);
+    }
+}
+
+// The statistics.
+fn put_statistics(answers: &mut [u64], t: Sums)
+    ensures { λ _. ⌜ now (answers .exit) ≡ sets (now (answers .entry)) 0 (Statistics.statisticsWords t) ⌝ }
+{
+    let absolute = t.positive - t.negative;
+    let range = Vec3 {
+        x: t.area,
+        y: t.least,
+        z: t.most,
+    };
+    let means = Vec3 {
+        x: t.integral / t.area,
+        y: t.integral,
+        z: t.flux,
+    };
+    let fluxes = Vec3 {
+        x: t.positive,
+        y: t.negative,
+        z: absolute,
+    };
+    write::put(answers, 0, t.used);
+    write::put_vec(answers, 1, range);
+    write::put_vec(answers, 4, means);
+    write::put_vec(answers, 7, fluxes);
+    put_fractions(answers, t, absolute);
+}
+
+// The answer by the sums.
+fn end_statistics(r: Summed, answers: &mut [u64]) -> Answered
+    ensures { λ a. ⌜ Ended (statisticsEnd r) a (now (answers .entry)) (now (answers .exit)) ⌝ }
+{
+    match r {
+        Summed::Total(t) => {
+            if is_empty(t) {
+                Answered::Refused(41)
+            } else {
+                put_statistics(answers, t);
+                Answered::Words(13)
+            }
+        }
+        Summed::Unsummed => Answered::Refused(40),
+    }
+}
+
+// The cell with its values, or none.
+fn put_probed(r: Probed, answers: &mut [u64])
+    ensures { λ _. ⌜ now (answers .exit) ≡ sets (now (answers .entry)) 0 (probeWords r) ⌝ }
+{
+    match r {
+        Probed::Hit(i, v) => {
+            write::put(answers, 0, i as u64);
+            write::put_values(answers, 1, v);
+        }
+        Probed::Missed => {
+            let nothing = Vec3 {
+                x: 0.0,
+                y: 0.0,
+                z: 0.0,
+            };
+            write::put(answers, 0, 0xffff_ffff_ffff_ffff);
+            write::put_values(
+                answers,
+                1,
+                Values {
+                    velocity: nothing,
+                    pressure: 0.0,
+                },
+            );
+        }
+    }
+}
+
+// The answer by what was kept.
+fn finish(r: Tallied, answers: &mut [u64]) -> Answered
+    ensures { λ a. ⌜ Closed r a (now (answers .entry)) (now (answers .exit)) ⌝ }
+{
+    match r {
+        Tallied::Done(t) => match t {
+            Tally::Section(polygons, at) => {
+                write::put(answers, 0, polygons as u64);
+                Answered::Words(at)
+            }
+            Tally::Statistics(_, sums) => end_statistics(sums, answers),
+            Tally::Integrals(sums) => end_integrals(sums, answers),
+            Tally::Probe(_, found) => {
+                put_probed(found, answers);
+                Answered::Words(5)
+            }
+        },
+        Tallied::Bad => Answered::Refused(39),
+    }
+}
+
+// Area, mean pressure, mean speed and flux of the section.
+pub fn integrals(
+    case: &[u8],
+    n: Counts,
+    words: &[u32],
+    s: Sizes,
+    plane: Plane,
+    answers: &mut [u64],
+    marks: &mut [u8],
+) -> Answered
+    requires { ⌜ Ready (now case) n s (now words) (now marks) ⌝ }
+    ensures { λ r. ⌜ ((floats : List Float) → Replied (integralsOf (meshIn (pointsIn (now (case .entry)) (n .points)) s (now (words .entry)) floats) plane) (valuesOf (now (case .entry))) (now (answers .entry)) r (now (answers .entry)) (now (answers .exit)) (now (marks .entry)) (now (marks .exit))) ⌝ }
+{
+    let none = Integral {
+        area: 0.0,
+        pressure: 0.0,
+        speed: 0.0,
+        flux: 0.0,
+    };
+    let t = Tally::Integrals(Weighed::Whole(none));
+    let r = samples::sample_all(case, n, words, s, plane, t, answers, marks);
+    finish(r, answers)
+}
+
+// What was kept; nothing was found where the point is off the plane.
+fn unless_off(away: bool, q: Vec2, r: Tallied) -> Tallied
+    ensures { λ k. ⌜ k ≡ missing away q r ⌝ }
+{
+    if away {
+        match r {
+            Tallied::Done(_) => Tallied::Done(Tally::Probe(q, Probed::Missed)),
+            Tallied::Bad => Tallied::Bad,
+        }
+    } else {
+        r
+    }
+}
+
+// The cell of the section under a point, with its values.
+pub fn probe(
+    case: &[u8],
+    n: Counts,
+    words: &[u32],
+    s: Sizes,
+    plane: Plane,
+    p: Vec3,
+    answers: &mut [u64],
+    marks: &mut [u8],
+) -> Answered
+    requires { ⌜ Ready (now case) n s (now words) (now marks) ⌝ }
+    ensures { λ r. ⌜ ((floats : List Float) → Replied (probeOf (meshIn (pointsIn (now (case .entry)) (n .points)) s (now (words .entry)) floats) plane p) (valuesOf (now (case .entry))) (now (answers .entry)) r (now (answers .entry)) (now (answers .exit)) (now (marks .entry)) (now (marks .exit))) ⌝ }
+{
+    let away = measures::off(plane, p);
+    let q = measures::project(plane, p);
+    let t = Tally::Probe(q, Probed::Missed);
+    let r = samples::sample_all(case, n, words, s, plane, t, answers, marks);
+    finish(unless_off(away, q, r), answers)
+}
+
+// The statistics of a field over the section.
+pub fn statistics(
+    case: &[u8],
+    n: Counts,
+    words: &[u32],
+    s: Sizes,
+    plane: Plane,
+    field: u64,
+    answers: &mut [u64],
+    marks: &mut [u8],
+) -> Answered
+    requires { ⌜ Ready (now case) n s (now words) (now marks) ⌝ }
+    ensures { λ r. ⌜ ((floats : List Float) → Replied (statisticsOf (meshIn (pointsIn (now (case .entry)) (n .points)) s (now (words .entry)) floats) plane field) (valuesOf (now (case .entry))) (now (answers .entry)) r (now (answers .entry)) (now (answers .exit)) (now (marks .entry)) (now (marks .exit))) ⌝ }
+{
+    let top = f64::from_bits(0x7ff0_0000_0000_0000);
+    let none = Sums {
+        used: 0,
+        area: 0.0,
+        least: top,
+        most: -top,
+        integral: 0.0,
+        flux: 0.0,
+        positive: 0.0,
+        negative: 0.0,
+        weighted: 0.0,
+    };
+    let t = Tally::Statistics(field, Summed::Total(none));
+    let r = samples::sample_all(case, n, words, s, plane, t, answers, marks);
+    finish(r, answers)
+}
