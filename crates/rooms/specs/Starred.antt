@@ -1,0 +1,100 @@
+-- The twelve starred rooms of 01 as one table. Each row is a whole job, from case bytes to printed words, but for the two roots.
+use Prim.Native.Nat.{ℕ, _^_, _-_}
+use mathlib.Core.Path.{_≡_, refl}
+use mathlib.Core.List.{List, [], _∷_, _++_}
+use lib.ListN.{take}
+use lib.Ieee.{Float}
+use Rattle.arith.specs.F64.{float, word, 0·0, 0·5, 1·0, 2·0, 3·0}
+use Rattle.root.specs.Root.{root}
+use Rattle.arith.specs.Vec.{vec}
+use Rattle.arith.specs.declared.Vec3.{Vec3}
+use Rattle.planes.specs.Answers.{vecWords}
+use Rattle.rooms.specs.Computing.{computing}
+use Rattle.rooms.specs.Printed.{printed, bytes, bytesFrom, ran, shown, lends}
+use Rattle.rooms.specs.Files.{caseFile, request, asked, told}
+
+abbrev 0·25 : Float
+0·25 = float 0x3fd0000000000000
+
+abbrev 0·75 : Float
+0·75 = float 0x3fe8000000000000
+
+abbrev 1·5 : Float
+1·5 = float 0x3ff8000000000000
+
+-- "Pair: points (0,0) (1,0) (2,0) (0,1) (1,1) (2,1), heights 0; polygons 0 1 4 3 and 1 2 5 4; velocities (1,0,0), (3,0,0), pressures 0."
+unfoldable pub pair : List ℕ
+pair =
+    caseFile 2
+    (vec 0·0 0·0 0·0 ∷ vec 1·0 0·0 0·0 ∷ vec 2·0 0·0 0·0 ∷ vec 0·0 1·0 0·0 ∷ vec 1·0 1·0 0·0 ∷ vec 2·0 1·0 0·0 ∷ [])
+    (0 ∷ 4 ∷ 0 ∷ 1 ∷ 4 ∷ 3 ∷ 0 ∷ 4 ∷ 1 ∷ 2 ∷ 5 ∷ 4 ∷ [])
+    (vec 1·0 0·0 0·0 ∷ vec 3·0 0·0 0·0 ∷ [])
+    (0·0 ∷ 0·0 ∷ [])
+
+-- the corners of a unit square at a height
+unfoldable pub square : Float → List Vec3
+square h = vec 0·0 0·0 h ∷ vec 1·0 0·0 h ∷ vec 1·0 1·0 h ∷ vec 0·0 1·0 h ∷ []
+
+-- "Unit cube, velocity (0,0,2), pressure 3", and "Cube 1 stacked on cube 0"
+unfoldable pub cube : List ℕ
+cube = caseFile 3 (square 0·0 ++ square 1·0) (2 ∷ 0 ∷ 1 ∷ 2 ∷ 3 ∷ 4 ∷ 5 ∷ 6 ∷ 7 ∷ []) (vec 0·0 0·0 2·0 ∷ []) (3·0 ∷ [])
+
+unfoldable pub stack : List ℕ
+stack =
+    caseFile 3 (square 0·0 ++ (square 1·0 ++ square 2·0))
+    (2 ∷ 0 ∷ 1 ∷ 2 ∷ 3 ∷ 4 ∷ 5 ∷ 6 ∷ 7 ∷ 2 ∷ 4 ∷ 5 ∷ 6 ∷ 7 ∷ 8 ∷ 9 ∷ 10 ∷ 11 ∷ [])
+    (vec 0·0 0·0 2·0 ∷ vec 0·0 0·0 2·0 ∷ [])
+    (3·0 ∷ 3·0 ∷ [])
+
+-- the requests of the table
+unfoldable pub locate : Float → List ℕ
+locate x = 1 ∷ vecWords (vec x 0·5 0·0)
+
+unfoldable pub velocity : Float → List ℕ
+velocity x = 2 ∷ vecWords (vec x 0·5 0·0)
+
+-- "Line from (0.25,0.5), forward, step 0.25, 10 steps, length 0.5"
+unfoldable pub streamline : Float → List ℕ
+streamline stagnation = 3 ∷ (vecWords (vec 0·25 0·5 0·0) ++ 0 ∷ word 0·25 ∷ 10 ∷ word 0·5 ∷ word stagnation ∷ [])
+
+-- "plane z = .., u along X, v along Y"
+unfoldable pub level : ℕ → Float → List ℕ
+level code h = code ∷ (vecWords (vec 0·0 0·0 h) ++ (vecWords (vec 1·0 0·0 0·0) ++ vecWords (vec 0·0 1·0 0·0)))
+
+unfoldable pub opening : Unit {0}
+unfolding computing caseFile request asked told printed bytes bytesFrom ran shown lends pair square cube stack locate velocity streamline level
+opening = tt
+
+pub record Starred : Type 0 where
+  pub inside-first : asked pair (locate 0·5) ≡ told (0 ∷ []) []
+  pub on-the-wall : asked pair (locate 1·0) ≡ told (0 ∷ []) []
+  pub inside-second : asked pair (locate 1·5) ≡ told ((2 ^ 64 - 1) ∷ []) []
+  pub at-the-end : asked pair (locate 2·0) ≡ told ((2 ^ 64 - 1) ∷ []) []
+  pub blended : asked pair (velocity 0·75) ≡ told (1 ∷ vecWords (vec 1·5 0·0 0·0)) (0 ∷ 1 ∷ [])
+  pub unblended : asked pair (velocity 0·25) ≡ told (1 ∷ vecWords (vec 1·0 0·0 0·0)) (0 ∷ 1 ∷ [])
+  pub line :
+      asked pair (streamline 0·0)
+      ≡ told (3 ∷ (vecWords (vec 0·25 0·5 0·0) ++ (vecWords (vec 0·5 0·5 0·0) ++ vecWords (vec 0·75 0·5 0·0)))) (0 ∷ 1 ∷ [])
+  pub seed-alone : asked pair (streamline 1·0) ≡ told (1 ∷ vecWords (vec 0·25 0·5 0·0)) (0 ∷ 1 ∷ [])
+  pub cube-integrals : asked cube (level 7 0·5) ≡ told (word 1·0 ∷ word 3·0 ∷ word 2·0 ∷ word 2·0 ∷ []) (0 ∷ [])
+  pub stack-section : take 4 (asked stack (level 5 1·0) .words) ≡ 0 ∷ 22 ∷ 1 ∷ 0 ∷ []
+  pub root-of-two : word (root 2·0) ≡ 0x3ff6a09e667f3bcd
+  pub root-of-least : word (root (float 1)) ≡ 0x1e60000000000000
+
+pub starred : Starred
+unfolding opening
+starred =
+    record {
+      inside-first = refl;
+      on-the-wall = refl;
+      inside-second = refl;
+      at-the-end = refl;
+      blended = refl;
+      unblended = refl;
+      line = refl;
+      seed-alone = refl;
+      cube-integrals = refl;
+      stack-section = refl;
+      root-of-two = refl;
+      root-of-least = refl;
+    }

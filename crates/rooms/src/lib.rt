@@ -1,0 +1,1 @@
+// Rooms that are computed by the definitions.
