@@ -6,3 +6,4 @@ pub mod TallyLaws
 pub mod StepLaws
 pub mod ReplyLaws
 pub mod TreeLaws
+pub mod SectionLaws

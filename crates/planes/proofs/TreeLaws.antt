@@ -66,9 +66,13 @@ module _ (c : Cut) (f : ℕ → Values) where
   unfolding sample onward
   sample-bad p l h = ap (λ (b : Bool). run (onward b (at c f p) (sample l)) f) h
 
-  goods-sound : (p : PlaneCell) (l : List PlaneCell) → sound (f (p .cell)) ≡ true → goods f (p ∷ l) ≡ at c f p ∷ goods f l
+  pub goods-sound : (p : PlaneCell) (l : List PlaneCell) → sound (f (p .cell)) ≡ true → goods f (p ∷ l) ≡ at c f p ∷ goods f l
   unfolding goods
   goods-sound p l h = rw (h, goods)
+
+  pub goods-bad : (p : PlaneCell) (l : List PlaneCell) → sound (f (p .cell)) ≡ false → goods f (p ∷ l) ≡ []
+  unfolding goods
+  goods-bad p l h = rw (h, goods)
 
   pub stream-run : (l : List PlaneCell) (t : Tally) (o m : List ℕ) → BadRun l t o m ⊎ GoodRun l t o m
   stream-run [] t o m = inr (record { outcome = unfold stream goods foldl in refl; tree = unfold sample goods in refl })

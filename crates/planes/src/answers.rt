@@ -220,6 +220,25 @@ fn finish(r: Tallied, answers: &mut [u64]) -> Answered
     }
 }
 
+// The polygons of the section with their samples. They are written as they are read, from the second
+// word on.
+pub fn section(
+    case: &[u8],
+    n: Counts,
+    words: &[u32],
+    s: Sizes,
+    plane: Plane,
+    answers: &mut [u64],
+    marks: &mut [u8],
+) -> Answered
+    requires { ⌜ Ready (now case) n s (now words) (now marks) ⌝ }
+    ensures { λ r. ⌜ ((floats : List Float) → Replied (sectionOf (meshIn (pointsIn (now (case .entry)) (n .points)) s (now (words .entry)) floats) plane) (valuesOf (now (case .entry))) (leftBy (valuesOf (now (case .entry))) (intersect (meshIn (pointsIn (now (case .entry)) (n .points)) s (now (words .entry)) floats) plane) (now (answers .entry))) r (now (answers .entry)) (now (answers .exit)) (now (marks .entry)) (now (marks .exit))) ⌝ }
+{
+    let t = Tally::Section(0, 1);
+    let r = samples::sample_all(case, n, words, s, plane, t, answers, marks);
+    finish(r, answers)
+}
+
 // Area, mean pressure, mean speed and flux of the section.
 pub fn integrals(
     case: &[u8],
