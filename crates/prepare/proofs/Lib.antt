@@ -1,0 +1,3 @@
+pub mod MeshLaws
+pub mod Laws
+pub mod StepLaws
