@@ -1,0 +1,5 @@
+pub mod LineLaws
+pub mod PlaneLaws
+pub mod MeshLaws
+pub mod FieldLaws
+pub mod Laws
