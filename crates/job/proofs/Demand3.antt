@@ -1,48 +1,62 @@
 -- Demand 3 over the whole job and the whole list of requests, and a mark exactly where a cell was read.
-use Prim.Native.Nat.{ℕ, _≤_, _<_}
+use Prim.Native.Nat.{ℕ, _+_, _-_, _≤_, _<_}
 use native.Mathlib.Omega.{arith}
 use mathlib.Core.Path.{_≡_, ap, sym, _∙_}
-use mathlib.Core.Bool.{Bool, true, false, cond}
-use mathlib.Core.List.{List, List·Memᴰ}
-use lib.ListN.{length, getD}
-use borrow.Author.Tests.{ltb-false, le-ltb}
+use mathlib.Core.List.{List, [], _∷_, _++_, List·Memᴰ}
+use lib.ListN.{length, getD, drop, replicate, length-replicate}
+use lib.Seq.{getD-append-add, getD-drop}
 use Rattle.reading.specs.Result.{Result, refused, fine}
 use Rattle.reading.specs.Asks.{Asks, reads}
+use Rattle.reading.specs.Marks.{cleared}
 use Rattle.reading.specs.After.{done, Named}
 use Rattle.reading.proofs.TwoRuns.{same-done, read-marked, marked-read, unread-clear}
-use Rattle.reading.proofs.ResultLaws.{bound, not-due}
-use Rattle.casefile.specs.declared.Counts.{Counts}
-use Rattle.casefile.specs.declared.Opened.the-variants.{Case, Refused}
-use Rattle.casefile.specs.Trailer.{countsOf, trailerRight, overLimit, opened, openedCase}
+use Rattle.reading.proofs.ResultLaws.{Bound, bound}
+use Rattle.reading.proofs.MarksLaws.{unread-keeps}
+use Rattle.reading.proofs.Within.{Within, given, within-reads, within-bind}
 use Rattle.casefile.specs.Field.{outside, cellsOf, valuesOf}
 use Rattle.casefile.proofs.OutsideLaws.{values-beyond}
-use Rattle.mesh.specs.Case.{Surveyed-case, surveyOf}
-use Rattle.job.specs.Job.{Lent, jobOf, outcome}
+use Rattle.requests.specs.declared.Request.{Request}
+use Rattle.requests.specs.Requests.{requestsIn}
+use Rattle.prepare.specs.Room.{Room, Lent, prepared}
+use Rattle.prepare.proofs.Laws.{prepared-fits}
+use Rattle.serve.specs.Serve.{serve}
+use Rattle.within.proofs.Laws.{serve-within}
+use Rattle.job.specs.List.{replyTo, serveAll}
+use Rattle.job.specs.Job.{jobOf, outcome}
 
--- the counts of an accepted case are its trailer's
-pub counts-are : (file : List ℕ) (n : Counts) → openedCase (opened file) ≡ fine n → n ≡ countsOf file
-unfolding openedCase opened
-counts-are file n e = by-tests (trailerRight file) (overLimit (countsOf file)) e
-  where
-    by-tests : (a b : Bool) → openedCase (cond a (cond b (Refused 2) (Case (countsOf file))) (Refused 1)) ≡ fine n → n ≡ countsOf file
-    by-tests false b e = absurd (let z : _≡_ {A = ℕ} 0 1 = cc in omega arith)
-    by-tests true true e = absurd (let z : _≡_ {A = ℕ} 0 1 = cc in omega arith)
-    by-tests true false e = cc
+-- a list of requests over a room reads what its requests read
+pub all-within : (room : Room) {n : ℕ} → ((q : Request) → Within n (serve room q)) → (left : ℕ) (rs : List (List ℕ)) → Within n (serveAll room left rs)
+unfolding serveAll replyTo
+all-within room h left [] = given
+all-within room h left (r ∷ rs) = within-bind (h _) (λ a. within-bind (all-within room h _ rs) (λ ws. given))
+
+-- a byte behind the cleared ones
+behind-cleared : (n : ℕ) (m : List ℕ) (i : ℕ) → n ≤ length m → n ≤ i → getD (cleared n m) i 0 ≡ getD m i 0
+behind-cleared n m i h k =
+    let long : length (replicate {A = ℕ} n 0) ≡ n = length-replicate n 0 in
+    let place : i ≡ length (replicate {A = ℕ} n 0) + (i - n) = omega (arith, long) in
+    let back : n + (i - n) ≡ i = omega arith in
+    ap (λ j. getD (replicate n 0 ++ drop n m) j 0) place ∙ getD-append-add (replicate n 0) (drop n m) (i - n) 0 ∙ getD-drop n m (i - n) 0 ∙ ap (λ j. getD m j 0) back
+
+-- an accepted job has a room, and serves its list
+pub accepted-room : (file requests : List ℕ) (lent : Lent) (t : Asks (List ℕ)) → jobOf file requests lent ≡ fine t → Bound (prepared file (length requests) lent) (λ room. fine (serveAll room (lent .answers) (requestsIn requests))) t
+unfolding jobOf
+accepted-room file requests lent t e = bound _ _ _ e
 
 -- refusal 5 was not due: the marks of an accepted job reach all its cells
 pub marks-reach : (file requests : List ℕ) (lent : Lent) (t : Asks (List ℕ)) → jobOf file requests lent ≡ fine t → cellsOf file ≤ lent .marks
-unfolding jobOf cellsOf surveyOf
+unfolding cellsOf
 marks-reach file requests lent t e =
-    let b1 = bound _ _ _ e in
-    let s1 = bound _ _ _ (b1 .had) in
-    let s2 = bound _ _ _ (s1 .then) in
-    let same-case : record { counts = s1 .value; definitions = s2 .value } ≡ b1 .value = fine-same (s2 .then) in
-    let b2 = bound _ _ _ (b1 .then) in
-    let b3 = bound _ _ _ (b2 .then) in
-    let fits : b1 .value .counts .cells ≤ lent .marks = ltb-false _ _ (not-due 5 _ _ (b3 .had)) in
-    let cells : b1 .value .counts .cells ≡ countsOf file .cells =
-    ap (λ (c : Surveyed-case). c .counts .cells) (sym same-case) ∙ ap (λ (k : Counts). k .cells) (counts-are file (s1 .value) (s1 .had)) in
-    rw cells at fits
+    let r = accepted-room file requests lent t e in
+    prepared-fits file (length requests) lent (r .value) (r .had) .marks
+
+-- an accepted job reads cells of its case alone
+pub job-within : (file requests : List ℕ) (lent : Lent) (t : Asks (List ℕ)) → jobOf file requests lent ≡ fine t → Within (cellsOf file) t
+unfolding cellsOf
+job-within file requests lent t e =
+    let r = accepted-room file requests lent t e in
+    let same : serveAll (r .value) (lent .answers) (requestsIn requests) ≡ t = fine-same (r .then) in
+    rw (← same) (all-within (r .value) (serve-within file (length requests) lent (r .value) (r .had)) (lent .answers) (requestsIn requests))
   where
     fine-same : {A : Type 0} {a b : A} → fine a ≡ fine b → a ≡ b
     fine-same e = cc
@@ -89,3 +103,11 @@ module _ (requests : List ℕ) (words floats : ℕ) (answers marks : List ℕ) w
 
     pub unread-is-clear : (List·Memᴰ i (reads t (valuesOf file)) → ⊥) → getD (outcome file requests words floats answers marks .marks) i 0 ≡ 0
     unread-is-clear w = rw left-is (unread-clear (cellsOf (outside file)) answers marks reach t (valuesOf file) i cell w)
+
+  -- "later bytes keep theirs"
+  pub later-kept : (file : List ℕ) (t : Asks (List ℕ)) → job file ≡ fine t → (i : ℕ) → cellsOf (outside file) ≤ i → getD (outcome file requests words floats answers marks .marks) i 0 ≡ getD marks i 0
+  unfolding outcome job lent done
+  later-kept file t accepted i late =
+      let reach = marks-reach (outside file) requests lent t accepted in
+      let inside : (List·Memᴰ i (reads t (valuesOf file)) → ⊥) = λ w. let b = within-reads (valuesOf file) (job-within (outside file) requests lent t accepted) i w in omega (arith, b, late) in
+      rw accepted (unread-keeps (cleared (cellsOf (outside file)) marks) (reads t (valuesOf file)) i inside ∙ behind-cleared (cellsOf (outside file)) marks i reach late)

@@ -1,1 +1,6 @@
+pub mod WordLaws
+pub mod ListLaws
+pub mod AnswerLaws
+pub mod ThroughLaws
+pub mod JobLaws
 pub mod Demand3

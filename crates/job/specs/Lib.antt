@@ -1,3 +1,3 @@
-pub mod Requests
-pub mod Serve
+pub mod List
 pub mod Job
+pub mod Serving

@@ -1,17 +1,198 @@
-// A request, taken apart.
-use arith::Vec3;
-use lines::StreamlineDirection;
-use lines::StreamlineOptions;
-use sections::Plane;
+// The job: a case, a list of requests, and the buffers that are lent to it.
+use planes::Answered;
+use prepare::Place;
+use prepare::Prepared;
+use requests::request_of;
+ghost use mathlib.Core.Path.{_≡_};
+ghost use mathlib.Core.List.{List, _++_};
+ghost use Prim.Native.Nat.{ℕ, _+_, _-_, _*_, _/_, _≤_};
+ghost use lib.Ieee.{Float};
+ghost use lib.ListN.{length, set, take, replicate};
+ghost use Rattle.reading.specs.Result.{Result, fine};
+ghost use Rattle.reading.specs.After.{done, Left};
+ghost use Rattle.reading.specs.Marks.{cleared};
+ghost use Rattle.planes.specs.Reply.{answeredOf};
+ghost use Rattle.casefile.specs.Field.{valuesOf};
+ghost use Rattle.requests.specs.Requests.{wordsAt, requestsIn};
+ghost use Rattle.prepare.specs.Stands.{countsIn, roomIn, Stands};
+ghost use Rattle.job.specs.List.{fitting, answerWords, isFlat, serveAll};
+ghost use Rattle.job.specs.Job.{outcome, numberOf};
+ghost use Rattle.job.specs.Serving.{Placed, Behind, Told, answerTo};
 
-pub enum Request {
+// The job's result.
+pub enum Outcome {
+    Done,
     Refused(u64),
-    Locate(Vec3),
-    Velocity(Vec3),
-    Streamline(Vec3, StreamlineDirection, StreamlineOptions),
-    Rake(Vec3, Vec3, usize, StreamlineDirection, StreamlineOptions),
-    Section(Plane),
-    Statistics(Plane, usize),
-    Integrals(Plane),
-    Probe(Plane, Vec3),
+}
+
+// Stores the header at `at`: the refusal, or 0, and the count. Where the next answer goes.
+fn put_header(answers: &mut [u64], at: usize, refusal: u64, count: usize) -> usize
+    requires { ⌜ at + 2 + count ≤ length (now answers) ⌝ }
+    ensures { λ r. ⌜ (r ≡ at + 2 + count) × (now (answers .exit) ≡ set (set (now (answers .entry)) at refusal) (at + 1) count) ⌝ }
+{
+    answers[at] = refusal;
+    answers[at + 1] = count as u64;
+    at + 2 + count
+}
+
+// The header by what was answered; 44 where the words do not fit beside two for each later answer.
+fn close(answers: &mut [u64], at: usize, later: usize, r: Answered) -> usize
+    requires { ⌜ at + 2 + 2 * later ≤ length (now answers) ⌝ }
+    ensures { λ e. ⌜ ((reply : Result (List ℕ)) → r ≡ answeredOf reply → Behind reply (now (answers .entry)) at → Placed (answerWords (fitting (length (now (answers .entry)) - at) later reply)) (now (answers .entry)) (now (answers .exit)) at later e) ⌝ }
+{
+    match r {
+        Answered::Refused(k) => put_header(answers, at, k, 0),
+        Answered::Words(k) => {
+            if k <= answers.len() - at - 2 - 2 * later {
+                put_header(answers, at, 0, k)
+            } else {
+                put_header(answers, at, 44, 0)
+            }
+        }
+    }
+}
+
+fn is_flat(place: Place) -> bool
+    ensures { λ r. ⌜ ((file words : List ℕ) (floats : List Float) → r ≡ isFlat (roomIn file words floats place)) ⌝ }
+{
+    match place {
+        Place::Flat(_, _, _) => true,
+        Place::Solid(_, _) => false,
+    }
+}
+
+// No mark among the first `cells`.
+fn clear_marks(marks: &mut [u8], cells: usize)
+    requires { ⌜ cells ≤ length (now marks) ⌝ }
+    ensures { λ _. ⌜ now (marks .exit) ≡ cleared cells (now (marks .entry)) ⌝ }
+{
+    let mut i = 0;
+    while i < cells {
+        marks[i] = 0;
+        i += 1;
+    }
+}
+
+// Zeros from `at` on.
+fn clear_from(answers: &mut [u64], at: usize)
+    requires { ⌜ at ≤ length (now answers) ⌝ }
+    ensures { λ _. ⌜ now (answers .exit) ≡ take at (now (answers .entry)) ++ replicate (length (now (answers .entry)) - at) 0 ⌝ }
+{
+    let mut i = at;
+    while i < answers.len() {
+        answers[i] = 0;
+        i += 1;
+    }
+}
+
+fn cells_of(place: Place) -> usize
+    ensures { λ r. ⌜ r ≡ countsIn place .cells ⌝ }
+{
+    match place {
+        Place::Flat(n, _, _) => n.cells,
+        Place::Solid(n, _) => n.cells,
+    }
+}
+
+// The answer to the request at byte `from`, from word `at` on. Where the next one goes.
+fn answer(
+    case: &[u8],
+    requests: &[u8],
+    from: usize,
+    words: &[u32],
+    floats: &[f64],
+    place: Place,
+    marks: &mut [u8],
+    answers: &mut [u64],
+    at: usize,
+    later: usize,
+) -> usize
+    requires { ⌜ Stands (now case) (now words) (now floats) place × (countsIn place .cells ≤ length (now marks)) ⌝ }
+    requires { ⌜ (from + 128 ≤ length (now requests)) × (at + 2 + 2 * later ≤ length (now answers)) ⌝ }
+    ensures { λ r. ⌜ Told (answerTo (roomIn (now (case .entry)) (now (words .entry)) (now (floats .entry)) place) (length (now (answers .entry)) - at) later (wordsAt (now (requests .entry)) from)) (valuesOf (now (case .entry))) (now (marks .entry)) (now (marks .exit)) (now (answers .entry)) (now (answers .exit)) at later r ⌝ }
+{
+    let q = request_of(is_flat(place), requests, from);
+    let r = serve::serve(case, words, floats, place, marks, &mut answers[at + 2..], q);
+    close(answers, at, later, r)
+}
+
+// All answers, one after the other. Where the last one ends.
+fn serve_all(
+    case: &[u8],
+    requests: &[u8],
+    words: &[u32],
+    floats: &[f64],
+    place: Place,
+    marks: &mut [u8],
+    answers: &mut [u64],
+) -> usize
+    requires { ⌜ Stands (now case) (now words) (now floats) place × (countsIn place .cells ≤ length (now marks)) ⌝ }
+    requires { ⌜ 2 * (length (now requests) / 128) ≤ length (now answers) ⌝ }
+    ensures { λ r. ⌜ Told (serveAll (roomIn (now (case .entry)) (now (words .entry)) (now (floats .entry)) place) (length (now (answers .entry))) (requestsIn (now (requests .entry)))) (valuesOf (now (case .entry))) (now (marks .entry)) (now (marks .exit)) (now (answers .entry)) (now (answers .exit)) 0 0 r ⌝ }
+{
+    let count = requests.len() / 128;
+    let mut at = 0;
+    let mut i = 0;
+    while i < count {
+        at = answer(
+            case,
+            requests,
+            128 * i,
+            words,
+            floats,
+            place,
+            marks,
+            answers,
+            at,
+            count - i - 1,
+        );
+        i += 1;
+    }
+    at
+}
+
+// An accepted job.
+fn run(
+    case: &[u8],
+    requests: &[u8],
+    words: &[u32],
+    floats: &[f64],
+    place: Place,
+    marks: &mut [u8],
+    answers: &mut [u64],
+)
+    requires { ⌜ Stands (now case) (now words) (now floats) place × (countsIn place .cells ≤ length (now marks)) ⌝ }
+    requires { ⌜ 2 * (length (now requests) / 128) ≤ length (now answers) ⌝ }
+    ensures { λ _. ⌜ Left (done (fine (serveAll (roomIn (now (case .entry)) (now (words .entry)) (now (floats .entry)) place) (length (now (answers .entry))) (requestsIn (now (requests .entry))))) (valuesOf (now (case .entry))) (countsIn place .cells) (now (answers .entry)) (now (marks .entry))) 0 (now (answers .exit)) (now (marks .exit)) ⌝ }
+{
+    clear_marks(marks, cells_of(place));
+    let end = serve_all(case, requests, words, floats, place, marks, answers);
+    clear_from(answers, end);
+}
+
+// Builds the mesh of a case, then serves the requests in order.
+pub fn job(
+    case: &[u8],
+    requests: &[u8],
+    words: &mut [u32],
+    floats: &mut [f64],
+    marks: &mut [u8],
+    answers: &mut [u64],
+) -> Outcome
+    ensures { λ r. ⌜ Left (outcome (now (case .entry)) (now (requests .entry)) (length (now (words .entry))) (length (now (floats .entry))) (now (answers .entry)) (now (marks .entry))) (numberOf r) (now (answers .exit)) (now (marks .exit)) ⌝ }
+{
+    match prepare::prepare(
+        case,
+        words,
+        floats,
+        marks.len(),
+        requests.len(),
+        answers.len(),
+    ) {
+        Prepared::Refused(k) => Outcome::Refused(k),
+        Prepared::Ready(place) => {
+            run(case, requests, words, floats, place, marks, answers);
+            Outcome::Done
+        }
+    }
 }

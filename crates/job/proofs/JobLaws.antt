@@ -1,0 +1,55 @@
+-- The whole job, from what `prepare` and `run` promise. Assumes nothing.
+use Prim.Native.Nat.{ℕ, _*_, _/_, _≤_}
+use native.Mathlib.Omega.{arith}
+use mathlib.Core.Path.{_≡_, refl, ap, sym, _∙_}
+use mathlib.Core.List.{List}
+use lib.ListN.{length}
+use lib.Ieee.{Float}
+use Rattle.reading.specs.Result.{Result, refused, fine, _>>=_}
+use Rattle.reading.specs.After.{After, done, Left}
+use Rattle.casefile.specs.declared.Counts.{Counts}
+use Rattle.casefile.specs.declared.Opened.the-variants.{Case}
+use Rattle.casefile.specs.Trailer.{opened, openedCase, countsOf}
+use Rattle.casefile.specs.Field.{outside, cellsOf, valuesOf}
+use Rattle.casefile.proofs.OutsideLaws.{outside-counts}
+use Rattle.requests.specs.Requests.{requestsIn}
+use Rattle.prepare.specs.Room.{Room, Lent, prepared}
+use Rattle.prepare.specs.declared.Place.{Place}
+use Rattle.prepare.specs.declared.Prepared.{Prepared}
+use Rattle.prepare.specs.declared.Prepared.the-variants as Prepared
+use Rattle.prepare.specs.Stands.{roomIn, countsIn, Stands, Preparing}
+use Rattle.prepare.proofs.Laws.{prepared-outside, prepared-fits, counts-are, preparing-refused, preparing-ready}
+use Rattle.job.specs.List.{serveAll}
+use Rattle.job.specs.Job.{jobOf, outcome}
+
+-- the counts of a room that stands are its case's
+pub counts-stand : (file words : List ℕ) (floats : List Float) (p : Place) → Stands file words floats p → countsIn p ≡ countsOf file
+unfolding openedCase
+counts-stand file words floats p s = counts-are file (countsIn p) (ap openedCase (s .opens))
+
+module _ (file requests : List ℕ) (words floats : ℕ) (answers marks : List ℕ) where
+  abbrev lent : Lent
+  lent = record { words = words; floats = floats; marks = length marks; answers = length answers }
+
+  pub job-refused : {w : List ℕ} {f : List Float} {x : Prepared} {k : ℕ} → Preparing (prepared file (length requests) lent) file w f x → x ≡ Prepared.Refused k
+      → Left (outcome file requests words floats answers marks) k answers marks
+  unfolding outcome jobOf done _>>=_
+  job-refused p e = rw (prepared-outside file (length requests) lent ∙ preparing-refused p e) (record { same-result = refl; same-answers = refl; same-marks = refl })
+
+  -- what `run` asks
+  pub run-asks : {w : List ℕ} {f : List Float} {x : Prepared} {p : Place} → Preparing (prepared file (length requests) lent) file w f x → x ≡ Prepared.Ready p
+      → (Stands file w f p × (countsIn p .cells ≤ length marks)) × (2 * (length requests / 128) ≤ length answers)
+  run-asks {w} {f} {x} {p} h e =
+      let r = preparing-ready h e in
+      let fits = prepared-fits file (length requests) lent (roomIn file w f p) (r .0) in
+      let counts = counts-stand file w f p (r .1) in
+      ((r .1, rw counts (fits .marks)), fits .answers)
+
+  pub job-done : {w : List ℕ} {f : List Float} {x : Prepared} {p : Place} {answers′ marks′ : List ℕ} → Preparing (prepared file (length requests) lent) file w f x → x ≡ Prepared.Ready p
+      → Left (done (fine (serveAll (roomIn file w f p) (length answers) (requestsIn requests))) (valuesOf file) (countsIn p .cells) answers marks) 0 answers′ marks′
+      → Left (outcome file requests words floats answers marks) 0 answers′ marks′
+  unfolding outcome jobOf _>>=_ cellsOf
+  job-done {w} {f} {x} {p} h e l =
+      let r = preparing-ready h e in
+      let counts : countsIn p .cells ≡ cellsOf (outside file) = ap (λ (n : Counts). n .cells) (counts-stand file w f p (r .1) ∙ sym (outside-counts file)) in
+      rw (prepared-outside file (length requests) lent ∙ r .0) (rw counts at l)
