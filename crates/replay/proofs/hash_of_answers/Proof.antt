@@ -1,0 +1,52 @@
+-- `replay::hash_of_answers` is safe and ends. The measure is what is left. Assumes nothing.
+use Prim.Native.Nat.{_-_}
+use borrow.Author.Needs.{needs}
+use native.Mathlib.Omega.{arith}
+use lib.ListN.{length}
+use Rattle.replay.proofs.hash_of_answers.Statement.{statement}
+use Rattle.replay.proofs.hash_of_answers.Tie as tie
+
+abbrev Inv-loop : tie.InvT-loop
+Inv-loop answers hash₀ k₀ hash k = Unit {0}
+
+abbrev μ-loop : tie.MeasureT-loop
+μ-loop answers hash₀ k₀ hash k = length answers - k
+
+loop-holds : tie.Need-loop-holds Inv-loop μ-loop
+loop-holds c = tt
+
+mul-hashed : tie.Need-mul-hashed Inv-loop μ-loop
+mul-hashed c = search needs
+
+shared-slice-read-hashed : tie.Need-shared-slice-read-hashed Inv-loop μ-loop
+shared-slice-read-hashed c = omega arith
+
+hashed-requires : tie.Need-hashed-requires Inv-loop μ-loop
+hashed-requires c κs = tt
+
+add-k : tie.Need-add-k Inv-loop μ-loop
+add-k c = omega arith
+
+loop-less : tie.Need-loop-less Inv-loop μ-loop
+loop-less c = omega arith
+
+loop-again : tie.Need-loop-again Inv-loop μ-loop
+loop-again c = tt
+
+returns : tie.Need-returns Inv-loop μ-loop
+returns c = tt
+
+pub hash-of-answers-spec : {M : Type 1} → statement M
+hash-of-answers-spec =
+    tie.close
+    (tie.spec
+    Inv-loop
+    μ-loop
+    loop-holds
+    mul-hashed
+    shared-slice-read-hashed
+    hashed-requires
+    add-k
+    loop-less
+    loop-again
+    returns)

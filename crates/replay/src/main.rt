@@ -1,0 +1,286 @@
+// Runs the job on each pair of a case and a list of requests of the file `pairs`. A line for each:
+// its name, then `refused` and the number, or `done`, and the FNV-1a hashes of all bytes of the
+// answers and of the marks. Before each job every answer word is 5555555555555555 (hexadecimal) and
+// every mark 7; the work areas hold what earlier jobs left there. Where the pair asks for it, what
+// `airjob` would print follows.
+//
+// The file holds the number of pairs, then for each the length of its name, the name, 1 if the
+// answers are shown or else 0, the lengths of the two lent areas, of the marks and of the answers,
+// the case and the requests. Each of the last two is a number of pieces, then the pieces: a number
+// of bytes, the length that there is after it, and the bytes, which are repeated up to that length.
+// Numbers are u32. oracle/replay makes the file, and has the reference say what each pair is due.
+use arith::bytes;
+use job::Outcome;
+use libc::STDOUT_FILENO;
+ghost use Prim.Native.Nat.{_≤_, _<_};
+ghost use lib.ListN.{length};
+
+// The longest case: 65,537 points.
+const CASE: usize = 1_572_920;
+
+// The longest list: 4,097 requests.
+const REQUESTS: usize = 524_416;
+
+// The longest buffers that are lent.
+const WORDS: usize = 32768;
+
+const FLOATS: usize = 16384;
+
+const MARKS: usize = 16384;
+
+const ANSWERS: usize = 16384;
+
+// Room for what is shown.
+const TEXT: usize = 16384;
+
+const EMPTY: u64 = 0xcbf2_9ce4_8422_2325;
+
+// The product with the prime 2^40 + 435, of 64 bits.
+fn times_prime(h: u64) -> u64 {
+    let low = h % 4294967296 * 435;
+    let high = h / 4294967296 * 435 % 4294967296 * 4294967296;
+    let top = h % 16777216 * 1099511627776;
+    let sum = std::num::wrapping_add_u64(low, high);
+    std::num::wrapping_add_u64(sum, top)
+}
+
+// FNV-1a over one byte.
+fn hashed_byte(h: u64, b: u8) -> u64 {
+    times_prime(h ^ (b as u64))
+}
+
+// FNV-1a over the eight bytes of x.
+fn hashed(h: u64, x: u64) -> u64 {
+    let mut hash = h;
+    let mut left = x;
+    let mut k = 0usize;
+    while k < 8 {
+        hash = times_prime(hash ^ (left % 256));
+        left = left / 256;
+        k += 1;
+    }
+    hash
+}
+
+fn hash_of_answers(answers: &[u64]) -> u64 {
+    let mut hash = EMPTY;
+    let mut k = 0;
+    while k < answers.len() {
+        hash = hashed(hash, answers[k]);
+        k += 1;
+    }
+    hash
+}
+
+fn hash_of_marks(marks: &[u8]) -> u64 {
+    let mut hash = EMPTY;
+    let mut k = 0;
+    while k < marks.len() {
+        hash = hashed_byte(hash, marks[k]);
+        k += 1;
+    }
+    hash
+}
+
+fn fill_answers(answers: &mut [u64]) {
+    let mut k = 0;
+    while k < answers.len() {
+        answers[k] = 0x5555_5555_5555_5555;
+        k += 1;
+    }
+}
+
+fn fill_marks(marks: &mut [u8]) {
+    let mut k = 0;
+    while k < marks.len() {
+        marks[k] = 7;
+        k += 1;
+    }
+}
+
+// Ends the line of a pair with the hashes of its buffers.
+fn show_hashes(answers: &[u64], marks: &[u8]) {
+    io::write_all(STDOUT_FILENO, b" ");
+    io::print_hex(STDOUT_FILENO, hash_of_answers(answers), 16);
+    io::write_all(STDOUT_FILENO, b" ");
+    io::print_hex(STDOUT_FILENO, hash_of_marks(marks), 16);
+    io::write_all(STDOUT_FILENO, b"\n");
+}
+
+// The first n bytes of the text, if there are as many.
+fn show_text(text: &[u8], n: usize) {
+    if n <= text.len() {
+        io::write_all(STDOUT_FILENO, &text[..n]);
+    }
+}
+
+fn show_refusal(shown: bool, k: u64, marks: &[u8], answers: &[u64], text: &mut [u8]) {
+    io::write_all(STDOUT_FILENO, b"refused ");
+    io::print_decimal(STDOUT_FILENO, k);
+    show_hashes(answers, marks);
+    if shown {
+        let n = listing::put_refusal(text, k);
+        show_text(text, n);
+    }
+}
+
+// The number of requests; more than 4,096 are refused.
+fn count_of(requests: &[u8]) -> usize
+    ensures { λ r. ⌜ r ≤ 4096 ⌝ }
+{
+    let n = requests.len() / 128;
+    if n < 4096 { n } else { 4096 }
+}
+
+fn show_done(shown: bool, count: usize, marks: &[u8], answers: &[u64], text: &mut [u8])
+    requires { ⌜ (count ≤ 4096) × (length (now marks) < 4294967296) × (length (now answers) < 4294967296) ⌝ }
+{
+    io::write_all(STDOUT_FILENO, b"done");
+    show_hashes(answers, marks);
+    if shown {
+        let n = listing::put_done(text, answers, count, marks);
+        show_text(text, n);
+    }
+}
+
+// Runs the job of a pair and shows it.
+fn show_job(
+    shown: bool,
+    case: &[u8],
+    requests: &[u8],
+    words: &mut [u32],
+    floats: &mut [f64],
+    marks: &mut [u8],
+    answers: &mut [u64],
+    text: &mut [u8],
+)
+    requires { ⌜ (length (now marks) < 4294967296) × (length (now answers) < 4294967296) ⌝ }
+{
+    fill_answers(answers);
+    fill_marks(marks);
+    match job::job(case, requests, words, floats, marks, answers) {
+        Outcome::Refused(k) => show_refusal(shown, k, marks, answers, text),
+        Outcome::Done => show_done(shown, count_of(requests), marks, answers, text),
+    }
+}
+
+// The next number of the file, or `most` if it is above that.
+fn number(fd: i32, most: usize) -> usize
+    ensures { λ r. ⌜ (r ≤ most) × (r < 4294967296) ⌝ }
+{
+    let mut four = [0u8; 4];
+    io::read_full(fd, &mut four);
+    let n = bytes::word_at(&four, 0) as usize;
+    if n < most { n } else { most }
+}
+
+// Prints the name of the next pair; `room` is to read it into.
+fn show_name(fd: i32, room: &mut [u8]) {
+    let n = number(fd, room.len());
+    io::read_full(fd, &mut room[..n]);
+    io::write_all(STDOUT_FILENO, &room[..n]);
+    io::write_all(STDOUT_FILENO, b": ");
+}
+
+// Repeats the n bytes before `from` up to `end`.
+fn repeat(room: &mut [u8], n: usize, from: usize, end: usize)
+    requires { ⌜ (n ≤ from) × (end ≤ length (now room)) ⌝ }
+{
+    let mut k = from;
+    while k < end {
+        room[k] = room[k - n];
+        k += 1;
+    }
+}
+
+// Adds the next piece of the file to the first `from` bytes, and answers how many there are then.
+fn piece(fd: i32, room: &mut [u8], from: usize) -> usize
+    requires { ⌜ from ≤ length (now room) ⌝ }
+    ensures { λ r. ⌜ r ≤ length (now (room .exit)) ⌝ }
+{
+    let n = number(fd, room.len() - from);
+    let end = number(fd, room.len());
+    let copied = from + n;
+    io::read_full(fd, &mut room[from..copied]);
+    repeat(room, n, copied, end);
+    if copied < end { end } else { copied }
+}
+
+// Puts the next pieces of the file together, and answers how many bytes they are.
+fn assemble(fd: i32, room: &mut [u8]) -> usize
+    ensures { λ r. ⌜ r ≤ length (now (room .exit)) ⌝ }
+{
+    let pieces = number(fd, 65536);
+    let mut end = 0;
+    let mut i = 0;
+    while i < pieces {
+        end = piece(fd, room, end);
+        i += 1;
+    }
+    end
+}
+
+// Shows the next pair of the file.
+fn show(
+    fd: i32,
+    case: &mut [u8],
+    requests: &mut [u8],
+    words: &mut [u32],
+    floats: &mut [f64],
+    marks: &mut [u8],
+    answers: &mut [u64],
+    text: &mut [u8],
+) {
+    show_name(fd, text);
+    let shown = number(fd, 1) == 1;
+    let w = number(fd, words.len());
+    let f = number(fd, floats.len());
+    let m = number(fd, marks.len());
+    let a = number(fd, answers.len());
+    let c = assemble(fd, case);
+    let r = assemble(fd, requests);
+    show_job(
+        shown,
+        &case[..c],
+        &requests[..r],
+        &mut words[..w],
+        &mut floats[..f],
+        &mut marks[..m],
+        &mut answers[..a],
+        text,
+    );
+}
+
+fn show_all(fd: i32) {
+    let mut case_room = [0u8; CASE];
+    let mut requests_room = [0u8; REQUESTS];
+    let mut words_room = [0u32; WORDS];
+    let mut floats_room = [0.0; FLOATS];
+    let mut marks_room = [0u8; MARKS];
+    let mut answers_room = [0u64; ANSWERS];
+    let mut text_room = [0u8; TEXT];
+    let case: &mut [u8] = &mut case_room;
+    let requests: &mut [u8] = &mut requests_room;
+    let words: &mut [u32] = &mut words_room;
+    let floats: &mut [f64] = &mut floats_room;
+    let marks: &mut [u8] = &mut marks_room;
+    let answers: &mut [u64] = &mut answers_room;
+    let text: &mut [u8] = &mut text_room;
+    let count = number(fd, 65536);
+    let mut i = 0;
+    while i < count {
+        show(fd, case, requests, words, floats, marks, answers, text);
+        i += 1;
+    }
+}
+
+fn main() {
+    let path = b"pairs";
+    let fd = os::open_read(path);
+    if fd < 0 {
+        os::fail(path);
+        return;
+    }
+    show_all(fd);
+    libc::close(fd);
+}
