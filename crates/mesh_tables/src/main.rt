@@ -14,8 +14,7 @@ use arith::Vec3;
 use arith::bytes;
 use libc::STDOUT_FILENO;
 use mesh::Built;
-ghost use Prim.Native.Nat.{_≤_, _<_};
-ghost use lib.ListN.{length};
+use stored::fnv;
 ghost use Rattle.area.specs.Layout.{LentWords, LentFloats};
 
 // The longest case, and the longest areas that are lent.
@@ -31,34 +30,12 @@ pub struct Digest {
     pub shown: bool,
 }
 
-// The product with the prime 2^40 + 435, of 64 bits.
-fn times_prime(h: u64) -> u64 {
-    let low = h % 4294967296 * 435;
-    let high = h / 4294967296 * 435 % 4294967296 * 4294967296;
-    let top = h % 16777216 * 1099511627776;
-    let sum = std::num::wrapping_add_u64(low, high);
-    std::num::wrapping_add_u64(sum, top)
-}
-
-// FNV-1a over the eight bytes of x.
-fn hashed(h: u64, x: u64) -> u64 {
-    let mut hash = h;
-    let mut left = x;
-    let mut k = 0usize;
-    while k < 8 {
-        hash = times_prime(hash ^ (left % 256));
-        left = left / 256;
-        k += 1;
-    }
-    hash
-}
-
 fn put(d: Digest, x: u64) -> Digest {
     if d.shown {
         io::write_all(STDOUT_FILENO, b" ");
         io::print_hex(STDOUT_FILENO, x, 16);
     }
-    let hash = hashed(d.hash, x);
+    let hash = fnv::word(d.hash, x);
     Digest {
         hash,
         shown: d.shown,
@@ -191,7 +168,7 @@ fn put_tables(shown: bool, words: &[u32], floats: &[f64], s: Sizes) -> u64
     requires { ⌜ LentWords s (now words) × LentFloats s (now floats) ⌝ }
 {
     let d = Digest {
-        hash: 0xcbf2_9ce4_8422_2325,
+        hash: fnv::EMPTY,
         shown,
     };
     let d = put_face_table(d, words, floats, s);
@@ -227,31 +204,13 @@ fn show_case(shown: bool, case: &[u8], words: &mut [u32], floats: &mut [f64]) {
     }
 }
 
-// The next number of the file, or `most` if it is above that.
-fn number(fd: i32, most: usize) -> usize
-    ensures { λ r. ⌜ r ≤ most ⌝ }
-{
-    let mut four = [0u8; 4];
-    io::read_full(fd, &mut four);
-    let n = bytes::word_at(&four, 0) as usize;
-    if n < most { n } else { most }
-}
-
-// Prints the name of the next case; `room` is to read it into.
-fn show_name(fd: i32, room: &mut [u8]) {
-    let n = number(fd, room.len());
-    io::read_full(fd, &mut room[..n]);
-    io::write_all(STDOUT_FILENO, &room[..n]);
-    io::write_all(STDOUT_FILENO, b": ");
-}
-
 // Prints what the next case is due.
 fn show(fd: i32, case: &mut [u8], words: &mut [u32], floats: &mut [f64]) {
-    show_name(fd, case);
-    let shown = number(fd, 1) == 1;
-    let w = number(fd, words.len());
-    let f = number(fd, floats.len());
-    let end = number(fd, case.len());
+    stored::show_name(fd, case);
+    let shown = stored::number(fd, 1) == 1;
+    let w = stored::number(fd, words.len());
+    let f = stored::number(fd, floats.len());
+    let end = stored::number(fd, case.len());
     io::read_full(fd, &mut case[..end]);
     show_case(shown, &case[..end], &mut words[..w], &mut floats[..f]);
 }
@@ -263,7 +222,7 @@ fn show_all(fd: i32) {
     let case: &mut [u8] = &mut case_room;
     let words: &mut [u32] = &mut words_room;
     let floats: &mut [f64] = &mut floats_room;
-    let count = number(fd, 65536);
+    let count = stored::number(fd, 65536);
     let mut i = 0;
     while i < count {
         show(fd, case, words, floats);

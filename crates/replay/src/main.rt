@@ -6,12 +6,11 @@
 //
 // The file holds the number of pairs, then for each the length of its name, the name, 1 if the
 // answers are shown or else 0, the lengths of the two lent areas, of the marks and of the answers,
-// the case and the requests. Each of the last two is a number of pieces, then the pieces: a number
-// of bytes, the length that there is after it, and the bytes, which are repeated up to that length.
-// Numbers are u32. oracle/replay makes the file, and has the reference say what each pair is due.
-use arith::bytes;
+// the case and the requests, each a text of pieces (`stored`). oracle/replay makes the file, and has
+// the reference say what each pair is due.
 use job::Outcome;
 use libc::STDOUT_FILENO;
+use stored::fnv;
 ghost use Prim.Native.Nat.{_≤_, _<_};
 ghost use lib.ListN.{length};
 
@@ -33,50 +32,21 @@ const ANSWERS: usize = 16384;
 // Room for what is shown.
 const TEXT: usize = 16384;
 
-const EMPTY: u64 = 0xcbf2_9ce4_8422_2325;
-
-// The product with the prime 2^40 + 435, of 64 bits.
-fn times_prime(h: u64) -> u64 {
-    let low = h % 4294967296 * 435;
-    let high = h / 4294967296 * 435 % 4294967296 * 4294967296;
-    let top = h % 16777216 * 1099511627776;
-    let sum = std::num::wrapping_add_u64(low, high);
-    std::num::wrapping_add_u64(sum, top)
-}
-
-// FNV-1a over one byte.
-fn hashed_byte(h: u64, b: u8) -> u64 {
-    times_prime(h ^ (b as u64))
-}
-
-// FNV-1a over the eight bytes of x.
-fn hashed(h: u64, x: u64) -> u64 {
-    let mut hash = h;
-    let mut left = x;
-    let mut k = 0usize;
-    while k < 8 {
-        hash = times_prime(hash ^ (left % 256));
-        left = left / 256;
-        k += 1;
-    }
-    hash
-}
-
 fn hash_of_answers(answers: &[u64]) -> u64 {
-    let mut hash = EMPTY;
+    let mut hash = fnv::EMPTY;
     let mut k = 0;
     while k < answers.len() {
-        hash = hashed(hash, answers[k]);
+        hash = fnv::word(hash, answers[k]);
         k += 1;
     }
     hash
 }
 
 fn hash_of_marks(marks: &[u8]) -> u64 {
-    let mut hash = EMPTY;
+    let mut hash = fnv::EMPTY;
     let mut k = 0;
     while k < marks.len() {
-        hash = hashed_byte(hash, marks[k]);
+        hash = fnv::byte(hash, marks[k]);
         k += 1;
     }
     hash
@@ -164,62 +134,6 @@ fn show_job(
     }
 }
 
-// The next number of the file, or `most` if it is above that.
-fn number(fd: i32, most: usize) -> usize
-    ensures { λ r. ⌜ (r ≤ most) × (r < 4294967296) ⌝ }
-{
-    let mut four = [0u8; 4];
-    io::read_full(fd, &mut four);
-    let n = bytes::word_at(&four, 0) as usize;
-    if n < most { n } else { most }
-}
-
-// Prints the name of the next pair; `room` is to read it into.
-fn show_name(fd: i32, room: &mut [u8]) {
-    let n = number(fd, room.len());
-    io::read_full(fd, &mut room[..n]);
-    io::write_all(STDOUT_FILENO, &room[..n]);
-    io::write_all(STDOUT_FILENO, b": ");
-}
-
-// Repeats the n bytes before `from` up to `end`.
-fn repeat(room: &mut [u8], n: usize, from: usize, end: usize)
-    requires { ⌜ (n ≤ from) × (end ≤ length (now room)) ⌝ }
-{
-    let mut k = from;
-    while k < end {
-        room[k] = room[k - n];
-        k += 1;
-    }
-}
-
-// Adds the next piece of the file to the first `from` bytes, and answers how many there are then.
-fn piece(fd: i32, room: &mut [u8], from: usize) -> usize
-    requires { ⌜ from ≤ length (now room) ⌝ }
-    ensures { λ r. ⌜ r ≤ length (now (room .exit)) ⌝ }
-{
-    let n = number(fd, room.len() - from);
-    let end = number(fd, room.len());
-    let copied = from + n;
-    io::read_full(fd, &mut room[from..copied]);
-    repeat(room, n, copied, end);
-    if copied < end { end } else { copied }
-}
-
-// Puts the next pieces of the file together, and answers how many bytes they are.
-fn assemble(fd: i32, room: &mut [u8]) -> usize
-    ensures { λ r. ⌜ r ≤ length (now (room .exit)) ⌝ }
-{
-    let pieces = number(fd, 65536);
-    let mut end = 0;
-    let mut i = 0;
-    while i < pieces {
-        end = piece(fd, room, end);
-        i += 1;
-    }
-    end
-}
-
 // Shows the next pair of the file.
 fn show(
     fd: i32,
@@ -231,14 +145,14 @@ fn show(
     answers: &mut [u64],
     text: &mut [u8],
 ) {
-    show_name(fd, text);
-    let shown = number(fd, 1) == 1;
-    let w = number(fd, words.len());
-    let f = number(fd, floats.len());
-    let m = number(fd, marks.len());
-    let a = number(fd, answers.len());
-    let c = assemble(fd, case);
-    let r = assemble(fd, requests);
+    stored::show_name(fd, text);
+    let shown = stored::number(fd, 1) == 1;
+    let w = stored::number(fd, words.len());
+    let f = stored::number(fd, floats.len());
+    let m = stored::number(fd, marks.len());
+    let a = stored::number(fd, answers.len());
+    let c = stored::assemble(fd, case);
+    let r = stored::assemble(fd, requests);
     show_job(
         shown,
         &case[..c],
@@ -266,7 +180,7 @@ fn show_all(fd: i32) {
     let marks: &mut [u8] = &mut marks_room;
     let answers: &mut [u64] = &mut answers_room;
     let text: &mut [u8] = &mut text_room;
-    let count = number(fd, 65536);
+    let count = stored::number(fd, 65536);
     let mut i = 0;
     while i < count {
         show(fd, case, requests, words, floats, marks, answers, text);

@@ -1,4 +1,4 @@
--- `case_refusals::show` is safe: what `piece` and `make` answer lies within the room. Assumes nothing.
+-- `case_refusals::show` is safe: what `piece` and `assemble` answer lies within the room. Assumes nothing.
 use borrow.Author.Needs.{needs}
 use native.Mathlib.Omega.{arith}
 use lib.ListN.{length-take}
@@ -23,8 +23,8 @@ slice-aggregate-write-all-2 c = search needs
 write-all-requires-2 : tie.Need-write-all-requires-2
 write-all-requires-2 c κs = search needs
 
-make-requires : tie.Need-make-requires
-make-requires c κs = search needs
+assemble-requires : tie.Need-assemble-requires
+assemble-requires c κs = search needs
 
 slice-reshare-prefix-read : tie.Need-slice-reshare-prefix-read
 slice-reshare-prefix-read c = search needs
@@ -54,7 +54,7 @@ show-spec =
     write-all-requires
     slice-aggregate-write-all-2
     write-all-requires-2
-    make-requires
+    assemble-requires
     slice-reshare-prefix-read
     slice-aggregate-read
     read-requires

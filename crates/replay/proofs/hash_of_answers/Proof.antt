@@ -15,14 +15,14 @@ abbrev μ-loop : tie.MeasureT-loop
 loop-holds : tie.Need-loop-holds Inv-loop μ-loop
 loop-holds c = tt
 
-mul-hashed : tie.Need-mul-hashed Inv-loop μ-loop
-mul-hashed c = search needs
+mul-word : tie.Need-mul-word Inv-loop μ-loop
+mul-word c = search needs
 
-shared-slice-read-hashed : tie.Need-shared-slice-read-hashed Inv-loop μ-loop
-shared-slice-read-hashed c = omega arith
+shared-slice-read-word : tie.Need-shared-slice-read-word Inv-loop μ-loop
+shared-slice-read-word c = omega arith
 
-hashed-requires : tie.Need-hashed-requires Inv-loop μ-loop
-hashed-requires c κs = tt
+word-requires : tie.Need-word-requires Inv-loop μ-loop
+word-requires c κs = tt
 
 add-k : tie.Need-add-k Inv-loop μ-loop
 add-k c = omega arith
@@ -43,9 +43,9 @@ hash-of-answers-spec =
     Inv-loop
     μ-loop
     loop-holds
-    mul-hashed
-    shared-slice-read-hashed
-    hashed-requires
+    mul-word
+    shared-slice-read-word
+    word-requires
     add-k
     loop-less
     loop-again

@@ -14,11 +14,11 @@ abbrev μ-loop : tie.MeasureT-loop
 loop-holds : tie.Need-loop-holds Inv-loop μ-loop
 loop-holds c = tt
 
-shared-slice-read-hashed-byte : tie.Need-shared-slice-read-hashed-byte Inv-loop μ-loop
-shared-slice-read-hashed-byte c = omega arith
+shared-slice-read-byte : tie.Need-shared-slice-read-byte Inv-loop μ-loop
+shared-slice-read-byte c = omega arith
 
-hashed-byte-requires : tie.Need-hashed-byte-requires Inv-loop μ-loop
-hashed-byte-requires c κs = tt
+byte-requires : tie.Need-byte-requires Inv-loop μ-loop
+byte-requires c κs = tt
 
 add-k : tie.Need-add-k Inv-loop μ-loop
 add-k c = omega arith
@@ -39,8 +39,8 @@ hash-of-marks-spec =
     Inv-loop
     μ-loop
     loop-holds
-    shared-slice-read-hashed-byte
-    hashed-byte-requires
+    shared-slice-read-byte
+    byte-requires
     add-k
     loop-less
     loop-again

@@ -1,11 +1,11 @@
--- `replay::repeat` is safe and ends. The measure is what is left up to the end. Assumes nothing.
+-- `stored::repeat` is safe and ends. The measure is what is left up to the end. Assumes nothing.
 use Prim.Native.Nat.{_≤_, _-_}
 use mathlib.Core.Path.{_≡_}
 use borrow.Author.Needs.{needs}
 use native.Mathlib.Omega.{arith}
 use lib.ListN.{length, length-set}
-use Rattle.replay.proofs.repeat.Statement.{statement}
-use Rattle.replay.proofs.repeat.Tie as tie
+use Rattle.stored.proofs.repeat.Statement.{statement}
+use Rattle.stored.proofs.repeat.Tie as tie
 
 abbrev Inv-loop : tie.InvT-loop
 Inv-loop room₀ n from end k₀ room k = (n ≤ k) × (length room ≡ length room₀)

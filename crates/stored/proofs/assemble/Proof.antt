@@ -1,17 +1,17 @@
--- `case_refusals::make` meets its contract. The measure is the number of pieces that are left. Assumes nothing.
+-- `stored::assemble` meets its contract. The measure is the number of pieces that are left. Assumes nothing.
 use Prim.Native.Nat.{_≤_, _-_}
 use mathlib.Core.Path.{_≡_}
 use borrow.Author.Needs.{needs}
 use native.Mathlib.Omega.{arith}
 use lib.ListN.{length}
-use Rattle.case_refusals.proofs.make.Statement.{statement}
-use Rattle.case_refusals.proofs.make.Tie as tie
+use Rattle.stored.proofs.assemble.Statement.{statement}
+use Rattle.stored.proofs.assemble.Tie as tie
 
 abbrev Inv-loop : tie.InvT-loop
-Inv-loop fd case₀ pieces end₀ i₀ case end i = (end ≤ length case) × (length case ≡ length case₀)
+Inv-loop fd room₀ pieces end₀ i₀ room end i = (end ≤ length room) × (length room ≡ length room₀)
 
 abbrev μ-loop : tie.MeasureT-loop
-μ-loop fd case₀ pieces end₀ i₀ case end i = pieces - i
+μ-loop fd room₀ pieces end₀ i₀ room end i = pieces - i
 
 number-requires : tie.Need-number-requires Inv-loop μ-loop
 number-requires c κs = search needs
@@ -37,8 +37,8 @@ same-length c = search needs
 returns : tie.Need-returns Inv-loop μ-loop
 returns c = search needs
 
-pub make-spec : {M : Type 1} → statement M
-make-spec =
+pub assemble-spec : {M : Type 1} → statement M
+assemble-spec =
     tie.close
     (tie.spec
     Inv-loop

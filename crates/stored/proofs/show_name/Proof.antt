@@ -1,9 +1,9 @@
--- `replay::show_name` is safe. Assumes nothing.
+-- `stored::show_name` is safe. Assumes nothing.
 use borrow.Author.Needs.{needs}
 use native.Mathlib.Omega.{arith}
 use lib.ListN.{length-take}
-use Rattle.replay.proofs.show_name.Statement.{statement}
-use Rattle.replay.proofs.show_name.Tie as tie
+use Rattle.stored.proofs.show_name.Statement.{statement}
+use Rattle.stored.proofs.show_name.Tie as tie
 
 number-requires : tie.Need-number-requires
 number-requires c κs = search needs

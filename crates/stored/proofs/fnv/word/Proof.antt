@@ -1,8 +1,8 @@
--- `mesh_tables::hashed` is safe and ends. The measure is the number of bytes that are left. Assumes nothing.
+-- `stored::fnv::word` is safe and ends. The measure is the number of bytes that are left. Assumes nothing.
 use Prim.Native.Nat.{_-_}
 use native.Mathlib.Omega.{arith}
-use Rattle.mesh_tables.proofs.hashed.Statement.{statement}
-use Rattle.mesh_tables.proofs.hashed.Tie as tie
+use Rattle.stored.proofs.fnv.word.Statement.{statement}
+use Rattle.stored.proofs.fnv.word.Tie as tie
 
 abbrev Inv-loop : tie.InvT-loop
 Inv-loop h x hash₀ left₀ k₀ hash left k = Unit {0}
@@ -28,5 +28,7 @@ loop-again c = tt
 returns : tie.Need-returns Inv-loop μ-loop
 returns c = tt
 
-pub hashed-spec : {M : Type 1} → statement M
-hashed-spec = tie.close (tie.spec Inv-loop μ-loop loop-holds times-prime-requires add-k loop-less loop-again returns)
+pub word-spec : {M : Type 1} → statement M
+word-spec =
+    tie.close
+    (tie.spec Inv-loop μ-loop loop-holds times-prime-requires add-k loop-less loop-again returns)
