@@ -1,4 +1,5 @@
-// The walker over the definition words, which are the bytes `words`: a cursor by value.
+// The walker over the definition words, which are the bytes `words`. `step` does the work, on a cursor by value; `start`, `past` and
+// `head` are thin functions over a struct that holds the words and a position. Definitions are read by `record_at`.
 use crate::Counts;
 use crate::Cursor;
 use crate::Head;
@@ -12,8 +13,14 @@ ghost use Prim.Native.Nat.{_+_, _*_, _≤_, _<_};
 ghost use lib.ListN.{length, getD, drop};
 ghost use Rattle.casefile.specs.Trailer.{wordsFrom, wordsIn, wordsOf};
 ghost use Rattle.casefile.specs.Definitions.{definitions, faceLists};
-ghost use Rattle.casefile.specs.Walker as Walker;
+ghost use Rattle.casefile.specs.Walker.{stepAt, walked};
 ghost use Rattle.casefile.specs.Helpers as Helpers;
+
+// The definition words, from a position on.
+pub struct Walker<'a> {
+    pub words: &'a [u8],
+    pub at: usize,
+}
 
 // The bytes of a case's definition words.
 pub fn words(case: &[u8], n: Counts) -> &[u8]
@@ -61,7 +68,7 @@ fn list_at(words: &[u8], at: usize, limit: usize) -> Listed
 // A polygon: a count of at most 24, then its numbers.
 fn polygon(words: &[u8], at: usize) -> Step
     requires { ⌜ Helpers.KindAt (wordsIn (now words)) at 0 ⌝ }
-    ensures { λ r. ⌜ r ≡ Walker.stepAt (wordsIn (now (words .entry))) at ⌝ }
+    ensures { λ r. ⌜ r ≡ stepAt (wordsIn (now (words .entry))) at ⌝ }
 {
     match list_at(words, at + 1, 24) {
         Listed::Bad => Step::Wrong(3),
@@ -80,7 +87,7 @@ fn polygon(words: &[u8], at: usize) -> Step
 // A solid: its numbers.
 fn solid(words: &[u8], at: usize, kind: u32, numbers: usize, faces: usize) -> Step
     requires { ⌜ Helpers.SolidAt (wordsIn (now words)) at kind numbers faces ⌝ }
-    ensures { λ r. ⌜ r ≡ Walker.stepAt (wordsIn (now (words .entry))) at ⌝ }
+    ensures { λ r. ⌜ r ≡ stepAt (wordsIn (now (words .entry))) at ⌝ }
 {
     if total(words) - at - 1 < numbers {
         return Step::Wrong(3);
@@ -118,7 +125,7 @@ fn skip_faces(words: &[u8], first: usize, n: usize) -> Skipped
 // A polyhedron: a face count of at most 24, then its faces.
 fn polyhedron(words: &[u8], at: usize) -> Step
     requires { ⌜ Helpers.KindAt (wordsIn (now words)) at 5 ⌝ }
-    ensures { λ r. ⌜ r ≡ Walker.stepAt (wordsIn (now (words .entry))) at ⌝ }
+    ensures { λ r. ⌜ r ≡ stepAt (wordsIn (now (words .entry))) at ⌝ }
 {
     let all = total(words);
     if all <= at + 1 {
@@ -143,8 +150,8 @@ fn polyhedron(words: &[u8], at: usize) -> Step
 }
 
 // The record at a cursor, and the cursor after it.
-pub fn step(words: &[u8], c: Cursor) -> Step
-    ensures { λ r. ⌜ r ≡ Walker.stepAt (wordsIn (now (words .entry))) (c .at) ⌝ }
+fn step(words: &[u8], c: Cursor) -> Step
+    ensures { λ r. ⌜ r ≡ stepAt (wordsIn (now (words .entry))) (c .at) ⌝ }
 {
     let at = c.at;
     if total(words) <= at {
@@ -161,15 +168,46 @@ pub fn step(words: &[u8], c: Cursor) -> Step
     }
 }
 
+// A walker at the start of the words.
+pub fn start<'a>(words: &'a [u8]) -> Walker<'a>
+    ensures { λ r. ⌜ (r .words ≡ words .entry) × (r .at ≡ 0) ⌝ }
+{
+    Walker { words, at: 0 }
+}
+
+// The walker past all that stands before a cursor, such as the record that was read.
+pub fn past<'a>(w: Walker<'a>, next: Cursor) -> Walker<'a>
+    ensures { λ r. ⌜ (r .words ≡ w .entry .words) × (r .at ≡ next .at) ⌝ }
+{
+    Walker {
+        words: w.words,
+        at: next.at,
+    }
+}
+
+// The record at a walker, and the cursor after it.
+pub fn head<'a>(w: Walker<'a>) -> Step
+    ensures { λ r. ⌜ r ≡ stepAt (wordsIn (now (w .entry .words))) (w .entry .at) ⌝ }
+{
+    step(w.words, Cursor { at: w.at })
+}
+
+// The record at a cursor, and the cursor after it, read through a walker.
+pub fn record_at(words: &[u8], c: Cursor) -> Step
+    ensures { λ r. ⌜ r ≡ stepAt (wordsIn (now (words .entry))) (c .at) ⌝ }
+{
+    head(past(start(words), c))
+}
+
 // The number of faces of all records, which are exactly as many as the cells; or refusal 3.
 pub fn walk(words: &[u8], cells: usize) -> Walked
-    ensures { λ r. ⌜ r ≡ Walker.walked (definitions cells (wordsIn (now (words .entry)))) ⌝ }
+    ensures { λ r. ⌜ r ≡ walked (definitions cells (wordsIn (now (words .entry)))) ⌝ }
 {
     let mut at = 0;
     let mut faces = 0;
     let mut i = 0;
     while i < cells {
-        match step(words, Cursor { at }) {
+        match record_at(words, Cursor { at }) {
             Step::Wrong(r) => return Walked::Refused(r),
             Step::Record(head, next) => {
                 faces += head.faces;

@@ -285,7 +285,7 @@ fn add_cell(
     ensures { λ r. ⌜ CellAdding dimension (pointsIn (now (case .entry)) points) (wordsIn (now (ws .entry))) s (now (words .exit)) (now (floats .exit)) i r ⌝ }
 {
     let at = p.at;
-    let step = walker::step(ws, Cursor { at });
+    let step = walker::record_at(ws, Cursor { at });
     match step {
         Step::Wrong(k) => CellAdded::Refused(k),
         Step::Record(h, next) => {

@@ -87,7 +87,7 @@ fn finish_cell(
     requires { ⌜ CellReady (now case) points (wordsIn (now ws)) (now floats) s i c ⌝ }
     ensures { λ r. ⌜ CellFinishing dimension (pointsIn (now (case .entry)) points) (wordsIn (now (ws .entry))) s (now (floats .entry)) (now (floats .exit)) i (c .at) r ⌝ }
 {
-    match walker::step(ws, c) {
+    match walker::record_at(ws, c) {
         Step::Wrong(_) => CellFinished::ZeroVolume,
         Step::Record(h, next) => {
             match finish_record(case, points, dimension, ws, floats, s, i, h) {

@@ -25,13 +25,13 @@ abbrev μ-loop : tie.MeasureT-loop
 -- the step that was made
 stepped : (c : tie.After-struct-known Inv-loop μ-loop) →
     StepsTo (wordsIn (c .before .before .before .before .before .before .before .before .args .words .now)) (c .before .before .before .before .before .before .loop .at) (c .before .before .head .given .0 .0) (c .before .before .head .given .0 .1 .0 .at)
-stepped c = steps-to (wordsIn (c .before .before .before .before .before .before .before .before .args .words .now)) (c .before .before .before .before .before .before .loop .at) (c .before .before .head .given .0 .0) (c .before .before .head .given .0 .1 .0) (sym (c .before .before .head .given .1) ∙ c .before .before .before .before .step .ensures)
+stepped c = steps-to (wordsIn (c .before .before .before .before .before .before .before .before .args .words .now)) (c .before .before .before .before .before .before .loop .at) (c .before .before .head .given .0 .0) (c .before .before .head .given .0 .1 .0) (sym (c .before .before .head .given .1) ∙ c .before .before .before .before .record-at .ensures)
 
 loop-holds : tie.Need-loop-holds Inv-loop μ-loop
 loop-holds c = (search needs, search needs, rw sub-zero (walked-start _))
 
-step-requires : tie.Need-step-requires Inv-loop μ-loop
-step-requires c κs = search needs
+record-at-requires : tie.Need-record-at-requires Inv-loop μ-loop
+record-at-requires c κs = search needs
 
 enum-known-r : tie.Need-enum-known-r Inv-loop μ-loop
 enum-known-r c = search needs
@@ -39,7 +39,7 @@ enum-known-r c = search needs
 returns : tie.Need-returns Inv-loop μ-loop
 returns c =
     walk-wrong (wordsIn (c .before .before .before .before .before .before .before .args .words .now)) (c .before .before .before .before .before .before .before .args .cells) (c .before .before .before .before .before .loop .i) (c .before .before .before .before .before .loop .at) (c .before .before .before .before .before .loop .faces) _
-    (c .before .before .before .before .loop-test .taken) (sym (c .before .r .given .1) ∙ c .before .before .before .step .ensures)
+    (c .before .before .before .before .loop-test .taken) (sym (c .before .r .given .1) ∙ c .before .before .before .record-at .ensures)
     ∙ c .before .before .before .before .before .loop .inv .2
 
 enum-known-head : tie.Need-enum-known-head Inv-loop μ-loop
@@ -60,7 +60,7 @@ loop-again c = (
   omega (arith, stepped c .past),
   sym
       (walk-next (wordsIn (c .before .before .before .before .before .before .before .before .args .words .now)) (c .before .before .before .before .before .before .before .before .args .cells) (c .before .before .before .before .before .before .loop .i) (c .before .before .before .before .before .before .loop .at) (c .before .before .before .before .before .before .loop .faces)
-      (c .before .before .head .given .0 .0) (c .before .before .head .given .0 .1 .0) (c .before .before .before .before .before .loop-test .taken) (sym (c .before .before .head .given .1) ∙ c .before .before .before .before .step .ensures))
+      (c .before .before .head .given .0 .0) (c .before .before .head .given .0 .1 .0) (c .before .before .before .before .before .loop-test .taken) (sym (c .before .before .head .given .1) ∙ c .before .before .before .before .record-at .ensures))
       ∙ c .before .before .before .before .before .before .loop .inv .2,
 )
 
@@ -84,7 +84,7 @@ walk-spec =
     Inv-loop
     μ-loop
     loop-holds
-    step-requires
+    record-at-requires
     enum-known-r
     returns
     enum-known-head
