@@ -14,54 +14,52 @@ use Rattle.geometry.specs.declared.FaceGeometry.{FaceGeometry}
 use Rattle.geometry.specs.declared.TurnedFace.{TurnedFace}
 use Rattle.geometry.specs.declared.TurnedFace.the-variants as Turned
 use Rattle.geometry.specs.declared.Weight.{Weight}
-use Rattle.geometry.specs.Faces.{average, faceAreaVector, Oriented, faceWith, measured, inward, turnedIf, orientedFace, leftOrder}
+use Rattle.geometry.specs.Faces.{average, faceAreaVector, faceWith, measured, inward, turnedIf, orientedFace, leftOrder}
 use Rattle.geometry.specs.Geometry.{addFan, fanOf, addFace3D}
 use Rattle.geometry.specs.Answers.{vectorOf, faceOf, Turning}
 
--- the face that an answer holds, with the slice's vertices
-abbrev faceFrom : List ℕ → FaceGeometry → Oriented
-faceFrom l g = record { vertices = l; centre = g .centre; area = g .area; normal = g .normal; areaVector = g .«area_vector» }
+-- what `face_of` answers
+abbrev geometryOf : Vec3 → Vec3 → FaceGeometry
+geometryOf centre v = record { centre = centre; area = norm v; normal = over v (norm v); «area_vector» = v }
 
-module _ (d : ℕ) (ps : List Vec3) (l : List ℕ) where
-  -- ---- `measured`
+module _ (d : ℕ) (ps : List Vec3) (l : List ℕ) (r : FaceVector) (h : vectorOf r ≡ faceAreaVector d ps l) where
+  none : r ≡ Of.Degenerate → faceAreaVector d ps l ≡ refused 13
+  unfolding vectorOf
+  none e = sym h ∙ ap vectorOf e
 
-  pub measured-face : (r : FaceVector) (v centre normal : Vec3) (area : Float) → vectorOf r ≡ faceAreaVector d ps l → r ≡ Of.Vector v → centre ≡ average ps l
-      → area ≡ norm v → normal ≡ over v area → faceOf l (Turned.Face (record { centre = centre; area = area; normal = normal; «area_vector» = v })) ≡ measured d ps l
-  unfolding vectorOf faceOf measured _>>=_ faceWith
-  measured-face r v centre normal area h e ec ea en =
-      let m : faceAreaVector d ps l ≡ fine v = sym h ∙ ap vectorOf e in
-      rw (m, en, ea, ec)
+  pub measured-none : r ≡ Of.Degenerate → faceOf l Turned.Degenerate ≡ measured d ps l
+  unfolding faceOf measured _>>=_
+  measured-none e = rw (none e)
 
-  pub measured-none : (r : FaceVector) → vectorOf r ≡ faceAreaVector d ps l → r ≡ Of.Degenerate → faceOf l Turned.Degenerate ≡ measured d ps l
-  unfolding vectorOf faceOf measured _>>=_
-  measured-none r h e =
-      let m : faceAreaVector d ps l ≡ refused 13 = sym h ∙ ap vectorOf e in
-      rw m
+  pub turn-none : (reference : Vec3) → r ≡ Of.Degenerate → Turning d ps reference l l Turned.Degenerate
+  unfolding faceOf orientedFace leftOrder measured _>>=_
+  turn-none reference e = record { face = rw (none e); order = rw (none e) }
 
-  -- ---- `oriented_face`
+  -- ---- a face that is not degenerate, of the average and the vector
 
-  module _ (reference : Vec3) (r : TurnedFace) (h : faceOf l r ≡ measured d ps l) where
-    pub turn-none : r ≡ Turned.Degenerate → Turning d ps reference l l Turned.Degenerate
-    unfolding faceOf orientedFace leftOrder _>>=_
-    turn-none e =
-        let m : measured d ps l ≡ refused 13 = sym h ∙ ap (faceOf l) e in
-        record { face = rw m; order = rw m }
+  module _ (v centre : Vec3) (e : r ≡ Of.Vector v) (ec : centre ≡ average ps l) where
+    is : measured d ps l ≡ fine (faceWith ps l v)
+    unfolding vectorOf measured _>>=_
+    is = let m : faceAreaVector d ps l ≡ fine v = sym h ∙ ap vectorOf e in rw m
 
-    module _ (g : FaceGeometry) (e : r ≡ Turned.Face g) (away : Vec3) (t : Float) (ea : away ≡ minus (g .centre) reference) (et : t ≡ dot (g .«area_vector») away) where
-      is : measured d ps l ≡ fine (faceFrom l g)
-      unfolding faceOf
-      is = sym h ∙ ap (faceOf l) e
+    with : (g : FaceGeometry) → g ≡ geometryOf centre v → faceOf l (Turned.Face g) ≡ fine (faceWith ps l v)
+    unfolding faceOf faceWith
+    with g eg = rw (eg, ec)
 
-      test : inward reference (faceFrom l g) ≡ (t ≺ 0·0)
-      unfolding inward
-      test = rw (et, ea)
+    pub measured-face : (g : FaceGeometry) → g ≡ geometryOf centre v → faceOf l (Turned.Face g) ≡ measured d ps l
+    measured-face g eg = with g eg ∙ sym is
 
-      pub turn-kept : (t ≺ 0·0) ≡ false → Turning d ps reference l l (Turned.Face g)
-      unfolding faceOf orientedFace leftOrder _>>=_ turnedIf
-      turn-kept k = record { face = rw (is, test, k, turnedIf); order = rw (is, test, k) }
+    module _ (reference away : Vec3) (t : Float) (ea : away ≡ minus centre reference) (et : t ≡ dot v away) where
+      test : inward reference (faceWith ps l v) ≡ (t ≺ 0·0)
+      unfolding inward faceWith
+      test = rw (et, ea, ec)
+
+      pub turn-kept : (t ≺ 0·0) ≡ false → (g : FaceGeometry) → g ≡ geometryOf centre v → Turning d ps reference l l (Turned.Face g)
+      unfolding orientedFace leftOrder _>>=_ turnedIf
+      turn-kept k g eg = record { face = with g eg ∙ rw (is, test, k, turnedIf); order = rw (is, test, k) }
 
       pub turn-made : (t ≺ 0·0) ≡ true → (l′ : List ℕ) (r′ : TurnedFace) → l′ ≡ reverse l → faceOf l′ r′ ≡ measured d ps l′ → Turning d ps reference l l′ r′
-      unfolding orientedFace leftOrder _>>=_ turnedIf
+      unfolding orientedFace leftOrder _>>=_ turnedIf faceWith
       turn-made k l′ r′ el h′ = record { face = rw (is, test, k, turnedIf, ← el) h′; order = rw (is, test, k) el }
 
 -- ---- a face of a cell in 3D, from what `oriented_face` promises

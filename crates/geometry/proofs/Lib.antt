@@ -1,3 +1,4 @@
 pub mod SliceLaws
 pub mod FaceLaws
+pub mod LengthLaws
 pub mod AnswerLaws

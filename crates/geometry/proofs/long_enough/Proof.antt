@@ -1,16 +1,21 @@
 use Rattle.geometry.specs.Faces.{longEnough}
 use Rattle.geometry.specs.Answers.{vectorOf}
+use Rattle.geometry.proofs.LengthLaws.{norm-over}
 use borrow.Author.Needs.{needs}
 use Rattle.geometry.proofs.long_enough.Statement.{statement}
 use Rattle.geometry.proofs.long_enough.Tie as tie
 
 returns : tie.Need-returns
 unfolding longEnough vectorOf
-returns c = rw (← (c .before .norm .ensures), c .if1 .taken)
+returns c = rw (norm-over _ _ (c .before .norm-squared .ensures) (c .if1 .taken))
 
 returns-2 : tie.Need-returns-2
 unfolding longEnough vectorOf
-returns-2 c = rw (← (c .before .norm .ensures), c .if1 .left)
+returns-2 c = rw (← (c .before .norm .ensures), c .if2 .taken)
+
+returns-3 : tie.Need-returns-3
+unfolding longEnough vectorOf
+returns-3 c = rw (← (c .before .norm .ensures), c .if2 .left)
 
 pub long-enough-spec : {M : Type 1} → statement M
-long-enough-spec = tie.close (tie.spec (λ c κs. search needs) returns returns-2)
+long-enough-spec = tie.close (tie.spec (λ c κs. search needs) returns (λ c κs. search needs) returns-2 returns-3)

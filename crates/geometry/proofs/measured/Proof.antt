@@ -5,8 +5,9 @@ use Rattle.geometry.proofs.measured.Tie as tie
 
 returns : tie.Need-returns
 returns c =
-    let v = c .before .before .before .before in
-    measured-face _ _ _ _ _ _ _ _ (v .before .before .face-area-vector .ensures) (v .vector .given .1) (c .before .before .average-point .ensures) (c .before .norm .ensures) (c .div .ensures)
+    let p = c .before in
+    let v = p .before .before in
+    measured-face _ _ _ _ (v .before .before .face-area-vector .ensures) _ _ (v .vector .given .1) (p .average-point .ensures) _ (c .face-of .ensures)
 
 returns-2 : tie.Need-returns-2
 returns-2 c = measured-none _ _ _ _ (c .before .before .face-area-vector .ensures) (c .enum-told .given .1)
@@ -17,7 +18,6 @@ measured-spec =
     (tie.spec
     (λ c κs. search needs)
     (λ c. search needs)
-    (λ c κs. search needs)
     (λ c κs. search needs)
     (λ c κs. search needs)
     (λ c. search needs)

@@ -7,16 +7,19 @@ returns : tie.Need-returns
 returns c =
     let a = c .before .before .before .before in
     let b = a .before .before in
-    let f = b .before .before .before .before .before .before in
-    turn-made _ _ _ _ _ (f .before .before .measured .ensures) _ (f .face .given .1) _ _ (b .before .before .sub .ensures) (b .before .dot .ensures) (b .if1 .taken) _ _ (a .reverse .ensures) (c .measured2 .ensures)
+    let p = b .before .before .before in
+    let v = p .before .before .before in
+    turn-made _ _ _ _ (v .before .before .face-area-vector .ensures) _ _ (v .vector .given .1) (p .average-point .ensures) _ _ _ (b .before .before .sub .ensures) (b .before .dot .ensures) (b .if1 .taken) _ _ (a .reverse .ensures) (c .measured .ensures)
 
 returns-2 : tie.Need-returns-2
 returns-2 c =
-    let f = c .before .before .before .before .before .before in
-    turn-kept _ _ _ _ _ (f .before .before .measured .ensures) _ (f .face .given .1) _ _ (c .before .before .sub .ensures) (c .before .dot .ensures) (c .if1 .left)
+    let b = c .before in
+    let p = b .before .before .before in
+    let v = p .before .before .before in
+    turn-kept _ _ _ _ (v .before .before .face-area-vector .ensures) _ _ (v .vector .given .1) (p .average-point .ensures) _ _ _ (b .before .before .sub .ensures) (b .before .dot .ensures) (b .if1 .left) _ (c .face-of .ensures)
 
 returns-3 : tie.Need-returns-3
-returns-3 c = turn-none _ _ _ _ _ (c .before .before .measured .ensures) (c .enum-told .given .1)
+returns-3 c = turn-none _ _ _ _ (c .before .before .face-area-vector .ensures) _ (c .enum-told .given .1)
 
 pub oriented-face-spec : {M : Type 1} → statement M
 oriented-face-spec =
@@ -24,6 +27,8 @@ oriented-face-spec =
     (tie.spec
     (λ c κs. search needs)
     (λ c. search needs)
+    (λ c κs. search needs)
+    (λ c κs. search needs)
     (λ c κs. search needs)
     (λ c κs. search needs)
     (λ c κs. search needs)
