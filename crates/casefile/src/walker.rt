@@ -1,5 +1,6 @@
-// The walker over the definition words, which are the bytes `words`. `step` does the work, on a cursor by value; `start`, `past` and
-// `head` are thin functions over a struct that holds the words and a position. Definitions are read by `record_at`.
+// The walker over the definition words, which are the bytes `words`. `step` and `word_at` do the work, on a position by value; `start`,
+// `past`, `head` and `word_of` are thin functions over a struct that holds the words and a position. Definitions are read by
+// `record_at` and `word`.
 use crate::Counts;
 use crate::Cursor;
 use crate::Head;
@@ -40,7 +41,7 @@ fn total(words: &[u8]) -> usize
 }
 
 // The word at a position.
-pub fn word(words: &[u8], at: usize) -> u32
+fn word_at(words: &[u8], at: usize) -> u32
     requires { ⌜ at < length (wordsIn (now words)) ⌝ }
     ensures { λ r. ⌜ r ≡ getD (wordsIn (now (words .entry))) at 0 ⌝ }
 {
@@ -55,7 +56,7 @@ fn list_at(words: &[u8], at: usize, limit: usize) -> Listed
     if all <= at {
         return Listed::Bad;
     }
-    let n = word(words, at) as usize;
+    let n = word_at(words, at) as usize;
     if limit < n {
         return Listed::Bad;
     }
@@ -131,7 +132,7 @@ fn polyhedron(words: &[u8], at: usize) -> Step
     if all <= at + 1 {
         return Step::Wrong(3);
     }
-    let n = word(words, at + 1) as usize;
+    let n = word_at(words, at + 1) as usize;
     if 24 < n {
         return Step::Wrong(3);
     }
@@ -157,7 +158,7 @@ fn step(words: &[u8], c: Cursor) -> Step
     if total(words) <= at {
         return Step::Wrong(3);
     }
-    match word(words, at) {
+    match word_at(words, at) {
         0 => polygon(words, at),
         1 => solid(words, at, 1, 4, 4),
         2 => solid(words, at, 2, 8, 6),
@@ -197,6 +198,22 @@ pub fn record_at(words: &[u8], c: Cursor) -> Step
     ensures { λ r. ⌜ r ≡ stepAt (wordsIn (now (words .entry))) (c .at) ⌝ }
 {
     head(past(start(words), c))
+}
+
+// The word at a walker.
+pub fn word_of<'a>(w: Walker<'a>) -> u32
+    requires { ⌜ w .at < length (wordsIn (now (w .words))) ⌝ }
+    ensures { λ r. ⌜ r ≡ getD (wordsIn (now (w .entry .words))) (w .entry .at) 0 ⌝ }
+{
+    word_at(w.words, w.at)
+}
+
+// The word at a position, read through a walker.
+pub fn word(words: &[u8], at: usize) -> u32
+    requires { ⌜ at < length (wordsIn (now words)) ⌝ }
+    ensures { λ r. ⌜ r ≡ getD (wordsIn (now (words .entry))) at 0 ⌝ }
+{
+    word_of(past(start(words), Cursor { at }))
 }
 
 // The number of faces of all records, which are exactly as many as the cells; or refusal 3.

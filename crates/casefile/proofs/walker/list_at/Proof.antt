@@ -11,14 +11,14 @@ total-requires c κs = search needs
 returns : tie.Need-returns
 returns c = list-none _ _ _ (omega arith)
 
-word-requires : tie.Need-word-requires
-word-requires c κs = search needs
+word-at-requires : tie.Need-word-at-requires
+word-at-requires c κs = search needs
 
 cast-n : tie.Need-cast-n
 cast-n c = search needs
 
 returns-2 : tie.Need-returns-2
-returns-2 c = list-over _ _ _ _ (omega arith) (c .before .word .ensures) (c .if2 .taken)
+returns-2 c = list-over _ _ _ _ (omega arith) (c .before .word-at .ensures) (c .if2 .taken)
 
 sub-if3 : tie.Need-sub-if3
 sub-if3 c = search needs
@@ -27,10 +27,10 @@ sub-if3-2 : tie.Need-sub-if3-2
 sub-if3-2 c = search needs
 
 returns-3 : tie.Need-returns-3
-returns-3 c = list-short _ _ _ _ (omega arith) (c .before .before .word .ensures) (c .before .if2 .left) (omega arith)
+returns-3 c = list-short _ _ _ _ (omega arith) (c .before .before .word-at .ensures) (c .before .if2 .left) (omega arith)
 
 returns-4 : tie.Need-returns-4
-returns-4 c = list-there _ _ _ _ (omega arith) (c .before .before .word .ensures) (c .before .if2 .left) (omega arith)
+returns-4 c = list-there _ _ _ _ (omega arith) (c .before .before .word-at .ensures) (c .before .if2 .left) (omega arith)
 
 pub list-at-spec : {M : Type 1} → statement M
 list-at-spec =
@@ -38,7 +38,7 @@ list-at-spec =
     (tie.spec
     total-requires
     returns
-    word-requires
+    word-at-requires
     cast-n
     returns-2
     sub-if3

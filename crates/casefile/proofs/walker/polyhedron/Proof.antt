@@ -16,17 +16,17 @@ add-if1 c = search needs
 returns : tie.Need-returns
 returns c = polyhedron-none _ _ (c .before .before .before .pre) (omega arith)
 
-add-word : tie.Need-add-word
-add-word c = search needs
+add-word-at : tie.Need-add-word-at
+add-word-at c = search needs
 
-word-requires : tie.Need-word-requires
-word-requires c κs = search needs
+word-at-requires : tie.Need-word-at-requires
+word-at-requires c κs = search needs
 
 cast-n : tie.Need-cast-n
 cast-n c = search needs
 
 returns-2 : tie.Need-returns-2
-returns-2 c = polyhedron-over _ _ (c .before .before .before .before .before .pre) _ (omega arith) (c .before .word .ensures) (c .if2 .taken)
+returns-2 c = polyhedron-over _ _ (c .before .before .before .before .before .pre) _ (omega arith) (c .before .word-at .ensures) (c .if2 .taken)
 
 add-skip-faces : tie.Need-add-skip-faces
 add-skip-faces c = search needs
@@ -45,12 +45,12 @@ add-t12 c = search needs
 
 returns-3 : tie.Need-returns-3
 returns-3 c =
-    polyhedron-short (wordsIn (c .before .before .before .before .before .before .before .before .before .args .words .now)) (c .before .before .before .before .before .before .before .before .before .args .at) (c .before .before .before .before .before .before .before .before .before .pre) _ (omega arith) (c .before .before .before .before .before .word .ensures)
+    polyhedron-short (wordsIn (c .before .before .before .before .before .before .before .before .before .args .words .now)) (c .before .before .before .before .before .before .before .before .before .args .at) (c .before .before .before .before .before .before .before .before .before .pre) _ (omega arith) (c .before .before .before .before .before .word-at .ensures)
     (c .before .before .before .before .if2 .left) _ (sym (c .before .r .given .1) ∙ c .before .before .before .skip-faces .ensures)
 
 returns-4 : tie.Need-returns-4
 returns-4 c =
-    polyhedron-there (wordsIn (c .before .before .before .before .before .before .before .before .before .args .words .now)) (c .before .before .before .before .before .before .before .before .before .args .at) (c .before .before .before .before .before .before .before .before .before .pre) _ (omega arith) (c .before .before .before .before .before .word .ensures)
+    polyhedron-there (wordsIn (c .before .before .before .before .before .before .before .before .before .args .words .now)) (c .before .before .before .before .before .before .before .before .before .args .at) (c .before .before .before .before .before .before .before .before .before .pre) _ (omega arith) (c .before .before .before .before .before .word-at .ensures)
     (c .before .before .before .before .if2 .left) _ (sym (c .before .next .given .1) ∙ c .before .before .before .skip-faces .ensures)
 
 pub polyhedron-spec : {M : Type 1} → statement M
@@ -60,8 +60,8 @@ polyhedron-spec =
     total-requires
     add-if1
     returns
-    add-word
-    word-requires
+    add-word-at
+    word-at-requires
     cast-n
     returns-2
     add-skip-faces

@@ -11,8 +11,8 @@ total-requires c κs = search needs
 returns : tie.Need-returns
 returns c = step-end _ _ (omega arith)
 
-word-requires : tie.Need-word-requires
-word-requires c κs = search needs
+word-at-requires : tie.Need-word-at-requires
+word-at-requires c κs = search needs
 
 polygon-requires : tie.Need-polygon-requires
 polygon-requires c κs = search needs
@@ -59,7 +59,7 @@ step-spec =
     (tie.spec
     total-requires
     returns
-    word-requires
+    word-at-requires
     polygon-requires
     solid-requires
     solid-requires-2
