@@ -1,16 +1,62 @@
--- The number of a job's result. Assumes nothing.
-use Prim.Native.Nat.{ℕ}
-use mathlib.Core.Path.{_≡_}
+-- Laws of the ends of the exported functions. Assumes nothing.
+use Prim.Native.Nat.{ℕ, _+_, _*_, _≤_, _<_}
+use native.Mathlib.Omega.{arith}
+use mathlib.Core.Path.{_≡_, refl}
+use mathlib.Core.Bool.{_||_}
 use mathlib.Core.List.{List}
+use lib.Dec.{ltb}
+use lib.ListN.{length, set}
+use borrow.Author.Tests.{lt-ltb, le-ltb}
+use Rattle.reading.specs.Result.{refused, fine}
 use Rattle.reading.specs.After.{After, Left}
+use Rattle.casefile.specs.declared.Counts.{Counts}
+use Rattle.casefile.proofs.TrailerLaws.{opens}
+use Rattle.mesh.specs.Case.{Surveyed-case, surveyOf, areaShort}
+use Rattle.mesh.proofs.Laws.{Surveys, survey-right, faces-few}
 use Rattle.job.specs.declared.Outcome.{Outcome}
-use Rattle.job.specs.declared.Outcome.the-variants.{Done, Refused}
 use Rattle.job.specs.Job.{numberOf}
+use Rattle.capi.specs.Needs.{wordsNeeded, floatsNeeded, needsNumber, needsOf}
 
-pub left-refused : (a : After) (r : Outcome) (k : ℕ) (answers marks : List ℕ) → Left a (numberOf r) answers marks → r ≡ Refused k → Left a k answers marks
-unfolding numberOf
-left-refused a r k answers marks l e = rw e at l
+-- ---- the number of a job's result
 
-pub left-done : (a : After) (r : Outcome) (answers marks : List ℕ) → Left a (numberOf r) answers marks → r ≡ Done → Left a 0 answers marks
-unfolding numberOf
-left-done a r answers marks l e = rw e at l
+pub left-number : (a : After) (o : Outcome) (r : ℕ) (answers marks : List ℕ) → Left a (numberOf o) answers marks → r ≡ numberOf o → Left a r answers marks
+left-number a o r answers marks l e = rw e l
+
+-- ---- how much a case needs
+
+-- refusal 4 is due under these numbers, and no others
+pub area-needed : (c : Surveyed-case) (words floats : ℕ) → areaShort c words floats ≡ (ltb words (wordsNeeded c) || ltb floats (floatsNeeded c))
+unfolding areaShort wordsNeeded floatsNeeded
+area-needed c words floats = refl
+
+module _ (file : List ℕ) (k : ℕ) (e : surveyOf file ≡ refused k) where
+  pub refused-number : k ≡ needsNumber (surveyOf file)
+  unfolding needsNumber
+  refused-number = rw e
+
+  pub refused-needs : (l : List ℕ) → l ≡ needsOf (surveyOf file) l
+  unfolding needsOf
+  refused-needs l = rw e
+
+module _ (file : List ℕ) (n : Counts) (f : ℕ) (s : Surveys file n f) where
+  there : surveyOf file ≡ fine (record { counts = n; definitions = s .ds })
+  there = survey-right file n (s .opens) (s .ds) (s .right)
+
+  pub few : (f ≤ 1048576) × (n .cells ≤ 16384)
+  few =
+      let faces = faces-few file n (s .ds) (s .opens) (s .right) in
+      let o = opens file n (s .opens) in
+      (omega (arith, faces, s .count), o .cells)
+
+  pub case-number : 0 ≡ needsNumber (surveyOf file)
+  unfolding needsNumber
+  case-number = rw there
+
+  module _ (l : List ℕ) where
+    pub no-room : length l < 3 → l ≡ needsOf (surveyOf file) l
+    unfolding needsOf
+    no-room short = rw (there, lt-ltb (length l) 3 short)
+
+    pub stored : 3 ≤ length l → set (set (set l 0 (16 * f + 96 * n .cells)) 1 (12 * f + 64 * n .cells)) 2 (n .cells) ≡ needsOf (surveyOf file) l
+    unfolding needsOf wordsNeeded floatsNeeded
+    stored long = rw (there, le-ltb (length l) 3 long, s .count)

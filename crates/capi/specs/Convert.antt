@@ -1,0 +1,29 @@
+-- The values of the exported functions as those of the crates below.
+use mathlib.Core.Bool.{Bool, true, false}
+use Rattle.arith.specs.declared.Vec3.{Vec3}
+use Rattle.lines.specs.declared.StreamlineDirection.{StreamlineDirection}
+use Rattle.lines.specs.declared.StreamlineDirection.the-variants.{Forward, Backward}
+use Rattle.lines.specs.declared.StreamlineOptions.{StreamlineOptions}
+use Rattle.sections.specs.declared.Plane.{Plane}
+use Rattle.capi.specs.declared.Vector.{Vector}
+use Rattle.capi.specs.declared.SectionPlane.{SectionPlane}
+use Rattle.capi.specs.declared.LineOptions.{LineOptions}
+
+unfoldable pub vectorOf : Vector → Vec3
+vectorOf p = record { x = p .x; y = p .y; z = p .z }
+
+unfoldable pub planeOf : SectionPlane → Plane
+planeOf s = record { origin = vectorOf (s .origin); u = vectorOf (s .u); v = vectorOf (s .v) }
+
+unfoldable pub directionOf : Bool → StreamlineDirection
+directionOf true = Backward
+directionOf false = Forward
+
+unfoldable pub optionsOf : LineOptions → StreamlineOptions
+optionsOf o =
+    record {
+      «step_size» = o .«step_size»;
+      «max_steps» = o .«max_steps»;
+      «max_length» = o .«max_length»;
+      «stagnation_speed» = o .«stagnation_speed»;
+    }

@@ -1,0 +1,27 @@
+-- How much a case needs: "4 work area under 16F+96C words or 12F+64C floats, F being the faces of all definitions counted singly"; "5 marks shorter than C".
+use Prim.Native.Nat.{ℕ, _+_, _*_}
+use mathlib.Core.Bool.{cond}
+use mathlib.Core.List.{List}
+use lib.Dec.{ltb}
+use lib.ListN.{length, set}
+use Rattle.reading.specs.Result.{Result, refused, fine}
+use Rattle.casefile.specs.Faces.{facesCounted}
+use Rattle.mesh.specs.Case.{Surveyed-case}
+
+-- "16F+96C words"
+unfoldable pub wordsNeeded : Surveyed-case → ℕ
+wordsNeeded c = 16 * facesCounted (c .definitions) + 96 * c .counts .cells
+
+-- "12F+64C floats"
+unfoldable pub floatsNeeded : Surveyed-case → ℕ
+floatsNeeded c = 12 * facesCounted (c .definitions) + 64 * c .counts .cells
+
+-- 0, or the refusal
+unfoldable pub needsNumber : Result Surveyed-case → ℕ
+needsNumber (refused k) = k
+needsNumber (fine c) = 0
+
+-- words, floats and marks, where there is room for the three
+unfoldable pub needsOf : Result Surveyed-case → List ℕ → List ℕ
+needsOf (refused k) l = l
+needsOf (fine c) l = cond (ltb (length l) 3) l (set (set (set l 0 (wordsNeeded c)) 1 (floatsNeeded c)) 2 (c .counts .cells))

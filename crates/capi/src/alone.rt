@@ -1,0 +1,175 @@
+// Each request alone: 0 or the refusal.
+use crate::LineOptions;
+use crate::SectionPlane;
+use crate::Vector;
+use crate::convert;
+ghost use lib.ListN.{length};
+ghost use Rattle.reading.specs.After.{Left};
+ghost use Rattle.requests.specs.Encode.{bytesOf};
+ghost use Rattle.job.specs.Job.{outcome};
+ghost use Rattle.single.specs.Single.{locateWords, velocityWords, streamlineWords, rakeWords, sectionWords, statisticsWords, integralsWords, probeWords};
+ghost use Rattle.capi.specs.Convert.{vectorOf, planeOf, directionOf, optionsOf};
+
+// The cell at a point.
+#[no_mangle]
+pub extern "C" fn hookyellow_locate(
+    case: &[u8],
+    p: Vector,
+    words: &mut [u32],
+    floats: &mut [f64],
+    marks: &mut [u8],
+    answers: &mut [u64],
+) -> u64
+    ensures { λ r. ⌜ Left (outcome (now (case .entry)) (bytesOf (locateWords (vectorOf p))) (length (now (words .entry))) (length (now (floats .entry))) (now (answers .entry)) (now (marks .entry))) r (now (answers .exit)) (now (marks .exit)) ⌝ }
+{
+    convert::number(single::locate(case, convert::vector(p), words, floats, marks, answers))
+}
+
+// The velocity at a point.
+#[no_mangle]
+pub extern "C" fn hookyellow_velocity(
+    case: &[u8],
+    p: Vector,
+    words: &mut [u32],
+    floats: &mut [f64],
+    marks: &mut [u8],
+    answers: &mut [u64],
+) -> u64
+    ensures { λ r. ⌜ Left (outcome (now (case .entry)) (bytesOf (velocityWords (vectorOf p))) (length (now (words .entry))) (length (now (floats .entry))) (now (answers .entry)) (now (marks .entry))) r (now (answers .exit)) (now (marks .exit)) ⌝ }
+{
+    convert::number(single::velocity(case, convert::vector(p), words, floats, marks, answers))
+}
+
+// The line from a seed.
+#[no_mangle]
+pub extern "C" fn hookyellow_streamline(
+    case: &[u8],
+    seed: Vector,
+    backward: bool,
+    options: LineOptions,
+    words: &mut [u32],
+    floats: &mut [f64],
+    marks: &mut [u8],
+    answers: &mut [u64],
+) -> u64
+    ensures { λ r. ⌜ Left (outcome (now (case .entry)) (bytesOf (streamlineWords (vectorOf seed) (directionOf backward) (optionsOf options))) (length (now (words .entry))) (length (now (floats .entry))) (now (answers .entry)) (now (marks .entry))) r (now (answers .exit)) (now (marks .exit)) ⌝ }
+{
+    convert::number(single::streamline(
+        case,
+        convert::vector(seed),
+        convert::direction(backward),
+        convert::options(options),
+        words,
+        floats,
+        marks,
+        answers,
+    ))
+}
+
+// The lines from `count` seeds, spread from `start` to `end`.
+#[no_mangle]
+pub extern "C" fn hookyellow_rake(
+    case: &[u8],
+    start: Vector,
+    end: Vector,
+    count: usize,
+    backward: bool,
+    options: LineOptions,
+    words: &mut [u32],
+    floats: &mut [f64],
+    marks: &mut [u8],
+    answers: &mut [u64],
+) -> u64
+    ensures { λ r. ⌜ Left (outcome (now (case .entry)) (bytesOf (rakeWords (vectorOf start) (vectorOf end) count (directionOf backward) (optionsOf options))) (length (now (words .entry))) (length (now (floats .entry))) (now (answers .entry)) (now (marks .entry))) r (now (answers .exit)) (now (marks .exit)) ⌝ }
+{
+    convert::number(single::rake(
+        case,
+        convert::vector(start),
+        convert::vector(end),
+        count,
+        convert::direction(backward),
+        convert::options(options),
+        words,
+        floats,
+        marks,
+        answers,
+    ))
+}
+
+// The polygons that a plane cuts.
+#[no_mangle]
+pub extern "C" fn hookyellow_section(
+    case: &[u8],
+    plane: SectionPlane,
+    words: &mut [u32],
+    floats: &mut [f64],
+    marks: &mut [u8],
+    answers: &mut [u64],
+) -> u64
+    ensures { λ r. ⌜ Left (outcome (now (case .entry)) (bytesOf (sectionWords (planeOf plane))) (length (now (words .entry))) (length (now (floats .entry))) (now (answers .entry)) (now (marks .entry))) r (now (answers .exit)) (now (marks .exit)) ⌝ }
+{
+    convert::number(single::section(case, convert::plane(plane), words, floats, marks, answers))
+}
+
+// The statistics of a field over a section.
+#[no_mangle]
+pub extern "C" fn hookyellow_statistics(
+    case: &[u8],
+    plane: SectionPlane,
+    field: u64,
+    words: &mut [u32],
+    floats: &mut [f64],
+    marks: &mut [u8],
+    answers: &mut [u64],
+) -> u64
+    ensures { λ r. ⌜ Left (outcome (now (case .entry)) (bytesOf (statisticsWords (planeOf plane) field)) (length (now (words .entry))) (length (now (floats .entry))) (now (answers .entry)) (now (marks .entry))) r (now (answers .exit)) (now (marks .exit)) ⌝ }
+{
+    convert::number(single::statistics(
+        case,
+        convert::plane(plane),
+        field,
+        words,
+        floats,
+        marks,
+        answers,
+    ))
+}
+
+// The integrals over a section.
+#[no_mangle]
+pub extern "C" fn hookyellow_integrals(
+    case: &[u8],
+    plane: SectionPlane,
+    words: &mut [u32],
+    floats: &mut [f64],
+    marks: &mut [u8],
+    answers: &mut [u64],
+) -> u64
+    ensures { λ r. ⌜ Left (outcome (now (case .entry)) (bytesOf (integralsWords (planeOf plane))) (length (now (words .entry))) (length (now (floats .entry))) (now (answers .entry)) (now (marks .entry))) r (now (answers .exit)) (now (marks .exit)) ⌝ }
+{
+    convert::number(single::integrals(case, convert::plane(plane), words, floats, marks, answers))
+}
+
+// The sample at a point of a section.
+#[no_mangle]
+pub extern "C" fn hookyellow_probe(
+    case: &[u8],
+    plane: SectionPlane,
+    p: Vector,
+    words: &mut [u32],
+    floats: &mut [f64],
+    marks: &mut [u8],
+    answers: &mut [u64],
+) -> u64
+    ensures { λ r. ⌜ Left (outcome (now (case .entry)) (bytesOf (probeWords (planeOf plane) (vectorOf p))) (length (now (words .entry))) (length (now (floats .entry))) (now (answers .entry)) (now (marks .entry))) r (now (answers .exit)) (now (marks .exit)) ⌝ }
+{
+    convert::number(single::probe(
+        case,
+        convert::plane(plane),
+        convert::vector(p),
+        words,
+        floats,
+        marks,
+        answers,
+    ))
+}

@@ -1,0 +1,63 @@
+// The values of this crate as those of the crates below.
+use crate::LineOptions;
+use crate::SectionPlane;
+use crate::Vector;
+use arith::Vec3;
+use job::Outcome;
+use lines::StreamlineDirection;
+use lines::StreamlineOptions;
+use sections::Plane;
+ghost use mathlib.Core.Path.{_≡_};
+ghost use Rattle.job.specs.Job.{numberOf};
+ghost use Rattle.capi.specs.Convert.{vectorOf, planeOf, directionOf, optionsOf};
+
+// 0, or the refusal.
+pub fn number(o: Outcome) -> u64
+    ensures { λ r. ⌜ r ≡ numberOf o ⌝ }
+{
+    match o {
+        Outcome::Refused(k) => k,
+        Outcome::Done => 0,
+    }
+}
+
+pub fn vector(p: Vector) -> Vec3
+    ensures { λ r. ⌜ r ≡ vectorOf p ⌝ }
+{
+    Vec3 {
+        x: p.x,
+        y: p.y,
+        z: p.z,
+    }
+}
+
+pub fn plane(s: SectionPlane) -> Plane
+    ensures { λ r. ⌜ r ≡ planeOf s ⌝ }
+{
+    Plane {
+        origin: vector(s.origin),
+        u: vector(s.u),
+        v: vector(s.v),
+    }
+}
+
+pub fn direction(backward: bool) -> StreamlineDirection
+    ensures { λ r. ⌜ r ≡ directionOf backward ⌝ }
+{
+    if backward {
+        StreamlineDirection::Backward
+    } else {
+        StreamlineDirection::Forward
+    }
+}
+
+pub fn options(o: LineOptions) -> StreamlineOptions
+    ensures { λ r. ⌜ r ≡ optionsOf o ⌝ }
+{
+    StreamlineOptions {
+        step_size: o.step_size,
+        max_steps: o.max_steps,
+        max_length: o.max_length,
+        stagnation_speed: o.stagnation_speed,
+    }
+}
