@@ -1,0 +1,60 @@
+//! Streamlines and plane sections of the air flow in a room, and with each the cells that it was made from.
+//!
+//! A [`Case`] holds a mesh with a velocity and a pressure in each cell, a [`Request`] asks for a cell, a velocity, streamlines or a
+//! plane section, and [`job`] answers a list of requests. Each request can also be called alone: [`locate`], [`velocity`],
+//! [`streamline`] and [`rake`] on a 2D case, [`section`], [`statistics`], [`integrals`] and [`probe`] on a 3D one.
+//!
+//! With the answers come the cells whose values were read ([`Outcome::cells_read`]). A value of any other cell had no part in
+//! them: with another value there, every answer would be the same, bit for bit.
+//!
+//! Two unit squares side by side, with air that moves to the right at speed 1 and 3:
+//!
+//! ```
+//! use hookyellow::{job, Answer, Case, Cell, Dimension, Request, Vector, Workspace};
+//!
+//! let case = Case::builder(Dimension::Two)
+//!     .points([[0., 0., 0.], [1., 0., 0.], [2., 0., 0.], [0., 1., 0.], [1., 1., 0.], [2., 1., 0.]])
+//!     .cells([Cell::Polygon(vec![0, 1, 4, 3]), Cell::Polygon(vec![1, 2, 5, 4])])
+//!     .velocities([[1., 0., 0.], [3., 0., 0.]])
+//!     .pressures([0., 0.])
+//!     .build()?;
+//! let request = Request::Velocity { point: Vector::new(0.75, 0.5, 0.) };
+//! let outcome = job(&case, &[request], &mut Workspace::new())?;
+//! assert_eq!(outcome.answers, [Ok(Answer::Velocity(Some(Vector::new(1.5, 0., 0.))))]);
+//! assert_eq!(outcome.cells_read(), [0, 1]);
+//! # Ok::<(), Box<dyn std::error::Error>>(())
+//! ```
+//!
+//! Whatever the bytes of a case hold, a job ends with answers or with a numbered [`Refusal`], and a request that cannot be answered
+//! has a [`RequestRefusal`]:
+//!
+//! ```
+//! use hookyellow::{locate, Case, Refusal, Vector, Workspace};
+//!
+//! let refusal = locate(&Case::from_bytes(vec![7; 100]), Vector::default(), &mut Workspace::new()).unwrap_err();
+//! assert_eq!(refusal, Refusal::Trailer);
+//! assert_eq!(refusal.number(), 1);
+//! ```
+//!
+//! The formats are those of docs/FORMAT.md, and docs/01-scope.md says what each answer is. The work is done by the proved code in
+//! the static library that `rt staticlib capi` writes; [`raw`] has its functions as they are.
+#![warn(missing_docs)]
+
+#[macro_use]
+mod call;
+mod answer;
+mod case;
+mod geometry;
+pub mod raw;
+mod refusal;
+mod request;
+mod run;
+mod workspace;
+
+pub use answer::{Answer, FluxWeighted, Integrals, Sample, SectionPolygon, Statistics, Streamline};
+pub use case::{BuildError, Case, CaseBuilder, Cell, Dimension};
+pub use geometry::{SectionPlane, Vector};
+pub use refusal::{Refusal, RequestRefusal};
+pub use request::{Direction, Field, LineOptions, Request};
+pub use run::{integrals, job, locate, probe, rake, section, statistics, streamline, velocity, Outcome, Single};
+pub use workspace::{needs, Needs, Workspace};

@@ -1,0 +1,144 @@
+//! The functions of the static library as they are: include/hookyellow.h in Rust.
+
+pub use crate::geometry::{SectionPlane, Vector};
+pub use crate::request::LineOptions;
+
+extern "C" {
+    /// Stores the least lengths of the words, the floats and the marks of a job on a case; 0, or the refusal of the case.
+    pub fn hookyellow_needs(case: *const u8, case_length: usize, needs: *mut usize, needs_length: usize) -> u64;
+    /// Builds the mesh of a case and serves the requests in order; 0, or the refusal. No buffer may overlap another.
+    pub fn hookyellow_job(
+        case: *const u8,
+        case_length: usize,
+        requests: *const u8,
+        requests_length: usize,
+        words: *mut u32,
+        words_length: usize,
+        floats: *mut f64,
+        floats_length: usize,
+        marks: *mut u8,
+        marks_length: usize,
+        answers: *mut u64,
+        answers_length: usize,
+    ) -> u64;
+    /// A job of one request, code 1: the cell at a point.
+    pub fn hookyellow_locate(
+        case: *const u8,
+        case_length: usize,
+        point: Vector,
+        words: *mut u32,
+        words_length: usize,
+        floats: *mut f64,
+        floats_length: usize,
+        marks: *mut u8,
+        marks_length: usize,
+        answers: *mut u64,
+        answers_length: usize,
+    ) -> u64;
+    /// A job of one request, code 2: the velocity at a point.
+    pub fn hookyellow_velocity(
+        case: *const u8,
+        case_length: usize,
+        point: Vector,
+        words: *mut u32,
+        words_length: usize,
+        floats: *mut f64,
+        floats_length: usize,
+        marks: *mut u8,
+        marks_length: usize,
+        answers: *mut u64,
+        answers_length: usize,
+    ) -> u64;
+    /// A job of one request, code 3: the streamline from a seed.
+    pub fn hookyellow_streamline(
+        case: *const u8,
+        case_length: usize,
+        seed: Vector,
+        backward: bool,
+        options: LineOptions,
+        words: *mut u32,
+        words_length: usize,
+        floats: *mut f64,
+        floats_length: usize,
+        marks: *mut u8,
+        marks_length: usize,
+        answers: *mut u64,
+        answers_length: usize,
+    ) -> u64;
+    /// A job of one request, code 4: the streamlines from `count` seeds, spread from `start` to `end`.
+    pub fn hookyellow_rake(
+        case: *const u8,
+        case_length: usize,
+        start: Vector,
+        end: Vector,
+        count: usize,
+        backward: bool,
+        options: LineOptions,
+        words: *mut u32,
+        words_length: usize,
+        floats: *mut f64,
+        floats_length: usize,
+        marks: *mut u8,
+        marks_length: usize,
+        answers: *mut u64,
+        answers_length: usize,
+    ) -> u64;
+    /// A job of one request, code 5: the polygons that a plane cuts.
+    pub fn hookyellow_section(
+        case: *const u8,
+        case_length: usize,
+        plane: SectionPlane,
+        words: *mut u32,
+        words_length: usize,
+        floats: *mut f64,
+        floats_length: usize,
+        marks: *mut u8,
+        marks_length: usize,
+        answers: *mut u64,
+        answers_length: usize,
+    ) -> u64;
+    /// A job of one request, code 6: the statistics of a field over a section.
+    pub fn hookyellow_statistics(
+        case: *const u8,
+        case_length: usize,
+        plane: SectionPlane,
+        field: u64,
+        words: *mut u32,
+        words_length: usize,
+        floats: *mut f64,
+        floats_length: usize,
+        marks: *mut u8,
+        marks_length: usize,
+        answers: *mut u64,
+        answers_length: usize,
+    ) -> u64;
+    /// A job of one request, code 7: the integrals over a section.
+    pub fn hookyellow_integrals(
+        case: *const u8,
+        case_length: usize,
+        plane: SectionPlane,
+        words: *mut u32,
+        words_length: usize,
+        floats: *mut f64,
+        floats_length: usize,
+        marks: *mut u8,
+        marks_length: usize,
+        answers: *mut u64,
+        answers_length: usize,
+    ) -> u64;
+    /// A job of one request, code 8: the sample at a point of a section.
+    pub fn hookyellow_probe(
+        case: *const u8,
+        case_length: usize,
+        plane: SectionPlane,
+        point: Vector,
+        words: *mut u32,
+        words_length: usize,
+        floats: *mut f64,
+        floats_length: usize,
+        marks: *mut u8,
+        marks_length: usize,
+        answers: *mut u64,
+        answers_length: usize,
+    ) -> u64;
+}

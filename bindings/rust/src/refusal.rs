@@ -1,0 +1,98 @@
+//! The refusals, with their numbers and what they mean.
+use std::fmt;
+
+macro_rules! refusals {
+    ($(#[$about:meta])* $name:ident { $($number:literal $variant:ident $meaning:literal,)* }) => {
+        $(#[$about])*
+        #[derive(Clone, Copy, Debug, PartialEq, Eq, Hash)]
+        pub enum $name {
+            $(#[doc = concat!(stringify!($number), ": ", $meaning, ".")] $variant,)*
+            /// A number that is not listed, or 0 for an answer that is not of the format. The proved code gives neither: another
+            /// library was linked.
+            Unknown(u64),
+        }
+
+        impl $name {
+            /// Every listed one, by rising number.
+            pub const ALL: &'static [Self] = &[$(Self::$variant),*];
+
+            /// The refusal with a number.
+            pub fn from_number(number: u64) -> Self {
+                match number {
+                    $($number => Self::$variant,)*
+                    other => Self::Unknown(other),
+                }
+            }
+
+            /// The number.
+            pub fn number(self) -> u64 {
+                match self {
+                    $(Self::$variant => $number,)*
+                    Self::Unknown(number) => number,
+                }
+            }
+
+            /// What it means, in words.
+            pub fn meaning(self) -> &'static str {
+                match self {
+                    $(Self::$variant => $meaning,)*
+                    Self::Unknown(_) => "not given by the proved code: another library was linked",
+                }
+            }
+        }
+
+        impl fmt::Display for $name {
+            fn fmt(&self, f: &mut fmt::Formatter<'_>) -> fmt::Result {
+                write!(f, "refusal {}: {}", self.number(), self.meaning())
+            }
+        }
+
+        impl std::error::Error for $name {}
+    };
+}
+
+refusals! {
+    /// Why a whole job is refused. It then changes neither answers nor marks.
+    Refusal {
+        1 Trailer "the trailer is wrong: under 32 bytes, a dimension other than 2 or 3, or offsets or a length that do not agree",
+        2 Counts "more than 65,536 points, 16,384 cells or 1,048,576 definition words",
+        3 Definitions "an unknown kind of cell, an inner count over its limit, or words that are not exactly one record for each cell",
+        4 WorkArea "too few words or floats in the work area",
+        5 Marks "fewer marks than cells",
+        6 Requests "request bytes that are no multiple of 128, or more than 4,096 requests",
+        7 Answers "fewer than 2 answer words for each request",
+        8 NoCells "a mesh without cells",
+        9 NonFinitePoint "a coordinate that is not finite",
+        10 FarPoint "a coordinate beyond 1,048,576 in size",
+        11 InvalidCell "a polygon of fewer than 3 points, a polyhedron of fewer than 4 faces, or a kind of cell that is not of the dimension",
+        12 PointNumber "a point number that is not below the number of points",
+        13 DegenerateFace "a face without length or area",
+        14 NonManifoldFace "a face of more than two cells",
+        15 ZeroVolume "a cell without area or volume",
+        16 FaceOrientation "a face whose normal does not lead away from the centre of its owner, or not toward the centre of its neighbour",
+        17 Disconnected "a mesh that is not connected",
+        18 FlatBounds "a 2D mesh whose bounds are flat",
+        19 BinCount "a 2D mesh that needs more than 65,536 bins along an axis",
+    }
+}
+
+refusals! {
+    /// Why one request of an accepted job is refused. Under 30 to 38 it reads no cell; under 39 to 44 what it read counts.
+    RequestRefusal {
+        30 Malformed "an unknown code, an unused word that is not zero, or a direction above 1",
+        31 Dimension "locate, velocity, streamline and rake need a 2D case, section, statistics, integrals and probe a 3D one",
+        32 FewSeeds "a rake of fewer than 2 seeds",
+        33 Limit "more than 64 seeds or 65,536 steps",
+        34 LineOptions "a step size, maximum length or stagnation speed that is not finite or out of range, or no steps",
+        35 Seed "a seed that lies in no cell",
+        36 Plane "an origin that is not finite, or axes that are not finite and orthonormal",
+        37 FarOrigin "an origin coordinate beyond 1,048,576 in size",
+        38 Field "a field above 5",
+        39 NonFiniteSample "a velocity or pressure on the section that is not finite",
+        40 NonFiniteFlux "a flux through the section that is not finite",
+        41 NoStatistics "no finite statistics over the section",
+        42 InvalidSample "an area or speed on the section that is not finite",
+        43 NoIntegrals "no finite integrals over the section",
+        44 AnswerSpace "an answer that does not fit in the answer words that are left",
+    }
+}

@@ -1,0 +1,71 @@
+//! Rooms that the tests share.
+#![allow(dead_code)]
+use hookyellow::{Case, Cell, Dimension, LineOptions, SectionPlane, Vector};
+
+pub const X: Vector = Vector::new(1.0, 0.0, 0.0);
+pub const Y: Vector = Vector::new(0.0, 1.0, 0.0);
+
+pub fn at(x: f64, y: f64, z: f64) -> Vector {
+    Vector::new(x, y, z)
+}
+
+/// 01's room Pair.
+pub fn pair() -> Case {
+    Case::builder(Dimension::Two)
+        .points([[0., 0., 0.], [1., 0., 0.], [2., 0., 0.], [0., 1., 0.], [1., 1., 0.], [2., 1., 0.]])
+        .cells([Cell::Polygon(vec![0, 1, 4, 3]), Cell::Polygon(vec![1, 2, 5, 4])])
+        .velocities([[1., 0., 0.], [3., 0., 0.]])
+        .pressures([0., 0.])
+        .build()
+        .unwrap()
+}
+
+/// One unit square. It is all the mesh, so that there is one bin and the far border is not lost.
+pub fn square(velocity: Vector) -> Case {
+    Case::builder(Dimension::Two)
+        .points([[0., 0., 0.], [1., 0., 0.], [1., 1., 0.], [0., 1., 0.]])
+        .cells([Cell::Polygon(vec![0, 1, 2, 3])])
+        .velocities([velocity])
+        .pressures([0.])
+        .build()
+        .unwrap()
+}
+
+/// Unit cubes in a row along x, with a velocity and a pressure in each.
+pub fn cubes(values: &[(Vector, f64)]) -> Case {
+    let corners = (0..=values.len()).flat_map(|i| [(0., 0.), (1., 0.), (1., 1.), (0., 1.)].map(|(y, z)| at(i as f64, y, z)));
+    let cell = |i: u32| Cell::Hexahedron(std::array::from_fn(|k| 4 * i + k as u32));
+    Case::builder(Dimension::Three)
+        .points(corners)
+        .cells((0..values.len() as u32).map(cell))
+        .velocities(values.iter().map(|value| value.0))
+        .pressures(values.iter().map(|value| value.1))
+        .build()
+        .unwrap()
+}
+
+/// The plane z = height, with the normal upward.
+pub fn level(height: f64) -> SectionPlane {
+    SectionPlane::new(at(0., 0., height), X, Y)
+}
+
+/// Steps of 0.25, at most 10 of them, and no stagnation speed.
+pub fn quarters(max_length: f64) -> LineOptions {
+    LineOptions { step_size: 0.25, max_steps: 10, max_length, stagnation_speed: 0.0 }
+}
+
+/// Numbers in no order (xorshift), the same in every run.
+pub struct Random(pub u64);
+
+impl Random {
+    pub fn next(&mut self) -> u64 {
+        self.0 ^= self.0 << 13;
+        self.0 ^= self.0 >> 7;
+        self.0 ^= self.0 << 17;
+        self.0
+    }
+
+    pub fn below(&mut self, limit: usize) -> usize {
+        (self.next() % limit as u64) as usize
+    }
+}

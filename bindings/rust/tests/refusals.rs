@@ -1,0 +1,120 @@
+//! Each number has its words, and rooms or requests that are refused.
+mod common;
+use common::*;
+use hookyellow::*;
+use std::collections::HashSet;
+
+#[test]
+fn numbers_are_those_of_01() {
+    let jobs: Vec<u64> = Refusal::ALL.iter().map(|refusal| refusal.number()).collect();
+    let requests: Vec<u64> = RequestRefusal::ALL.iter().map(|refusal| refusal.number()).collect();
+    assert_eq!(jobs, (1..=19).collect::<Vec<_>>());
+    assert_eq!(requests, (30..=44).collect::<Vec<_>>());
+    for number in 0..100 {
+        assert_eq!(Refusal::from_number(number).number(), number);
+        assert_eq!(RequestRefusal::from_number(number).number(), number);
+        assert_eq!(matches!(Refusal::from_number(number), Refusal::Unknown(_)), !(1..=19).contains(&number));
+        assert_eq!(matches!(RequestRefusal::from_number(number), RequestRefusal::Unknown(_)), !(30..=44).contains(&number));
+    }
+}
+
+#[test]
+fn each_has_words_of_its_own() {
+    let jobs = Refusal::ALL.iter().map(|refusal| refusal.meaning());
+    let meanings: Vec<&str> = jobs.chain(RequestRefusal::ALL.iter().map(|refusal| refusal.meaning())).collect();
+    assert!(meanings.iter().all(|meaning| meaning.contains(' ')));
+    assert_eq!(meanings.iter().collect::<HashSet<_>>().len(), 19 + 15);
+    let error: Box<dyn std::error::Error> = Box::new(RequestRefusal::FewSeeds);
+    assert_eq!(error.to_string(), "refusal 32: a rake of fewer than 2 seeds");
+}
+
+/// A case of triangles over these points, with values that are all zero.
+fn triangles(points: &[[f64; 3]], cells: &[[u32; 3]]) -> Case {
+    Case::builder(Dimension::Two)
+        .points(points.iter().copied())
+        .cells(cells.iter().map(|points| Cell::Polygon(points.to_vec())))
+        .velocities(cells.iter().map(|_| Vector::default()))
+        .pressures(cells.iter().map(|_| 0.0))
+        .build()
+        .unwrap()
+}
+
+#[test]
+fn cases_are_refused_by_the_fault_they_have() {
+    let (o, a, b) = ([0., 0., 0.], [1., 0., 0.], [0., 1., 0.]);
+    let (far, flat, nan) = ([1_048_577., 0., 0.], [2., 0., 0.], [f64::NAN, 0., 0.]);
+    let many = |n: usize| Cell::Polygon((0..n as u32).collect());
+    let polygon = |cell| Case::builder(Dimension::Two).cells([cell]).velocities([X]).pressures([0.]).build().unwrap();
+    let two_apart = triangles(&[o, a, b, [5., 5., 0.], [6., 5., 0.], [5., 6., 0.]], &[[0, 1, 2], [3, 4, 5]]);
+    let cases = [
+        (Case::from_bytes(vec![]), Refusal::Trailer),
+        (triangles(&vec![o; 65_537], &[[0, 1, 2]]), Refusal::Counts),
+        (polygon(many(25)), Refusal::Definitions),
+        (triangles(&[o], &[]), Refusal::NoCells),
+        (triangles(&[o, a, nan], &[[0, 1, 2]]), Refusal::NonFinitePoint),
+        (triangles(&[o, far, b], &[[0, 1, 2]]), Refusal::FarPoint),
+        (polygon(many(2)), Refusal::InvalidCell),
+        (polygon(Cell::Tetrahedron([0; 4])), Refusal::InvalidCell),
+        (polygon(many(24)), Refusal::PointNumber),
+        (triangles(&[o, a, b], &[[0, 0, 1]]), Refusal::DegenerateFace),
+        (triangles(&[o, a, b], &[[0, 1, 2]; 3]), Refusal::NonManifoldFace),
+        (triangles(&[o, a, flat], &[[0, 1, 2]]), Refusal::ZeroVolume),
+        (two_apart, Refusal::Disconnected),
+    ];
+    let mut workspace = Workspace::new();
+    for (case, refusal) in cases {
+        assert_eq!(job(&case, &[], &mut workspace), Err(refusal));
+        assert_eq!(needs(&case).err(), (refusal.number() <= 3).then_some(refusal));
+    }
+}
+
+fn refused(case: &Case, request: Request) -> (RequestRefusal, Vec<usize>) {
+    let outcome = job(case, &[request], &mut Workspace::new()).unwrap();
+    (outcome.answers[0].clone().unwrap_err(), outcome.cells_read().to_vec())
+}
+
+#[test]
+fn lines_are_refused_before_a_cell_is_read() {
+    let room = square(X);
+    let rake = |count, options| Request::Rake {
+        start: at(0.25, 0.25, 0.),
+        end: at(0.25, 0.75, 0.),
+        count,
+        direction: Direction::Forward,
+        options,
+    };
+    let good = quarters(1.0);
+    let seed = |x| Request::Streamline { seed: at(x, 0.5, 0.), direction: Direction::Forward, options: good };
+    let cases = [
+        (Request::Section { plane: level(0.5) }, RequestRefusal::Dimension),
+        (rake(1, good), RequestRefusal::FewSeeds),
+        (rake(65, good), RequestRefusal::Limit),
+        (rake(2, LineOptions { max_steps: 65_537, ..good }), RequestRefusal::Limit),
+        (rake(2, LineOptions { step_size: 0.0, ..good }), RequestRefusal::LineOptions),
+        (rake(2, LineOptions { max_steps: 0, ..good }), RequestRefusal::LineOptions),
+        (rake(2, LineOptions { stagnation_speed: f64::NAN, ..good }), RequestRefusal::LineOptions),
+        (seed(2.0), RequestRefusal::Seed),
+    ];
+    for (request, refusal) in cases {
+        assert_eq!(refused(&room, request), (refusal, vec![]), "{request:?}");
+    }
+}
+
+#[test]
+fn sections_are_refused_with_the_cells_they_read() {
+    let (good, bad) = ((X, 0.0), (X, f64::INFINITY));
+    let room = cubes(&[good, bad, good]);
+    let section = |origin, u| Request::Section { plane: SectionPlane::new(origin, u, Y) };
+    let cases = [
+        (Request::Locate { point: X }, RequestRefusal::Dimension, vec![]),
+        (section(at(0., 0., 0.5), at(2., 0., 0.)), RequestRefusal::Plane, vec![]),
+        (section(at(0., 0., f64::NAN), X), RequestRefusal::Plane, vec![]),
+        (section(at(0., 0., 1_048_577.), X), RequestRefusal::FarOrigin, vec![]),
+        (section(at(0., 0., 0.5), X), RequestRefusal::NonFiniteSample, vec![0, 1]),
+        (Request::Statistics { plane: level(5.0), field: Field::Speed }, RequestRefusal::NoStatistics, vec![]),
+        (Request::Integrals { plane: level(5.0) }, RequestRefusal::NoIntegrals, vec![]),
+    ];
+    for (request, refusal, cells) in cases {
+        assert_eq!(refused(&room, request), (refusal, cells), "{request:?}");
+    }
+}

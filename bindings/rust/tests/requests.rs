@@ -1,0 +1,195 @@
+//! One room for each kind of request whose answer can be told by hand; the request alone gives the same as the job.
+mod common;
+use common::*;
+use hookyellow::*;
+
+/// The answer and the cells of a job of one request.
+fn ask(case: &Case, request: Request) -> (Result<Answer, RequestRefusal>, Vec<usize>) {
+    let outcome = job(case, &[request], &mut Workspace::new()).unwrap();
+    (outcome.answers[0].clone(), outcome.cells_read().to_vec())
+}
+
+/// What a request alone gives, in the same form.
+fn alone<T>(single: Single<T>, answer: fn(T) -> Answer) -> (Result<Answer, RequestRefusal>, Vec<usize>) {
+    (single.answer.map(answer), single.cells_read)
+}
+
+/// 01's starred points of Pair. No value is read.
+#[test]
+fn locate_in_pair() {
+    let (case, workspace) = (pair(), &mut Workspace::new());
+    for (x, cell) in [(0.5, Some(0)), (1.0, Some(0)), (1.5, None), (2.0, None)] {
+        let point = at(x, 0.5, 0.0);
+        let expected = (Ok(Answer::Locate(cell)), vec![]);
+        assert_eq!(ask(&case, Request::Locate { point }), expected);
+        assert_eq!(alone(locate(&case, point, workspace).unwrap(), Answer::Locate), expected);
+    }
+}
+
+/// In one square of uniform flow the velocity is that of the square; outside there is none and nothing is read.
+#[test]
+fn velocity_of_a_uniform_flow() {
+    let flow = at(1.0, -2.0, 0.0);
+    let (case, workspace) = (square(flow), &mut Workspace::new());
+    for (x, found, cells) in [(0.3, Some(flow), vec![0]), (1.0, Some(flow), vec![0]), (1.25, None, vec![])] {
+        let point = at(x, 0.6, 0.0);
+        let expected = (Ok(Answer::Velocity(found)), cells);
+        assert_eq!(ask(&case, Request::Velocity { point }), expected);
+        assert_eq!(alone(velocity(&case, point, workspace).unwrap(), Answer::Velocity), expected);
+    }
+}
+
+/// Points in quarters from a height.
+fn straight(xs: &[f64], y: f64) -> Streamline {
+    Streamline { points: xs.iter().map(|&x| at(x, y, 0.0)).collect() }
+}
+
+/// A uniform flow along x gives a straight line up to the border, whatever its speed.
+#[test]
+fn streamline_of_a_uniform_flow() {
+    let (case, workspace) = (square(at(7.0, 0.0, 0.0)), &mut Workspace::new());
+    let cases = [
+        (0.25, Direction::Forward, 9.0, &[0.25, 0.5, 0.75, 1.0][..]),
+        (0.75, Direction::Backward, 9.0, &[0.75, 0.5, 0.25, 0.0]),
+        (0.25, Direction::Forward, 0.5, &[0.25, 0.5, 0.75]),
+        (0.25, Direction::Forward, 0.25, &[0.25, 0.5]),
+    ];
+    for (x, direction, length, xs) in cases {
+        let (seed, options) = (at(x, 0.5, 0.0), quarters(length));
+        let expected = (Ok(Answer::Streamline(straight(xs, 0.5))), vec![0]);
+        assert_eq!(ask(&case, Request::Streamline { seed, direction, options }), expected);
+        let single = streamline(&case, seed, direction, options, workspace).unwrap();
+        assert_eq!(alone(single, Answer::Streamline), expected);
+    }
+}
+
+/// 01: in Pair a stagnation speed of 1 leaves the seed alone.
+#[test]
+fn streamline_that_stagnates() {
+    let options = LineOptions { stagnation_speed: 1.0, ..quarters(0.5) };
+    let single = streamline(&pair(), at(0.25, 0.5, 0.0), Direction::Forward, options, &mut Workspace::new()).unwrap();
+    assert_eq!(single.answer, Ok(straight(&[0.25], 0.5)));
+}
+
+/// Three seeds from a quarter to three quarters of the height, each with its straight line.
+#[test]
+fn rake_of_a_uniform_flow() {
+    let case = square(X);
+    let (start, end, options) = (at(0.25, 0.25, 0.0), at(0.25, 0.75, 0.0), quarters(9.0));
+    for (direction, xs) in [(Direction::Forward, &[0.25, 0.5, 0.75, 1.0][..]), (Direction::Backward, &[0.25, 0.0])] {
+        let lines = [0.25, 0.5, 0.75].map(|y| straight(xs, y)).to_vec();
+        let expected = (Ok(Answer::Rake(lines)), vec![0]);
+        assert_eq!(ask(&case, Request::Rake { start, end, count: 3, direction, options }), expected);
+        let single = rake(&case, start, end, 3, direction, options, &mut Workspace::new()).unwrap();
+        assert_eq!(alone(single, Answer::Rake), expected);
+    }
+}
+
+/// 01's unit cube: the square at half its height, from the corner nearest the origin around.
+#[test]
+fn section_of_the_unit_cube() {
+    let velocity = at(0.0, 0.0, 2.0);
+    let case = cubes(&[(velocity, 3.0)]);
+    let vertices = [(0., 0.), (1., 0.), (1., 1.), (0., 1.)].map(|(x, y)| at(x, y, 0.5)).to_vec();
+    let polygon = SectionPolygon { cell: 0, centre: at(0.5, 0.5, 0.5), vertices, velocity, pressure: 3.0 };
+    let expected = (Ok(Answer::Section(vec![polygon])), vec![0]);
+    assert_eq!(ask(&case, Request::Section { plane: level(0.5) }), expected);
+    assert_eq!(alone(section(&case, level(0.5), &mut Workspace::new()).unwrap(), Answer::Section), expected);
+}
+
+/// A plane beside the room cuts nothing; one through x = 0.5 cuts the first of three cubes alone.
+#[test]
+fn section_reads_the_cells_it_cuts() {
+    let case = cubes(&[(X, 0.0); 3]);
+    let cut = |x| SectionPlane::new(at(x, 0.0, 0.0), Y, at(0.0, 0.0, 1.0));
+    for (x, cells) in [(-1.0, vec![]), (0.5, vec![0]), (2.5, vec![2])] {
+        let single = section(&case, cut(x), &mut Workspace::new()).unwrap();
+        assert_eq!(single.cells_read, cells);
+        assert_eq!(single.answer.unwrap().iter().map(|polygon| polygon.cell).collect::<Vec<_>>(), cells);
+    }
+}
+
+/// Two cubes: up at speed 2 with pressure 4, down at speed 1 with pressure 1. Each has the area 1, so that the fluxes are 2 and -1.
+fn up_and_down() -> Case {
+    cubes(&[(at(0.0, 0.0, 2.0), 4.0), (at(0.0, 0.0, -1.0), 1.0)])
+}
+
+/// The values of a field in the two cubes are given. Weighted by 2 and 1 their mean is (2a + b) / 3; a third goes downward.
+fn expected_statistics(a: f64, b: f64) -> Statistics {
+    Statistics {
+        used: 2,
+        area: 2.0,
+        minimum: a.min(b),
+        maximum: a.max(b),
+        mean: (a + b) / 2.0,
+        integral: a + b,
+        flux: 1.0,
+        positive_flux: 2.0,
+        negative_flux: -1.0,
+        absolute_flux: 3.0,
+        weighted: Some(FluxWeighted { value: (2.0 * a + b) / 3.0, reverse_fraction: 1.0 / 3.0 }),
+    }
+}
+
+#[test]
+fn statistics_of_two_cubes() {
+    let (case, plane) = (up_and_down(), level(0.5));
+    let values = [(2.0, 1.0), (4.0, 1.0), (0.0, 0.0), (0.0, 0.0), (2.0, -1.0), (2.0, -1.0)];
+    for (field, (a, b)) in Field::ALL.into_iter().zip(values) {
+        let expected = (Ok(Answer::Statistics(expected_statistics(a, b))), vec![0, 1]);
+        assert_eq!(ask(&case, Request::Statistics { plane, field }), expected, "{field:?}");
+        let single = statistics(&case, plane, field, &mut Workspace::new()).unwrap();
+        assert_eq!(alone(single, Answer::Statistics), expected, "{field:?}");
+    }
+}
+
+/// Flow along the plane has no flux, and nothing to weight by.
+#[test]
+fn statistics_without_flux() {
+    let single = statistics(&cubes(&[(X, 3.0)]), level(0.5), Field::Pressure, &mut Workspace::new()).unwrap();
+    let statistics = single.answer.unwrap();
+    assert_eq!((statistics.absolute_flux, statistics.weighted), (0.0, None));
+    assert_eq!((statistics.area, statistics.mean), (1.0, 3.0));
+}
+
+#[test]
+fn integrals_of_two_cubes() {
+    let (case, plane) = (up_and_down(), level(0.5));
+    let sums = Integrals { area: 2.0, mean_pressure: 2.5, mean_speed: 1.5, flux: 1.0 };
+    let expected = (Ok(Answer::Integrals(sums)), vec![0, 1]);
+    assert_eq!(ask(&case, Request::Integrals { plane }), expected);
+    assert_eq!(alone(integrals(&case, plane, &mut Workspace::new()).unwrap(), Answer::Integrals), expected);
+}
+
+/// 01's unit cube: area 1, flux 2.
+#[test]
+fn integrals_of_the_unit_cube() {
+    let single = integrals(&cubes(&[(at(0.0, 0.0, 2.0), 3.0)]), level(0.5), &mut Workspace::new()).unwrap();
+    assert_eq!(single.answer, Ok(Integrals { area: 1.0, mean_pressure: 3.0, mean_speed: 2.0, flux: 2.0 }));
+}
+
+/// A probe reads the whole section, finds the cell at a point of the plane and none off the plane or outside the room.
+#[test]
+fn probe_of_two_cubes() {
+    let (case, plane) = (up_and_down(), level(0.5));
+    let sample = Sample { cell: 1, velocity: at(0.0, 0.0, -1.0), pressure: 1.0 };
+    for (point, found) in [(at(1.5, 0.5, 0.5), Some(sample)), (at(1.5, 0.5, 0.75), None), (at(2.5, 0.5, 0.5), None)] {
+        let expected = (Ok(Answer::Probe(found)), vec![0, 1]);
+        assert_eq!(ask(&case, Request::Probe { plane, point }), expected);
+        assert_eq!(alone(probe(&case, plane, point, &mut Workspace::new()).unwrap(), Answer::Probe), expected);
+    }
+}
+
+/// A request that is refused does not stop the others.
+#[test]
+fn requests_are_served_in_order() {
+    let requests = [
+        Request::Velocity { point: at(0.25, 0.5, 0.0) },
+        Request::Section { plane: level(0.5) },
+        Request::Locate { point: at(0.5, 0.5, 0.0) },
+    ];
+    let outcome = job(&pair(), &requests, &mut Workspace::new()).unwrap();
+    let velocity = Answer::Velocity(Some(X));
+    assert_eq!(outcome.answers, [Ok(velocity), Err(RequestRefusal::Dimension), Ok(Answer::Locate(Some(0)))]);
+    assert_eq!(outcome.cells_read(), [0, 1]);
+}
