@@ -1,0 +1,51 @@
+//! The table and its last line.
+use crate::measure::Measured;
+use crate::rows::Row;
+
+const HEADER: &str = "\
+The proved code (ours) and the unchanged Rust in one process, on the same inputs: medians, over rounds in which they run in turn,
+of the time that the thread has a core. The answers of both were compared before, bit for bit.
+build-*: ours is a job without requests on the case bytes; the Rust's is FLURSYS's from_cells on ready lists, its quality report included,
+which is part of that function. build-quads-field: the Rust's also makes the streamline field, without which it serves no code 1 to 4.
+Other rows: ours is a job with the requests less a job without any, of the same round (short requests stand in the job up to 64 times);
+the Rust's mesh and streamline field are ready, and a plane is cut through the whole mesh at each call, as FLURSYS does.
+The Rust's statistics include its text, which is part of that function. Its results are dropped outside the time.
+locate, velocity: 4,096 points. line: 65,536 steps. rake: 64 seeds of 1,024 steps. few, many: a plane by a corner of the room, by its
+middle. *: fewer points or steps were run and both times multiplied. ~: half of our rounds lie more than a quarter apart.
+Growth: the time over that of the same row on its smallest mesh.";
+
+pub fn print_header() {
+    println!("{HEADER}\n");
+    println!(
+        "{:<18} {:>7} {:>14} {:>12} {:>10}   {:>11} {:>11}",
+        "row", "cells", "ours (us)", "Rust (us)", "ratio", "growth ours", "growth Rust"
+    );
+}
+
+/// Ours over the Rust's; none where the difference of the jobs is not above zero.
+pub fn ratio(m: &Measured) -> Option<f64> {
+    (m.ours > 0.0).then(|| m.ours / m.theirs)
+}
+
+pub fn print_row(row: &Row, m: &Measured, smallest: &Measured) {
+    let marks = format!("{}{}", if m.scaled { "*" } else { "" }, if m.uneven { "~" } else { "" });
+    let ratio = ratio(m).map_or("noise".into(), |r| format!("{r:.2}"));
+    println!(
+        "{:<18} {:>7} {:>14.1} {:>12.1} {:>10}{:<2} {:>11.2} {:>11.2}",
+        row.name,
+        row.shape.cells(),
+        m.ours,
+        m.theirs,
+        ratio,
+        marks,
+        m.ours / smallest.ours,
+        m.theirs / smallest.theirs
+    );
+}
+
+pub fn print_worst(rows: &[(Row, Measured)]) {
+    let worst = rows.iter().filter_map(|(row, m)| Some((ratio(m)?, row.key())));
+    if let Some((ratio, key)) = worst.max_by(|a, b| a.0.total_cmp(&b.0)) {
+        println!("worst ratio {ratio:.2} in {key}");
+    }
+}

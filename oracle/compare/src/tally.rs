@@ -1,0 +1,169 @@
+//! What came of the pairs: how often each code and each refusal came, over which fields and arguments.
+use crate::lines::{POINTS, POINTS_MADE};
+use crate::pairs::Pair;
+use crate::planes::{PLANES, PLANES_MADE};
+use reference::refair::{read_case, used_words, Answer, Case, JobOut};
+use std::collections::BTreeMap;
+use std::fmt::Write;
+use std::sync::atomic::{AtomicU64, Ordering::Relaxed};
+
+const NAN: u64 = 0x7ff8_0000_0000_0000;
+/// The refusals of a job; 18 has no case (docs/DIFFERENCES.md).
+const JOB_REFUSALS: std::ops::RangeInclusive<u32> = 1..=19;
+const REFUSALS: std::ops::RangeInclusive<u32> = 30..=44;
+const FIELDS: [&str; 6] = ["NaN", "infinite", "subnormal", "huge", "read it", "argument"];
+
+#[derive(Default)]
+pub struct Tally {
+    jobs: BTreeMap<u32, u64>,
+    requests: BTreeMap<(u64, u32), u64>,
+    /// by code: requests on a case with such a field, and with such an argument
+    fields: BTreeMap<u64, [u64; 6]>,
+    kinds: BTreeMap<&'static str, u64>,
+    sorts: BTreeMap<String, u64>,
+    limits: BTreeMap<(String, u32), u64>,
+    nans: u64,
+}
+
+/// Is it a NaN, infinite, subnormal or beyond 1e150 in size?
+fn oddness(x: f64) -> [bool; 4] {
+    [x.is_nan(), x.is_infinite(), x.is_subnormal(), x.is_finite() && x.abs() > 1e150]
+}
+
+fn fields_of(case: &Case, cell: usize) -> [f64; 4] {
+    let v = case.velocity[cell];
+    [v.x, v.y, v.z, case.pressure[cell]]
+}
+
+fn kind_of(code: u64, w: &[u64]) -> &'static str {
+    match code {
+        1 if w[0] == u64::MAX => "1 nowhere",
+        1 => "1 located",
+        2 if w[0] == 0 => "2 nowhere",
+        2 => "2 located",
+        3 => match w[0] {
+            1 => "3 seed alone",
+            2..=50 => "3 to 50 points",
+            51..=65_536 => "3 to 65,536 points",
+            _ => "3 all 65,537 points",
+        },
+        4 if w[0] == 64 => "4 of 64 lines",
+        4 => "4 of fewer lines",
+        5 if w[0] == 0 => "5 no polygon",
+        5 => "5 polygons",
+        6 if w[10] == 0 => "6 no flux",
+        6 if w[12] << 1 == 0 => "6 one-way flux",
+        6 => "6 flux both ways",
+        7 => "7",
+        _ if w[0] == u64::MAX => "8 none",
+        _ => "8 found",
+    }
+}
+
+impl Tally {
+    pub fn count(&mut self, p: &Pair, out: &JobOut) {
+        let refusal = if let JobOut::Refused(k) = out { *k } else { 0 };
+        let sort = p.sort.split(' ').take(2).collect::<Vec<_>>().join(" ");
+        let edited = p.sort.contains("fault") || p.sort.contains("edge");
+        if !edited && (p.sort.starts_with("limit ") || sort == "2D long") {
+            *self.limits.entry((p.sort.trim_start_matches("limit ").to_string(), refusal)).or_default() += 1;
+        }
+        *self.sorts.entry(sort).or_default() += 1;
+        *self.jobs.entry(refusal).or_default() += 1;
+        let JobOut::Done { answers, marks } = out else { return };
+        let case = read_case(&p.case).expect("a served case is readable");
+        let (mut held, mut read) = ([false; 4], false);
+        for cell in 0..marks.len() {
+            for x in fields_of(&case, cell) {
+                let odd = oddness(x);
+                held = std::array::from_fn(|k| held[k] || odd[k]);
+                read |= marks[cell] && !x.is_finite();
+            }
+        }
+        for (i, a) in answers.iter().enumerate() {
+            self.count_answer(p, i, a, held, read);
+        }
+    }
+
+    fn count_answer(&mut self, p: &Pair, i: usize, a: &Answer, held: [bool; 4], read: bool) {
+        let code = p.code(i);
+        let code = if (1..9).contains(&code) { code } else { 0 };
+        *self.requests.entry((code, a.refusal)).or_default() += 1;
+        let argument = (1..used_words(code).unwrap_or(1)).any(|k| oddness(f64::from_bits(p.word(i, k))) != [false; 4] && p.word(i, k) > 65_537);
+        let had = self.fields.entry(code).or_default();
+        for (n, yes) in had.iter_mut().zip([held[0], held[1], held[2], held[3], read, argument]) {
+            *n += yes as u64;
+        }
+        self.nans += a.words.iter().filter(|w| **w == NAN).count() as u64;
+        if a.refusal == 0 {
+            *self.kinds.entry(kind_of(code, &a.words)).or_default() += 1;
+        }
+    }
+
+    /// What was made and what came of it, before the table.
+    pub fn summary(&self) -> String {
+        let pairs = |names: &[&str], made: &[AtomicU64]| {
+            names.iter().zip(made).map(|(s, n)| format!("{s} {}", n.load(Relaxed))).collect::<Vec<_>>().join(", ")
+        };
+        let limits: Vec<String> = self.limits.iter().map(|((s, k), n)| format!("{s}: {n} gave {k}")).collect();
+        format!(
+            "cases: {}\nlimits: {}\npoints made here: {}\nplanes made here: {}\nanswers: {}; {} words are NaN\n",
+            self.sorts.iter().map(|(s, n)| format!("{s} {n}")).collect::<Vec<_>>().join(", "),
+            limits.join(", "),
+            pairs(&POINTS, &POINTS_MADE),
+            pairs(&PLANES, &PLANES_MADE),
+            self.kinds.iter().map(|(s, n)| format!("{s}: {n}")).collect::<Vec<_>>().join(", "),
+            self.nans
+        )
+    }
+
+    fn of(&self, code: u64, refusal: u32) -> u64 {
+        self.requests.get(&(code, refusal)).copied().unwrap_or(0)
+    }
+
+    fn refused(&self, refusal: u32) -> u64 {
+        (0..9).map(|code| self.of(code, refusal)).sum()
+    }
+
+    /// How often each code and each refusal came.
+    pub fn table(&self) -> String {
+        let mut s = String::from("jobs by refusal (0: served)\n");
+        for k in std::iter::once(0).chain(JOB_REFUSALS) {
+            write!(s, "  {k}: {}", self.jobs.get(&k).copied().unwrap_or(0)).expect("a string takes it");
+        }
+        s += "\nrequests of served jobs, by code and refusal (0: answered)\n code       0";
+        for k in REFUSALS {
+            write!(s, "{k:>7}").expect("a string takes it");
+        }
+        for code in 0..9 {
+            let name = if code == 0 { "else".into() } else { code.to_string() };
+            write!(s, "\n {name:>4}{:>8}", self.of(code, 0)).expect("a string takes it");
+            for k in REFUSALS {
+                write!(s, "{:>7}", self.of(code, k)).expect("a string takes it");
+            }
+        }
+        s + "\n" + &self.field_table() + &self.missing()
+    }
+
+    fn field_table(&self) -> String {
+        let mut s = String::from("of these, on a case with such a field; whose job read one that is not finite; with such an argument\n code");
+        for name in FIELDS {
+            write!(s, "{name:>11}").expect("a string takes it");
+        }
+        for code in 1..9 {
+            write!(s, "\n {code:>4}").expect("a string takes it");
+            for n in self.fields.get(&code).unwrap_or(&[0; 6]) {
+                write!(s, "{n:>11}").expect("a string takes it");
+            }
+        }
+        s + "\n"
+    }
+
+    fn missing(&self) -> String {
+        let list = |it: Vec<String>| if it.is_empty() { "none".to_string() } else { it.join(" ") };
+        let jobs = JOB_REFUSALS.filter(|k| !self.jobs.contains_key(k)).map(|k| k.to_string()).collect();
+        let codes = (1..9).filter(|&c| self.of(c, 0) == 0).map(|c| c.to_string()).collect();
+        let requests = REFUSALS.filter(|&k| self.refused(k) == 0).map(|k| k.to_string()).collect();
+        format!("never came: refusals of jobs {}, answered codes {}, refusals of requests {}\n", list(jobs), list(codes), list(requests))
+    }
+}
