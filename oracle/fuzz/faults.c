@@ -1,0 +1,29 @@
+/* A library with a fault, for `run --self-test`: the job with one thing wrong afterwards. FAULT says which. */
+#include "../../include/hookyellow.h"
+
+#define GIVEN \
+    const uint8_t *case_bytes, size_t case_length, const uint8_t *requests, size_t requests_length, uint32_t *words, \
+        size_t words_length, double *floats, size_t floats_length, uint8_t *marks, size_t marks_length, uint64_t *answers, \
+        size_t answers_length
+
+uint64_t __real_hookyellow_job(GIVEN);
+
+uint64_t __wrap_hookyellow_job(GIVEN) {
+    uint64_t result = __real_hookyellow_job(case_bytes, case_length, requests, requests_length, words, words_length, floats,
+                                            floats_length, marks, marks_length, answers, answers_length);
+    switch (FAULT) {
+    case 1: words[words_length] = 0; break;                                        /* one word past the end */
+    case 2: if (result && marks_length) marks[0] ^= 1; break;                      /* marks under a refusal */
+    case 3: if (result && answers_length) answers[0] = 0; break;                   /* answers under a refusal */
+    case 4: if (!result) marks[0] = 2; break;                                      /* a mark that is none */
+    case 5: if (!result && answers_length) answers[answers_length - 1] = 1; break; /* a word after the last answer */
+    case 6: if (case_length) ((uint8_t *)case_bytes)[0] ^= 1; break;               /* the case */
+    case 7: *(volatile const uint8_t *)(requests + requests_length); break;        /* a read past the end */
+    case 8: ((uint8_t *)floats)[-1] ^= 1; break;                                   /* the byte before the floats */
+    case 9: if (result == 10) result = 9; break;                                   /* another refusal */
+    case 10: if (!result && requests_length == 128) marks[0] ^= 1; break;          /* other marks than the request alone */
+    case 11: if (!result && answers_length > 4 && answers[1] > 1) answers[3] = 0x7ff8000000000001; break; /* another NaN */
+    case 12: for (volatile int on = 1; on;) {} break;                              /* no end */
+    }
+    return result;
+}
