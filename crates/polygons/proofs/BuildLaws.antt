@@ -26,7 +26,7 @@ use Rattle.polygons.specs.Corners.{turnsAbout, cornersOf, polygonOf}
 use Rattle.polygons.specs.Bounds.{boundsOf}
 use Rattle.polygons.specs.Bins.{Binned, binCounts, listedIn}
 use Rattle.polygons.specs.Field.{Few, polygonsOf, gridFor, gridOf, fieldOf, builtGrid}
-use Rattle.polygons.specs.Layout.{wordsAt, floatsAt, pairFrom, pairsFrom, countIn, polygonIn, polygonsIn, cornerIn, cornersIn, cellPolygonsIn, fieldIn, Placed, Stored, Kept, Traceable}
+use Rattle.polygons.specs.Layout.{wordsAt, floatsAt, pairFrom, pairsFrom, countIn, polygonIn, polygonsIn, cornerIn, cornersIn, cellPolygonsIn, fieldIn, Placed, Stored, Kept, Traceable, Searchable}
 use Rattle.polygons.proofs.CornerLaws.{cell-corners-any}
 use Rattle.polygons.proofs.GridLaws.{map-tab}
 
@@ -149,21 +149,24 @@ lent-floats s f f′ l e = record { few-slots = l .few-slots; few-faces = l .few
 
 module _ (ps : List Vec3) (s : Sizes) (w₀ w : List ℕ) (f₀ f : List Float) (b : Box) (n : Bin) (r : Built)
     (polygons : polygonsIn s w f ≡ polygonsOf (meshIn ps s w₀ f₀)) (kept : Kept s w₀ w f₀ f) (eb : b ≡ boundsOf (concat (polygonsIn s w f))) (en : n ≡ binCounts (s .cells) b)
-    (grid : builtGrid r ≡ gridFor b n) (binned : (g : Grid) → r ≡ Made g → Binned g) where
+    (grid : builtGrid r ≡ gridFor b n) where
   result : builtGrid r ≡ gridOf (s .cells) (polygonsOf (meshIn ps s w₀ f₀))
   unfolding gridOf
   result = grid ∙ rw (en, eb, polygons)
 
   pub refused-field : (k : ℕ) → r ≡ Refused k → Traceable (meshIn ps s w₀ f₀) s w f r × Kept s w₀ w f₀ f
   refused-field k e =
-      (record { result = result; field = λ g q. absurd (let z : _≡_ {A = ℕ} 0 1 = cc in omega arith); binned = binned }, kept)
+      (record { result = result; field = λ g q. absurd (never g q); searchable = λ g q. absurd (never g q) }, kept)
+    where
+      never : (g : Grid) → r ≡ Made g → ⊥
+      never g q = let z : _≡_ {A = ℕ} 0 1 = cc in omega arith
 
-  pub made-field : (g : Grid) (w′ : List ℕ) → r ≡ Made g → cellPolygonsIn s w′ f ≡ map (listedIn g) (polygonsIn s w f) → take (wordsEnd s) w′ ≡ take (wordsEnd s) w
+  pub made-field : (g : Grid) (w′ : List ℕ) → r ≡ Made g → cellPolygonsIn s w′ f ≡ map (listedIn g) (polygonsIn s w f) → take (wordsEnd s) w′ ≡ take (wordsEnd s) w → Searchable g s w′
       → Traceable (meshIn ps s w₀ f₀) s w′ f (Made g) × Kept s w₀ w′ f₀ f
-  made-field g w′ e l t =
+  made-field g w′ e l t se =
       let tw : take (wordsEnd s) w′ ≡ take (wordsEnd s) w₀ = t ∙ kept .words in
       rw (← e)
-      (record { result = result; field = λ g′ q. let i : g ≡ g′ = cc in rw (← i) (whole tw); binned = binned }, record { words = tw; floats = kept .floats })
+      (record { result = result; field = λ g′ q. let i : g ≡ g′ = cc in rw (← i) (whole tw); searchable = λ g′ q. let i : g ≡ g′ = cc in rw (← i) se }, record { words = tw; floats = kept .floats })
     where
       made : gridOf (length (meshIn ps s w₀ f₀ .cells)) (polygonsOf (meshIn ps s w₀ f₀)) ≡ fine g
       made = unfold meshIn in rw (length-cellsIn s w₀ f₀) (sym result ∙ rw e (unfold builtGrid in refl))

@@ -1,6 +1,7 @@
 pub mod InsideLaws
 pub mod LocateLaws
 pub mod GridLaws
+pub mod IndexLaws
 pub mod CornerLaws
 pub mod PolygonLaws
 pub mod BuildLaws

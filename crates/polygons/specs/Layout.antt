@@ -1,6 +1,6 @@
 -- Where the tracer's part of the work area holds the polygons, and what its functions promise.
--- Words: cell i from 16F + 8C + 8i on: its first bin x, y, its last bin x, y, its vertex count. Floats: from 12F + 4C + 60i on the x and y of
--- its vertices, of which at most 24 are read.
+-- Words: cell i from 16F + 8C + 8i on: its first bin x, y, its last bin x, y, its vertex count; from 16F + 16C on the index of the bins, where
+-- it fits. Floats: from 12F + 4C + 60i on the x and y of its vertices, of which at most 24 are read.
 use Prim.Native.Nat.{ℕ, _+_, _*_, _≤_, _<_, min}
 use mathlib.Core.Path.{_≡_}
 use mathlib.Core.List.{List, map}
@@ -16,6 +16,7 @@ use Rattle.reading.specs.Result.{fine}
 use Rattle.area.specs.declared.Sizes.{Sizes}
 use Rattle.area.specs.Tables.{Mesh}
 use Rattle.area.specs.Layout.{wordsEnd, floatsEnd, cellsIn}
+use Rattle.bin_index.specs.Index.{flagIn, Indexed}
 use Rattle.polygons.specs.declared.Bin.{Bin}
 use Rattle.polygons.specs.declared.Grid.{Grid}
 use Rattle.polygons.specs.declared.Built.{Built}
@@ -107,8 +108,13 @@ pub record Listed (g : Grid) (s : Sizes) (w w′ : List ℕ) (f : List Float) (i
   pub before : take (wordsAt s i) w′ ≡ take (wordsAt s i) w
   pub polygons : polygonsIn s w′ f ≡ polygonsIn s w f
 
+-- a grid with bins; the index, where it stands, lists the cells of each bin
+pub record Searchable (g : Grid) (s : Sizes) (words : List ℕ) : Type 0 where
+  pub binned : Binned g
+  pub index : 0 < s .cells → flagIn words (wordsEnd s) (s .cells) ≡ 1 → Indexed words (wordsEnd s) (s .cells) (g .bins .x) (g .bins .y)
+
 -- the refusal, or the field of the mesh
 pub record Traceable (m : Mesh) (s : Sizes) (words′ : List ℕ) (floats′ : List Float) (r : Built) : Type 0 where
   pub result : builtGrid r ≡ gridOf (s .cells) (polygonsOf m)
   pub field : (g : Grid) → r ≡ Made g → fieldOf m ≡ fine (fieldIn g s words′ floats′)
-  pub binned : (g : Grid) → r ≡ Made g → Binned g
+  pub searchable : (g : Grid) → r ≡ Made g → Searchable g s words′

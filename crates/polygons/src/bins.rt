@@ -127,7 +127,7 @@ fn list_cell(words: &mut [u32], floats: &[f64], s: Sizes, g: Grid, i: usize)
 }
 
 // Lists every cell.
-pub fn list_cells(words: &mut [u32], floats: &[f64], s: Sizes, g: Grid)
+fn list_cells(words: &mut [u32], floats: &[f64], s: Sizes, g: Grid)
     requires { ⌜ LentWords s (now words) × LentFloats s (now floats) × Binned g ⌝ }
     ensures { λ _. ⌜ (Layout.cellPolygonsIn s (now (words .exit)) (now (floats .entry)) ≡ map (listedIn g) (Layout.polygonsIn s (now (words .entry)) (now (floats .entry))))
         × (take (wordsEnd s) (now (words .exit)) ≡ take (wordsEnd s) (now (words .entry))) ⌝ }
@@ -136,5 +136,24 @@ pub fn list_cells(words: &mut [u32], floats: &[f64], s: Sizes, g: Grid)
     while i < s.cells {
         list_cell(words, floats, s, g, i);
         i += 1;
+    }
+}
+
+// Lists every cell, and builds the index of the bins.
+pub fn index_cells(words: &mut [u32], floats: &[f64], s: Sizes, g: Grid)
+    requires { ⌜ LentWords s (now words) × LentFloats s (now floats) × Binned g ⌝ }
+    ensures { λ _. ⌜ (Layout.cellPolygonsIn s (now (words .exit)) (now (floats .entry)) ≡ map (listedIn g) (Layout.polygonsIn s (now (words .entry)) (now (floats .entry))))
+        × (take (wordsEnd s) (now (words .exit)) ≡ take (wordsEnd s) (now (words .entry)))
+        × Layout.Searchable g s (now (words .exit)) ⌝ }
+{
+    list_cells(words, floats, s, g);
+    if s.cells > 0 {
+        bin_index::build(
+            words,
+            16 * s.slots + 8 * s.cells,
+            s.cells,
+            g.bins.x,
+            g.bins.y,
+        );
     }
 }

@@ -179,7 +179,7 @@ pub fn from_dataset(
     match built {
         Built::Refused(_) => {}
         Built::Made(g) => {
-            bins::list_cells(words, floats, s, g);
+            bins::index_cells(words, floats, s, g);
         }
     }
     built

@@ -13,7 +13,9 @@ ghost use lib.ListN.{length};
 ghost use mathlib.Core.List.{List};
 ghost use lib.Ieee.{Float};
 ghost use Rattle.arith.specs.Lists.{firstFrom};
-ghost use Rattle.area.specs.Layout.{LentWords, LentFloats};
+ghost use mathlib.Core.Bool.{true};
+ghost use Rattle.area.specs.Layout.{wordsEnd, LentWords, LentFloats};
+ghost use Rattle.bin_index.specs.Index.{flagIn, Indexed};
 ghost use Rattle.polygons.specs.Bins as Bins;
 ghost use Rattle.polygons.specs.Bins.{Binned};
 ghost use Rattle.polygons.specs.Locate as Locate;
@@ -31,7 +33,7 @@ fn bin_along(low: f64, high: f64, n: usize, a: f64) -> usize
 // The bin of a point.
 pub fn bin_for(g: Grid, p: Vec2) -> Bin
     requires { ⌜ Binned g ⌝ }
-    ensures { λ r. ⌜ (r ≡ Bins.binFor g p) × (r .x < 65536) × (r .y < 65536) ⌝ }
+    ensures { λ r. ⌜ (r ≡ Bins.binFor g p) × (r .x < 65536) × (r .y < 65536) × (r .x < g .bins .x) × (r .y < g .bins .y) ⌝ }
 {
     Bin {
         x: bin_along(g.bounds.left, g.bounds.right, g.bins.x, p.x),
@@ -103,20 +105,28 @@ fn is_listed(words: &[u32], s: Sizes, i: usize, b: Bin) -> bool
     }
 }
 
+// Cell i contains q.
+fn has_point(words: &[u32], floats: &[f64], s: Sizes, q: Vec2, i: usize) -> bool
+    requires { ⌜ LentWords s (now words) × LentFloats s (now floats) × (i < s .cells) ⌝ }
+    ensures { λ r. ⌜ r ≡ Locate.contains q (Layout.polygonIn s (now (words .entry)) (now (floats .entry)) i) ⌝ }
+{
+    let n = count_in(words, s, i);
+    inside::point_in_polygon(q, floats, floats_at(s, i), n)
+}
+
 // Cell i is listed in bin b, and contains q.
 fn holds(words: &[u32], floats: &[f64], s: Sizes, b: Bin, q: Vec2, i: usize) -> bool
     requires { ⌜ LentWords s (now words) × LentFloats s (now floats) × (i < s .cells) ⌝ }
     ensures { λ r. ⌜ r ≡ Locate.holds b q (Layout.cellPolygonIn s (now (words .entry)) (now (floats .entry)) i) ⌝ }
 {
     if is_listed(words, s, i, b) {
-        let n = count_in(words, s, i);
-        inside::point_in_polygon(q, floats, floats_at(s, i), n)
+        has_point(words, floats, s, q, i)
     } else {
         false
     }
 }
 
-// The lowest cell that is listed in bin b and contains q.
+// The lowest cell that is listed in bin b and contains q: over all cells.
 fn first_holding(words: &[u32], floats: &[f64], s: Sizes, b: Bin, q: Vec2) -> Found
     requires { ⌜ LentWords s (now words) × LentFloats s (now floats) ⌝ }
     ensures { λ r. ⌜ r ≡ firstFrom (Locate.holds b q) 0 (Layout.cellPolygonsIn s (now (words .entry)) (now (floats .entry))) ⌝ }
@@ -131,15 +141,67 @@ fn first_holding(words: &[u32], floats: &[f64], s: Sizes, b: Bin, q: Vec2) -> Fo
     Found::Nothing
 }
 
+// The same of bin x, y of nx times ny, along its chain.
+fn first_listed(
+    words: &[u32],
+    floats: &[f64],
+    s: Sizes,
+    nx: usize,
+    ny: usize,
+    x: usize,
+    y: usize,
+    q: Vec2,
+) -> Found
+    requires { ⌜ LentWords s (now words) × LentFloats s (now floats) × (x < nx) × (y < ny) ⌝ }
+    requires { ⌜ Indexed (now words) (wordsEnd s) (s .cells) nx ny ⌝ }
+    ensures { λ r. ⌜ r ≡ firstFrom (Locate.holds (record { x = x; y = y }) q) 0 (Layout.cellPolygonsIn s (now (words .entry)) (now (floats .entry))) ⌝ }
+{
+    let base = 16 * s.slots + 8 * s.cells;
+    let mut h = bin_index::pool(words, base, s.cells, bin_index::bin_of(nx, ny, x, y));
+    while h != 0 {
+        let i = bin_index::pool(words, base, s.cells, h);
+        if has_point(words, floats, s, q, i) {
+            return Found::At(i);
+        }
+        h = bin_index::pool(words, base, s.cells, h + 1);
+    }
+    Found::Nothing
+}
+
+// The index of the bins stands.
+fn is_indexed(words: &[u32], s: Sizes) -> bool
+    requires { ⌜ LentWords s (now words) ⌝ }
+    ensures { λ r. ⌜ (r ≡ true → (0 < s .cells) × (flagIn (now (words .entry)) (wordsEnd s) (s .cells) ≡ 1)) ⌝ }
+{
+    if s.cells > 0 {
+        bin_index::flag(words, 16 * s.slots + 8 * s.cells, s.cells) == 1
+    } else {
+        false
+    }
+}
+
+// The lowest cell that is listed in q's bin and contains q.
+fn first_at(words: &[u32], floats: &[f64], s: Sizes, g: Grid, q: Vec2) -> Found
+    requires { ⌜ LentWords s (now words) × LentFloats s (now floats) × Layout.Searchable g s (now words) ⌝ }
+    ensures { λ r. ⌜ r ≡ firstFrom (Locate.holds (Bins.binFor g q) q) 0 (Layout.cellPolygonsIn s (now (words .entry)) (now (floats .entry))) ⌝ }
+{
+    let b = bin_for(g, q);
+    if is_indexed(words, s) {
+        first_listed(words, floats, s, g.bins.x, g.bins.y, b.x, b.y, q)
+    } else {
+        first_holding(words, floats, s, b, q)
+    }
+}
+
 // The lowest listed cell that contains p; nowhere for an x or y that is not finite.
 pub fn locate_cell(words: &[u32], floats: &[f64], s: Sizes, g: Grid, p: Vec3) -> Found
-    requires { ⌜ LentWords s (now words) × LentFloats s (now floats) × Binned g ⌝ }
+    requires { ⌜ LentWords s (now words) × LentFloats s (now floats) × Layout.Searchable g s (now words) ⌝ }
     ensures { λ r. ⌜ r ≡ Locate.locate g (Layout.cellPolygonsIn s (now (words .entry)) (now (floats .entry))) p ⌝ }
 {
     if float::is_finite(p.x) {
         if float::is_finite(p.y) {
             let q = Vec2 { x: p.x, y: p.y };
-            first_holding(words, floats, s, bin_for(g, q), q)
+            first_at(words, floats, s, g, q)
         } else {
             Found::Nothing
         }

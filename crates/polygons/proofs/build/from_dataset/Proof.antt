@@ -8,7 +8,7 @@ use Rattle.polygons.proofs.build.from_dataset.Reads as reads
 use Rattle.polygons.proofs.build.from_dataset.Lts as lts
 use Rattle.polygons.proofs.bins.bin_counts.Reads as bin-counts-reads
 use Rattle.polygons.proofs.bins.grid_for.Reads as grid-for-reads
-use Rattle.polygons.proofs.bins.list_cells.Reads as list-cells-reads
+use Rattle.polygons.proofs.bins.index_cells.Reads as index-cells-reads
 use Rattle.polygons.proofs.bounds.all_bounds.Reads as all-bounds-reads
 use Rattle.polygons.proofs.build.put_polygons.Reads as put-polygons-reads
 
@@ -36,8 +36,8 @@ enum-known-built : tie.Need-enum-known-built
 enum-known-built c = search needs
 
 -- src/build.rt:110:13
-list-cells-requires : tie.Need-list-cells-requires
-list-cells-requires c κs = (lent-words _ _ _ (c .before .before .before .before .before .before .before .before .before .before .before .before .before .before .before .before .before .before .before .before .pre .0 .2) (search needs), lent-floats _ _ _ (c .before .before .before .before .before .before .before .before .before .before .before .before .before .before .before .before .before .before .before .before .pre .0 .3) (search needs), c .before .before .before .before .before .grid-for .ensures .1 _ (c .before .before .before .built .given .1))
+index-cells-requires : tie.Need-index-cells-requires
+index-cells-requires c κs = (lent-words _ _ _ (c .before .before .before .before .before .before .before .before .before .before .before .before .before .before .before .before .before .before .before .before .pre .0 .2) (search needs), lent-floats _ _ _ (c .before .before .before .before .before .before .before .before .before .before .before .before .before .before .before .before .before .before .before .before .pre .0 .3) (search needs), c .before .before .before .before .before .grid-for .ensures .1 _ (c .before .before .before .built .given .1))
 
 -- src/build.rt:97:1
 same-length : tie.Need-same-length
@@ -49,7 +49,7 @@ same-length-2 c = search needs
 
 -- src/build.rt:97:1
 returns : tie.Need-returns
-returns c = refused-field _ _ _ _ _ _ _ _ _ (c .before .before .before .before .before .before .before .before .before .before .before .put-polygons .ensures .0) (c .before .before .before .before .before .before .before .before .before .before .before .put-polygons .ensures .1) (c .before .before .before .before .all-bounds .ensures) (c .before .before .before .bin-counts .ensures .counts) (c .before .before .grid-for .ensures .0) (c .before .before .grid-for .ensures .1) _ (c .enum-told .given .1)
+returns c = refused-field _ _ _ _ _ _ _ _ _ (c .before .before .before .before .before .before .before .before .before .before .before .put-polygons .ensures .0) (c .before .before .before .before .before .before .before .before .before .before .before .put-polygons .ensures .1) (c .before .before .before .before .all-bounds .ensures) (c .before .before .before .bin-counts .ensures .counts) (c .before .before .grid-for .ensures .0) _ (c .enum-told .given .1)
 
 -- src/build.rt:97:1
 same-length-3 : tie.Need-same-length-3
@@ -61,7 +61,7 @@ same-length-4 c = search needs
 
 -- src/build.rt:97:1
 returns-2 : tie.Need-returns-2
-returns-2 c = made-field _ _ _ _ _ _ _ _ _ (c .before .before .before .before .before .before .before .before .before .before .before .before .before .before .before .before .before .put-polygons .ensures .0) (c .before .before .before .before .before .before .before .before .before .before .before .before .before .before .before .before .before .put-polygons .ensures .1) (c .before .before .before .before .before .before .before .before .before .before .all-bounds .ensures) (c .before .before .before .before .before .before .before .before .before .bin-counts .ensures .counts) (c .before .before .before .before .before .before .before .before .grid-for .ensures .0) (c .before .before .before .before .before .before .before .before .grid-for .ensures .1) _ _ (c .before .before .before .before .before .before .built .given .1) (c .before .before .list-cells .ensures .0) (c .before .before .list-cells .ensures .1)
+returns-2 c = made-field _ _ _ _ _ _ _ _ _ (c .before .before .before .before .before .before .before .before .before .before .before .before .before .before .before .before .before .put-polygons .ensures .0) (c .before .before .before .before .before .before .before .before .before .before .before .before .before .before .before .before .before .put-polygons .ensures .1) (c .before .before .before .before .before .before .before .before .before .before .all-bounds .ensures) (c .before .before .before .before .before .before .before .before .before .bin-counts .ensures .counts) (c .before .before .before .before .before .before .before .before .grid-for .ensures .0) _ _ (c .before .before .before .before .before .before .built .given .1) (c .before .before .index-cells .ensures .0) (c .before .before .index-cells .ensures .1) (c .before .before .index-cells .ensures .2)
 
 pub from-dataset-spec : {M : Type 1} → statement M
 from-dataset-spec =
@@ -73,7 +73,7 @@ from-dataset-spec =
     grid-for-requires
     enum-told
     enum-known-built
-    list-cells-requires
+    index-cells-requires
     same-length
     same-length-2
     returns

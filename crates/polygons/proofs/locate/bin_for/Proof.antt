@@ -18,7 +18,7 @@ bin-along-requires-2 c κs = search needs
 -- src/locate.rt:32:1
 returns : tie.Need-returns
 unfolding binFor
-returns c = (rw (c .before .bin-along .ensures .0, c .bin-along2 .ensures .0), omega arith, omega arith)
+returns c = (rw (c .before .bin-along .ensures .0, c .bin-along2 .ensures .0), omega arith, omega arith, c .before .bin-along .ensures .1, c .bin-along2 .ensures .1)
 
 pub bin-for-spec : {M : Type 1} → statement M
 bin-for-spec = tie.close (tie.spec bin-along-requires bin-along-requires-2 returns)

@@ -7,8 +7,7 @@ use Rattle.polygons.proofs.locate.locate_cell.Tie as tie
 use Rattle.polygons.proofs.locate.locate_cell.Reads as reads
 use Rattle.polygons.proofs.locate.locate_cell.Lts as lts
 use Rattle.arith.proofs.float.is_finite.Reads as is-finite-reads
-use Rattle.polygons.proofs.locate.bin_for.Reads as bin-for-reads
-use Rattle.polygons.proofs.locate.first_holding.Reads as first-holding-reads
+use Rattle.polygons.proofs.locate.first_at.Reads as first-at-reads
 
 -- src/locate.rt:139:8
 is-finite-requires : tie.Need-is-finite-requires
@@ -18,18 +17,14 @@ is-finite-requires c κs = search needs
 is-finite-requires-2 : tie.Need-is-finite-requires-2
 is-finite-requires-2 c κs = search needs
 
--- src/locate.rt:145:45
-bin-for-requires : tie.Need-bin-for-requires
-bin-for-requires c κs = search needs
-
 -- src/locate.rt:145:13
-first-holding-requires : tie.Need-first-holding-requires
-first-holding-requires c κs = search needs
+first-at-requires : tie.Need-first-at-requires
+first-at-requires c κs = search needs
 
 -- src/locate.rt:135:1
 returns : tie.Need-returns
 unfolding locate locateWhere flat
-returns c = rw (sym (c .before .before .before .before .before .is-finite .ensures) ∙ c .before .before .before .before .if1 .taken, sym (c .before .before .before .is-finite2 .ensures) ∙ c .before .before .if2 .taken) (rw (← c .before .bin-for .ensures .0) (c .first-holding .ensures))
+returns c = rw (sym (c .before .before .before .before .is-finite .ensures) ∙ c .before .before .before .if1 .taken, sym (c .before .before .is-finite2 .ensures) ∙ c .before .if2 .taken) (c .first-at .ensures)
 
 -- src/locate.rt:135:1
 returns-2 : tie.Need-returns-2
@@ -47,8 +42,7 @@ locate-cell-spec =
     (tie.spec
     is-finite-requires
     is-finite-requires-2
-    bin-for-requires
-    first-holding-requires
+    first-at-requires
     returns
     returns-2
     returns-3)

@@ -1,0 +1,34 @@
+use Rattle.bin_index.proofs.Laws.{pools, build-done-one, build-done-zero}
+use borrow.Author.Needs.{needs}
+use Rattle.bin_index.proofs.set_flag.Statement.{statement}
+use Rattle.bin_index.proofs.set_flag.Tie as tie
+use Rattle.bin_index.proofs.set_flag.Reads as reads
+use Rattle.bin_index.proofs.set_flag.Lts as lts
+
+-- src/lib.rt:56:18
+mul-words : tie.Need-mul-words
+mul-words c = search needs
+
+-- src/lib.rt:56:11
+add-words : tie.Need-add-words
+add-words c = search needs
+
+-- src/lib.rt:56:5
+mul-words-2 : tie.Need-mul-words-2
+mul-words-2 c = search needs
+
+-- src/lib.rt:56:5
+slice-write-words : tie.Need-slice-write-words
+slice-write-words c = search needs
+
+-- src/lib.rt:52:1
+same-length : tie.Need-same-length
+same-length c = search needs
+
+-- src/lib.rt:52:1
+returns : tie.Need-returns
+returns c = search (pools, needs)
+
+pub set-flag-spec : {M : Type 1} → statement M
+set-flag-spec =
+    tie.close (tie.spec mul-words add-words mul-words-2 slice-write-words same-length returns)
