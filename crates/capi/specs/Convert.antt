@@ -1,9 +1,9 @@
 -- The values of the exported functions as those of the crates below.
 use mathlib.Core.Bool.{Bool, true, false}
 use Rattle.arith.specs.declared.Vec3.{Vec3}
+use Rattle.velocity.specs.declared.StreamlineOptions.{StreamlineOptions}
 use Rattle.lines.specs.declared.StreamlineDirection.{StreamlineDirection}
 use Rattle.lines.specs.declared.StreamlineDirection.the-variants.{Forward, Backward}
-use Rattle.lines.specs.declared.StreamlineOptions.{StreamlineOptions}
 use Rattle.sections.specs.declared.Plane.{Plane}
 use Rattle.capi.specs.declared.Vector.{Vector}
 use Rattle.capi.specs.declared.SectionPlane.{SectionPlane}

@@ -27,15 +27,15 @@ use Rattle.polygons.specs.declared.Grid.{Grid}
 use Rattle.polygons.specs.Locate.{locate}
 use Rattle.polygons.specs.Field.{StreamlineField}
 use Rattle.polygons.specs.Layout.{cellPolygonsIn, fieldIn}
+use Rattle.velocity.specs.declared.StreamlineOptions.{StreamlineOptions}
+use Rattle.velocity.proofs.VelocityLaws.{locate-in}
 use Rattle.lines.specs.declared.Traced.{Traced}
 use Rattle.lines.specs.declared.Traced.the-variants.{Words, Refused}
 use Rattle.lines.specs.declared.StreamlineDirection.{StreamlineDirection}
-use Rattle.lines.specs.declared.StreamlineOptions.{StreamlineOptions}
 use Rattle.lines.specs.Line.{areGood, isNowhere, nowhere, lineAnswer, integrate}
 use Rattle.lines.specs.Rake.{seedAt, seeds, linesWords}
-use Rattle.lines.specs.Ready.{Written}
+use Rattle.lines.specs.Written.{Written}
 use Rattle.lines.specs.Answered.{Answered, tracedOf, readsOf, wordsOf}
-use Rattle.lines.proofs.VelocityLaws.{locate-in}
 use Rattle.lines.proofs.LineLaws.{give-then, sets-append, sets-set}
 
 -- ---- a point that locates, or not

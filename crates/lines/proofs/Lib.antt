@@ -1,4 +1,2 @@
-pub mod VelocityLaws
-pub mod StepLaws
 pub mod LineLaws
 pub mod JobLaws

@@ -17,13 +17,13 @@ use Rattle.reading.specs.Served.{Served, Going}
 use Rattle.reading.proofs.AsksLaws.{bind-assoc, bind-give, run-bind, reads-bind}
 use Rattle.reading.proofs.ServedLaws.{going-start, going-part, going-end, served-then, served-give}
 use Rattle.polygons.specs.Field.{StreamlineField}
-use Rattle.lines.specs.declared.Step.{Step}
-use Rattle.lines.specs.declared.Step.the-variants.{Next, Ended}
+use Rattle.velocity.specs.declared.Step.{Step}
+use Rattle.velocity.specs.declared.Step.the-variants.{Next, Ended}
+use Rattle.velocity.specs.declared.StreamlineOptions.{StreamlineOptions}
+use Rattle.velocity.specs.Step.{step}
 use Rattle.lines.specs.declared.StreamlineDirection.{StreamlineDirection}
-use Rattle.lines.specs.declared.StreamlineOptions.{StreamlineOptions}
-use Rattle.lines.specs.Step.{step}
 use Rattle.lines.specs.Line.{onward, lineFrom, line, signedStep, pointWords, lineWords, lineAnswer}
-use Rattle.lines.specs.Ready.{Drawn, Written}
+use Rattle.lines.specs.Written.{Drawn, Written}
 
 pub give-then : {A B : Type 0} (a : A) (k : A → Asks B) → (give a >>= k) ≡ k a
 unfolding _>>=_

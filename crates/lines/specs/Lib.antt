@@ -1,7 +1,4 @@
-pub mod Velocity
-pub mod RungeKutta
-pub mod Step
 pub mod Line
 pub mod Rake
-pub mod Ready
+pub mod Written
 pub mod Answered

@@ -14,13 +14,13 @@ use Rattle.reading.specs.Asks.{Asks, give, _>>=_}
 use Rattle.reading.specs.Result as result
 use Rattle.reading.specs.Result.{Result, fine, refuse}
 use Rattle.polygons.specs.Field.{StreamlineField}
-use Rattle.lines.specs.declared.Step.{Step}
-use Rattle.lines.specs.declared.Step.the-variants.{Next, Ended}
+use Rattle.velocity.specs.declared.Step.{Step}
+use Rattle.velocity.specs.declared.Step.the-variants.{Next, Ended}
+use Rattle.velocity.specs.declared.StreamlineOptions.{StreamlineOptions}
+use Rattle.velocity.specs.Velocity.{locateIn}
+use Rattle.velocity.specs.Step.{step}
 use Rattle.lines.specs.declared.StreamlineDirection.{StreamlineDirection}
 use Rattle.lines.specs.declared.StreamlineDirection.the-variants.{Forward, Backward}
-use Rattle.lines.specs.declared.StreamlineOptions.{StreamlineOptions}
-use Rattle.lines.specs.Velocity.{locateIn}
-use Rattle.lines.specs.Step.{step}
 
 -- "direction (0 forward, 1 backward)"
 unfoldable pub sign : StreamlineDirection → Float

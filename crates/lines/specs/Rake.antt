@@ -12,8 +12,8 @@ use Rattle.reading.specs.Asks.{Asks, give, _>>=_}
 use Rattle.reading.specs.Result as result
 use Rattle.reading.specs.Result.{Result, fine, refuse}
 use Rattle.polygons.specs.Field.{StreamlineField}
+use Rattle.velocity.specs.declared.StreamlineOptions.{StreamlineOptions}
 use Rattle.lines.specs.declared.StreamlineDirection.{StreamlineDirection}
-use Rattle.lines.specs.declared.StreamlineOptions.{StreamlineOptions}
 use Rattle.lines.specs.Line.{lineAnswer, areGood, nowhere}
 
 -- `start + (end - start) * t`, seed i of count

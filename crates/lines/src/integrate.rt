@@ -1,6 +1,5 @@
 // `integrate`: the line from a seed, after the refusals 34 and 35.
 use crate::StreamlineDirection;
-use crate::StreamlineOptions;
 use crate::Traced;
 use crate::line;
 use area::Sizes;
@@ -10,14 +9,15 @@ use arith::float;
 use casefile::Counts;
 use polygons::Grid;
 use polygons::locate;
+use velocity::StreamlineOptions;
 ghost use mathlib.Core.Path.{_≡_};
 ghost use Prim.Native.Nat.{_≤_};
 ghost use Rattle.casefile.specs.Field.{valuesOf};
 ghost use Rattle.area.specs.Layout.{LentWords, LentFloats};
 ghost use Rattle.polygons.specs.Bins.{Binned};
 ghost use Rattle.polygons.specs.Layout.{fieldIn};
+ghost use Rattle.velocity.specs.Ready.{Ready};
 ghost use Rattle.lines.specs.Line as Line;
-ghost use Rattle.lines.specs.Ready.{Ready};
 ghost use Rattle.lines.specs.Answered.{Answered};
 
 // A finite length above 0.

@@ -1,13 +1,13 @@
 // A line from its seed: its points go to the answer words as far as they fit.
-use crate::Step;
 use crate::StreamlineDirection;
-use crate::StreamlineOptions;
-use crate::rk4;
 use area::Sizes;
 use arith::Vec3;
 use arith::bytes;
 use casefile::Counts;
 use polygons::Grid;
+use velocity::Step;
+use velocity::StreamlineOptions;
+use velocity::rk4;
 ghost use mathlib.Core.Path.{_≡_};
 ghost use mathlib.Core.List.{[], _∷_};
 ghost use Prim.Native.Nat.{_+_, _*_, _<_, _≤_};
@@ -16,8 +16,9 @@ ghost use lib.Seq.{sets};
 ghost use Rattle.arith.specs.F64.{0·0, word};
 ghost use Rattle.casefile.specs.Field.{valuesOf};
 ghost use Rattle.polygons.specs.Layout.{fieldIn};
+ghost use Rattle.velocity.specs.Ready.{Ready};
 ghost use Rattle.lines.specs.Line as Line;
-ghost use Rattle.lines.specs.Ready.{Ready, Drawn, Written};
+ghost use Rattle.lines.specs.Written.{Drawn, Written};
 
 // Stores an answer word, where there is room for it.
 pub fn put(out: &mut [u64], at: usize, w: u64)

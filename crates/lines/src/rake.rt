@@ -1,6 +1,5 @@
 // `integrate_rake`: a line from each of the seeds between two points.
 use crate::StreamlineDirection;
-use crate::StreamlineOptions;
 use crate::Traced;
 use crate::integrate;
 use crate::line;
@@ -8,6 +7,7 @@ use area::Sizes;
 use arith::Vec3;
 use casefile::Counts;
 use polygons::Grid;
+use velocity::StreamlineOptions;
 ghost use mathlib.Core.Path.{_≡_};
 ghost use Prim.Native.Nat.{_≤_, _<_, _*_, _+_};
 ghost use Rattle.arith.specs.Lists.{any};
@@ -15,9 +15,10 @@ ghost use Rattle.casefile.specs.Field.{valuesOf};
 ghost use Rattle.area.specs.Layout.{LentWords, LentFloats};
 ghost use Rattle.polygons.specs.Bins.{Binned};
 ghost use Rattle.polygons.specs.Layout.{fieldIn};
+ghost use Rattle.velocity.specs.Ready.{Ready};
 ghost use Rattle.lines.specs.Line.{nowhere};
 ghost use Rattle.lines.specs.Rake as Rake;
-ghost use Rattle.lines.specs.Ready.{Ready, Written};
+ghost use Rattle.lines.specs.Written.{Written};
 ghost use Rattle.lines.specs.Answered.{Answered};
 
 // Seed i of count.

@@ -10,7 +10,7 @@ use Rattle.casefile.specs.declared.Opened.the-variants.{Case}
 use Rattle.casefile.specs.Trailer.{opened}
 use Rattle.area.specs.Layout.{pointsIn, meshIn}
 use Rattle.polygons.specs.Layout.{fieldIn}
-use Rattle.lines.specs.Ready as Lines
+use Rattle.velocity.specs.Ready as Tracer
 use Rattle.planes.specs.Stream as Planes
 use Rattle.prepare.specs.Room.{Room, flat, solid, Lent}
 use Rattle.prepare.specs.declared.Place.{Place}
@@ -30,7 +30,7 @@ countsIn (Solid n s) = n
 
 -- what the tracer, or the planes, ask of it
 unfoldable pub Servable : List ℕ → List ℕ → List Float → Place → Type 0
-Servable file words floats (Flat n s g) = Lines.Ready file n words floats s g
+Servable file words floats (Flat n s g) = Tracer.Ready file n words floats s g
 Servable file words floats (Solid n s) = (marks : List ℕ) → n .cells ≤ length marks → Planes.Ready file n s words marks
 
 pub record Stands (file words : List ℕ) (floats : List Float) (p : Place) : Type 0 where

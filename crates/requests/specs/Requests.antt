@@ -10,9 +10,9 @@ use Rattle.arith.specs.Bytes.{le64, readAll}
 use Rattle.arith.specs.Lists.{any}
 use Rattle.arith.specs.Vec.{vec}
 use Rattle.arith.specs.declared.Vec3.{Vec3}
+use Rattle.velocity.specs.declared.StreamlineOptions.{StreamlineOptions}
 use Rattle.lines.specs.declared.StreamlineDirection.{StreamlineDirection}
 use Rattle.lines.specs.declared.StreamlineDirection.the-variants.{Forward, Backward}
-use Rattle.lines.specs.declared.StreamlineOptions.{StreamlineOptions}
 use Rattle.sections.specs.declared.Plane.{Plane}
 use Rattle.sections.specs.Plane.{invalid, remote}
 use Rattle.requests.specs.declared.Request.{Request}

@@ -27,19 +27,19 @@ use Rattle.polygons.specs.Layout.{cellPolygonsIn, fieldIn}
 use Rattle.casefile.specs.declared.Counts.{Counts}
 use Rattle.sections.specs.declared.Plane.{Plane}
 use Rattle.sections.specs.Intersect.{intersect}
-use Rattle.lines.specs.declared.Vector.{Vector}
-use Rattle.lines.specs.declared.Vector.the-variants.{Here, Nowhere}
+use Rattle.velocity.specs.declared.Vector.{Vector}
+use Rattle.velocity.specs.declared.Vector.the-variants.{Here, Nowhere}
+use Rattle.velocity.specs.declared.StreamlineOptions.{StreamlineOptions}
+use Rattle.velocity.specs.Velocity.{velocityAt}
+use Rattle.velocity.specs.Ready as Tracer
+use Rattle.velocity.proofs.VelocityLaws.{locate-in}
 use Rattle.lines.specs.declared.Traced.{Traced}
 use Rattle.lines.specs.declared.Traced.the-variants as Traced
 use Rattle.lines.specs.declared.StreamlineDirection.{StreamlineDirection}
-use Rattle.lines.specs.declared.StreamlineOptions.{StreamlineOptions}
-use Rattle.lines.specs.Velocity.{velocityAt}
 use Rattle.lines.specs.Line.{integrate}
 use Rattle.lines.specs.Rake.{integrateRake}
 use Rattle.lines.specs.Answered as Lines
-use Rattle.lines.specs.Ready as Tracer
 use Rattle.lines.specs.Answered.{tracedOf, readsOf}
-use Rattle.lines.proofs.VelocityLaws.{locate-in}
 use Rattle.planes.specs.declared.Answered.{Answered}
 use Rattle.planes.specs.declared.Answered.the-variants as Answered
 use Rattle.planes.specs.Answers.{vecWords, sampleWords, sectionOf, statisticsOf, integralsOf, probeOf}

@@ -7,9 +7,9 @@ use Rattle.reading.specs.Result.{Result, refused, fine}
 use Rattle.reading.specs.Asks.{Asks, give, _>>=_}
 use Rattle.area.specs.Tables.{Mesh}
 use Rattle.polygons.specs.Field.{StreamlineField}
-use Rattle.lines.specs.declared.Vector.{Vector}
-use Rattle.lines.specs.declared.Vector.the-variants.{Here, Nowhere}
-use Rattle.lines.specs.Velocity.{locateIn, velocityAt}
+use Rattle.velocity.specs.declared.Vector.{Vector}
+use Rattle.velocity.specs.declared.Vector.the-variants.{Here, Nowhere}
+use Rattle.velocity.specs.Velocity.{locateIn, velocityAt}
 use Rattle.lines.specs.Line.{integrate}
 use Rattle.lines.specs.Rake.{integrateRake}
 use Rattle.planes.specs.Answers.{vecWords, sectionOf, statisticsOf, integralsOf, probeOf}

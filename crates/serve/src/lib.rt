@@ -4,12 +4,9 @@ use arith::Found;
 use arith::Vec3;
 use casefile::Counts;
 use lines::StreamlineDirection;
-use lines::StreamlineOptions;
 use lines::Traced;
-use lines::Vector;
 use lines::integrate;
 use lines::rake;
-use lines::velocity;
 use planes::Answered;
 use planes::answers;
 use planes::write;
@@ -17,6 +14,9 @@ use polygons::Grid;
 use polygons::locate;
 use prepare::Place;
 use requests::Request;
+use velocity::StreamlineOptions;
+use velocity::Vector;
+use velocity::interpolate;
 ghost use mathlib.Core.Path.{_≡_};
 ghost use mathlib.Core.List.{List};
 ghost use Prim.Native.Nat.{ℕ, _≤_};
@@ -30,8 +30,8 @@ ghost use Rattle.area.specs.Layout.{LentWords, LentFloats, pointsIn, meshIn};
 ghost use Rattle.casefile.specs.Field.{valuesOf};
 ghost use Rattle.polygons.specs.Bins.{Binned};
 ghost use Rattle.polygons.specs.Layout.{fieldIn};
+ghost use Rattle.velocity.specs.Ready as Tracer;
 ghost use Rattle.lines.specs.Answered.{tracedOf};
-ghost use Rattle.lines.specs.Ready as Lines;
 ghost use Rattle.planes.specs.Stream as Planes;
 ghost use Rattle.planes.specs.Reply.{answeredOf, Replied};
 ghost use Rattle.requests.specs.declared.Request.the-variants as Code;
@@ -105,10 +105,10 @@ fn serve_velocity(
     out: &mut [u64],
     p: Vec3,
 ) -> Answered
-    requires { ⌜ Lines.Ready (now case) n (now words) (now floats) s g ⌝ }
+    requires { ⌜ Tracer.Ready (now case) n (now words) (now floats) s g ⌝ }
     ensures { λ r. ⌜ Replied (Serve.serveFlat (fieldIn g s (now (words .entry)) (now (floats .entry))) (Code.Velocity p)) (valuesOf (now (case .entry))) (now (out .entry)) r (now (out .entry)) (now (out .exit)) (now (marks .entry)) (now (marks .exit)) ⌝ }
 {
-    let v = velocity::velocity_at(case, n, words, floats, s, g, marks, p);
+    let v = interpolate::velocity_at(case, n, words, floats, s, g, marks, p);
     put_velocity(v, out);
     Answered::Words(4)
 }
@@ -127,7 +127,7 @@ fn serve_streamline(
     d: StreamlineDirection,
     options: StreamlineOptions,
 ) -> Answered
-    requires { ⌜ Lines.Ready (now case) n (now words) (now floats) s g ⌝ }
+    requires { ⌜ Tracer.Ready (now case) n (now words) (now floats) s g ⌝ }
     requires { ⌜ options .«max_steps» ≤ 65536 ⌝ }
     ensures { λ r. ⌜ Replied (Serve.serveFlat (fieldIn g s (now (words .entry)) (now (floats .entry))) (Code.Streamline p d options)) (valuesOf (now (case .entry))) (now (out .entry)) r (now (out .entry)) (now (out .exit)) (now (marks .entry)) (now (marks .exit)) ⌝ }
 {
@@ -151,7 +151,7 @@ fn serve_rake(
     d: StreamlineDirection,
     options: StreamlineOptions,
 ) -> Answered
-    requires { ⌜ Lines.Ready (now case) n (now words) (now floats) s g ⌝ }
+    requires { ⌜ Tracer.Ready (now case) n (now words) (now floats) s g ⌝ }
     requires { ⌜ (2 ≤ count) × (count ≤ 64) × (options .«max_steps» ≤ 65536) ⌝ }
     ensures { λ r. ⌜ Replied (Serve.serveFlat (fieldIn g s (now (words .entry)) (now (floats .entry))) (Code.Rake a b count d options)) (valuesOf (now (case .entry))) (now (out .entry)) r (now (out .entry)) (now (out .exit)) (now (marks .entry)) (now (marks .exit)) ⌝ }
 {
@@ -185,7 +185,7 @@ fn serve_flat(
     out: &mut [u64],
     q: Request,
 ) -> Answered
-    requires { ⌜ Lines.Ready (now case) n (now words) (now floats) s g ⌝ }
+    requires { ⌜ Tracer.Ready (now case) n (now words) (now floats) s g ⌝ }
     requires { ⌜ Allowed q ⌝ }
     ensures { λ r. ⌜ Replied (Serve.serveFlat (fieldIn g s (now (words .entry)) (now (floats .entry))) q) (valuesOf (now (case .entry))) (now (out .entry)) r (now (out .entry)) (now (out .exit)) (now (marks .entry)) (now (marks .exit)) ⌝ }
 {

@@ -12,9 +12,9 @@ use Rattle.arith.specs.F64.{word}
 use Rattle.arith.specs.declared.Vec3.{Vec3}
 use Rattle.arith.proofs.All.{All, all-append}
 use Rattle.reading.specs.Result.{fine, _>>=_}
+use Rattle.velocity.specs.declared.StreamlineOptions.{StreamlineOptions}
 use Rattle.lines.specs.declared.StreamlineDirection.{StreamlineDirection}
 use Rattle.lines.specs.declared.StreamlineDirection.the-variants.{Forward, Backward}
-use Rattle.lines.specs.declared.StreamlineOptions.{StreamlineOptions}
 use Rattle.sections.specs.declared.Plane.{Plane}
 use Rattle.planes.specs.Answers.{vecWords}
 use Rattle.requests.specs.Requests.{requestsIn}

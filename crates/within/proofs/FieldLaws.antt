@@ -10,7 +10,7 @@ use Rattle.area.specs.Tables.{Mesh}
 use Rattle.polygons.specs.Corners.{polygonOf}
 use Rattle.polygons.specs.Bins.{listedIn}
 use Rattle.polygons.specs.Field.{StreamlineField, polygonsOf, fieldOf}
-use Rattle.lines.specs.Velocity.{neighboursOf}
+use Rattle.velocity.specs.Velocity.{neighboursOf}
 use Rattle.within.specs.Within.{Numbers, Sound, FieldFrom}
 
 pub field-from : (m : Mesh) (f : StreamlineField) → fieldOf m ≡ fine f → FieldFrom m f

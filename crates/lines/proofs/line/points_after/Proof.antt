@@ -17,7 +17,7 @@ use Rattle.lines.proofs.line.points_after.Tie as tie
 use Rattle.lines.proofs.line.points_after.Reads as reads
 use Rattle.lines.proofs.line.points_after.Lts as lts
 use Rattle.lines.proofs.line.put_point.Reads as put-point-reads
-use Rattle.lines.proofs.rk4.step.Reads as step-reads
+use Rattle.velocity.proofs.rk4.step.Reads as step-reads
 
 abbrev Inv-loop : tie.InvT-loop
 Inv-loop case n words floats s g marks₀ out₀ at h options most total₀ p₀ k₀ marks out total p k = record { done : List Vec3; count : k ≡ length done; below : k ≤ most; kept : length marks ≡ length marks₀; as-long : length out ≡ length out₀; written : out ≡ sets out₀ at (pointWords done); going : Going (lineFrom (fieldIn g s words floats) options h most p₀ 0·0) (valuesOf case) marks₀ (left (fieldIn g s words floats) options h done (most - k) p total) marks }

@@ -1,0 +1,25 @@
+use Rattle.velocity.proofs.VelocityLaws.{unmarked}
+use borrow.Author.Needs.{needs}
+use Rattle.velocity.proofs.interpolate.mark.Statement.{statement}
+use Rattle.velocity.proofs.interpolate.mark.Tie as tie
+use Rattle.velocity.proofs.interpolate.mark.Reads as reads
+use Rattle.velocity.proofs.interpolate.mark.Lts as lts
+
+-- src/interpolate.rt:32:9
+slice-write-marks : tie.Need-slice-write-marks
+slice-write-marks c = search needs
+
+-- src/interpolate.rt:28:1
+same-length : tie.Need-same-length
+same-length c = search needs
+
+-- src/interpolate.rt:28:1
+returns : tie.Need-returns
+returns c = search needs
+
+-- src/interpolate.rt:28:1
+returns-2 : tie.Need-returns-2
+returns-2 c = unmarked _ _ (c .if1 .left)
+
+pub mark-spec : {M : Type 1} → statement M
+mark-spec = tie.close (tie.spec slice-write-marks same-length returns returns-2)

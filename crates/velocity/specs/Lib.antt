@@ -1,0 +1,4 @@
+pub mod Velocity
+pub mod RungeKutta
+pub mod Step
+pub mod Ready

@@ -1,0 +1,19 @@
+-- What the functions that take velocities and trace lines ask of their arguments.
+use Prim.Native.Nat.{ℕ}
+use mathlib.Core.Path.{_≡_}
+use mathlib.Core.List.{List}
+use lib.Ieee.{Float}
+use Rattle.casefile.specs.declared.Counts.{Counts}
+use Rattle.casefile.specs.declared.Opened.the-variants.{Case}
+use Rattle.casefile.specs.Trailer.{opened}
+use Rattle.area.specs.declared.Sizes.{Sizes}
+use Rattle.area.specs.Layout.{LentWords, LentFloats}
+use Rattle.polygons.specs.declared.Grid.{Grid}
+use Rattle.polygons.specs.Bins.{Binned}
+
+-- a case that opens, an area of the right sizes, and a grid with bins
+pub record Ready (case : List ℕ) (n : Counts) (words : List ℕ) (floats : List Float) (s : Sizes) (g : Grid) : Type 0 where
+  pub opens : opened case ≡ Case n
+  pub lent-words : LentWords s words
+  pub lent-floats : LentFloats s floats
+  pub binned : Binned g
