@@ -1,9 +1,3 @@
-pub mod MeasureLaws
-pub mod WriteLaws
-pub mod StreamLaws
-pub mod InsideLaws
-pub mod TallyLaws
-pub mod StepLaws
 pub mod ReplyLaws
 pub mod TreeLaws
 pub mod SectionLaws

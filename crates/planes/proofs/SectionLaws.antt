@@ -20,16 +20,17 @@ use Rattle.sections.specs.declared.Plane.{Plane}
 use Rattle.sections.specs.Intersect.{PlaneCell, intersect}
 use Rattle.planes.specs.declared.Answered.{Answered}
 use Rattle.planes.specs.declared.Answered.the-variants.{Words, Refused}
-use Rattle.planes.specs.declared.Tally.{Tally}
-use Rattle.planes.specs.declared.Tally.the-variants.{Section}
-use Rattle.planes.specs.declared.Tallied.{Tallied}
-use Rattle.planes.specs.declared.Tallied.the-variants.{Done, Bad}
-use Rattle.planes.specs.Sample.{Sample, sound, sample}
-use Rattle.planes.specs.Answers.{sampled, sampleWords, sectionWords, sectionOf}
-use Rattle.planes.specs.Stream.{Stream, stream, Streamed, addTo, written}
+use Rattle.samples.specs.declared.Tally.{Tally}
+use Rattle.samples.specs.declared.Tally.the-variants.{Section}
+use Rattle.samples.specs.declared.Tallied.{Tallied}
+use Rattle.samples.specs.declared.Tallied.the-variants.{Done, Bad}
+use Rattle.samples.specs.Sample.{Sample, sound, sample}
+use Rattle.planes.specs.Answers.{sampled, sectionWords, sectionOf}
+use Rattle.samples.specs.Words.{sampleWords}
+use Rattle.samples.specs.Stream.{Stream, stream, Streamed, addTo, written}
 use Rattle.planes.specs.Reply.{answeredOf, replied, goods, leftBy, ended, lastWords, Closed, Replied}
-use Rattle.planes.proofs.WriteLaws.{sets-append}
-use Rattle.planes.proofs.StreamLaws.{at, stream-nil, stream-sound, stream-bad, stream-marks}
+use Rattle.samples.proofs.WriteLaws.{sets-append}
+use Rattle.samples.proofs.StreamLaws.{at, stream-nil, stream-sound, stream-bad, stream-marks}
 use Rattle.planes.proofs.TreeLaws.{BadRun, GoodRun, goods-sound, goods-bad, stream-run, run-sampled, reads-sampled}
 
 -- the words of some samples

@@ -26,26 +26,27 @@ use Rattle.sections.specs.Intersect.{PlaneCell, intersect, cutOf}
 use Rattle.sections.specs.Plane.{normalOf}
 use Rattle.planes.specs.declared.Answered.{Answered}
 use Rattle.planes.specs.declared.Answered.the-variants.{Words, Refused}
-use Rattle.planes.specs.declared.Sums.{Sums}
-use Rattle.planes.specs.declared.Integral.{Integral}
-use Rattle.planes.specs.declared.Summed.{Summed}
-use Rattle.planes.specs.declared.Summed.the-variants.{Total, Unsummed}
-use Rattle.planes.specs.declared.Weighed.{Weighed}
-use Rattle.planes.specs.declared.Weighed.the-variants.{Whole, Unweighed}
-use Rattle.planes.specs.declared.Probed.{Probed}
-use Rattle.planes.specs.declared.Probed.the-variants.{Hit, Missed}
-use Rattle.planes.specs.declared.Tally.{Tally}
-use Rattle.planes.specs.declared.Tally.the-variants.{Section, Statistics, Integrals, Probe}
-use Rattle.planes.specs.declared.Tallied.{Tallied}
-use Rattle.planes.specs.declared.Tallied.the-variants.{Done, Bad}
-use Rattle.planes.specs.Sample.{Sample, sound, before, onward, sample, measureOf}
-use Rattle.planes.specs.Statistics.{noSums, summing, counted, including, scalarOf, addSample, statistics, empty, statisticsWords}
-use Rattle.planes.specs.Integrals.{fit, weighing, addIntegral, noIntegral, integrals, vacant, integralWords}
-use Rattle.planes.specs.Answers.{sampled, integralsOf, statisticsOf, probeOf, probeWords, valuesWords, vecWords}
-use Rattle.planes.specs.Stream.{Stream, stream, Streamed, addTo, written, addSummed, addWeighed, addProbed, summedOf, weighedOf}
+use Rattle.samples.specs.declared.Sums.{Sums}
+use Rattle.samples.specs.declared.Integral.{Integral}
+use Rattle.samples.specs.declared.Summed.{Summed}
+use Rattle.samples.specs.declared.Summed.the-variants.{Total, Unsummed}
+use Rattle.samples.specs.declared.Weighed.{Weighed}
+use Rattle.samples.specs.declared.Weighed.the-variants.{Whole, Unweighed}
+use Rattle.samples.specs.declared.Probed.{Probed}
+use Rattle.samples.specs.declared.Probed.the-variants.{Hit, Missed}
+use Rattle.samples.specs.declared.Tally.{Tally}
+use Rattle.samples.specs.declared.Tally.the-variants.{Section, Statistics, Integrals, Probe}
+use Rattle.samples.specs.declared.Tallied.{Tallied}
+use Rattle.samples.specs.declared.Tallied.the-variants.{Done, Bad}
+use Rattle.samples.specs.Sample.{Sample, sound, before, onward, sample, measureOf}
+use Rattle.samples.specs.Statistics.{noSums, summing, counted, including, scalarOf, addSample, statistics, empty, statisticsWords}
+use Rattle.samples.specs.Integrals.{fit, weighing, addIntegral, noIntegral, integrals, vacant, integralWords}
+use Rattle.planes.specs.Answers.{sampled, integralsOf, statisticsOf, probeOf, probeWords}
+use Rattle.samples.specs.Words.{valuesWords, vecWords}
+use Rattle.samples.specs.Stream.{Stream, stream, Streamed, addTo, written, addSummed, addWeighed, addProbed, summedOf, weighedOf}
 use Rattle.planes.specs.Reply.{answeredOf, wordsOf, replied, goods, missing, statisticsEnd, integralsEnd, ended, lastWords, Closed, Replied}
-use Rattle.planes.specs.Probe.{project, covers, firstOver, off, probe}
-use Rattle.planes.proofs.StreamLaws.{at, stream-nil, stream-sound, stream-bad, stream-marks}
+use Rattle.samples.specs.Probe.{project, covers, firstOver, off, probe}
+use Rattle.samples.proofs.StreamLaws.{at, stream-nil, stream-sound, stream-bad, stream-marks}
 
 -- ---- the outcome: a bad sample, or all samples kept
 

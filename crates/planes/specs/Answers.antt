@@ -1,11 +1,9 @@
 -- The words of the answers of codes 5 to 8, and their trees.
 use Prim.Native.Nat.{ℕ, _-_, _^_}
-use mathlib.Core.List.{List, [], _∷_, _++_, map}
+use mathlib.Core.List.{List, [], _∷_, map}
 use lib.ListN.{length}
-use Rattle.arith.specs.F64.{word}
 use Rattle.arith.specs.Lists.{concat}
 use Rattle.arith.specs.declared.Vec3.{Vec3}
-use Rattle.reading.specs.declared.Values.{Values}
 use Rattle.reading.specs.Result as result
 use Rattle.reading.specs.Result.{Result, fine}
 use Rattle.reading.specs.Asks.{Asks, give, _>>=_}
@@ -13,27 +11,13 @@ use Rattle.area.specs.Tables.{Mesh}
 use Rattle.sections.specs.declared.Plane.{Plane}
 use Rattle.sections.specs.Plane.{normalOf}
 use Rattle.sections.specs.Intersect.{intersect}
-use Rattle.planes.specs.declared.Probed.{Probed}
-use Rattle.planes.specs.declared.Probed.the-variants.{Hit, Missed}
-use Rattle.planes.specs.Sample.{Sample, sample}
-use Rattle.planes.specs.Statistics.{statistics}
-use Rattle.planes.specs.Integrals.{integrals}
-use Rattle.planes.specs.Probe.{probe}
-
--- three floats, each by its bits
-unfoldable pub vecWords : Vec3 → List ℕ
-vecWords p = word (p .x) ∷ word (p .y) ∷ word (p .z) ∷ []
-
--- "velocity, pressure"
-unfoldable pub valuesWords : Values → List ℕ
-valuesWords v = vecWords (v .velocity) ++ word (v .pressure) ∷ []
-
--- "cell, vertex count, centre, vertices, velocity, pressure"
-unfoldable pub sampleWords : Sample → List ℕ
-sampleWords s =
-    s .geometry .cell
-    ∷ length (s .geometry .polygon)
-    ∷ (vecWords (s .geometry .centre) ++ (concat (map vecWords (s .geometry .polygon)) ++ valuesWords (s .values)))
+use Rattle.samples.specs.declared.Probed.{Probed}
+use Rattle.samples.specs.declared.Probed.the-variants.{Hit, Missed}
+use Rattle.samples.specs.Sample.{Sample, sample}
+use Rattle.samples.specs.Statistics.{statistics}
+use Rattle.samples.specs.Integrals.{integrals}
+use Rattle.samples.specs.Probe.{probe}
+use Rattle.samples.specs.Words.{valuesWords, sampleWords}
 
 -- "polygon count; each: .."
 unfoldable pub sectionWords : List Sample → List ℕ

@@ -14,20 +14,21 @@ use Rattle.reading.specs.Marks.{markAll}
 use Rattle.sections.specs.Intersect.{PlaneCell}
 use Rattle.planes.specs.declared.Answered.{Answered}
 use Rattle.planes.specs.declared.Answered.the-variants.{Words, Refused}
-use Rattle.planes.specs.declared.Summed.{Summed}
-use Rattle.planes.specs.declared.Summed.the-variants.{Total, Unsummed}
-use Rattle.planes.specs.declared.Weighed.{Weighed}
-use Rattle.planes.specs.declared.Weighed.the-variants.{Whole, Unweighed}
-use Rattle.planes.specs.declared.Probed.{Probed}
-use Rattle.planes.specs.declared.Probed.the-variants.{Missed}
-use Rattle.planes.specs.declared.Tally.{Tally}
-use Rattle.planes.specs.declared.Tally.the-variants.{Section, Statistics, Integrals, Probe}
-use Rattle.planes.specs.declared.Tallied.{Tallied}
-use Rattle.planes.specs.declared.Tallied.the-variants.{Done, Bad}
-use Rattle.planes.specs.Sample.{Sample, sound}
-use Rattle.planes.specs.Statistics.{empty, statisticsWords}
-use Rattle.planes.specs.Integrals.{vacant, integralWords}
-use Rattle.planes.specs.Answers.{sampleWords, probeWords}
+use Rattle.samples.specs.declared.Summed.{Summed}
+use Rattle.samples.specs.declared.Summed.the-variants.{Total, Unsummed}
+use Rattle.samples.specs.declared.Weighed.{Weighed}
+use Rattle.samples.specs.declared.Weighed.the-variants.{Whole, Unweighed}
+use Rattle.samples.specs.declared.Probed.{Probed}
+use Rattle.samples.specs.declared.Probed.the-variants.{Missed}
+use Rattle.samples.specs.declared.Tally.{Tally}
+use Rattle.samples.specs.declared.Tally.the-variants.{Section, Statistics, Integrals, Probe}
+use Rattle.samples.specs.declared.Tallied.{Tallied}
+use Rattle.samples.specs.declared.Tallied.the-variants.{Done, Bad}
+use Rattle.samples.specs.Sample.{Sample, sound}
+use Rattle.samples.specs.Statistics.{empty, statisticsWords}
+use Rattle.samples.specs.Integrals.{vacant, integralWords}
+use Rattle.samples.specs.Words.{sampleWords}
+use Rattle.planes.specs.Answers.{probeWords}
 
 unfoldable pub answeredOf : Result (List ℕ) → Answered
 answeredOf (refused n) = Refused n

@@ -1,15 +1,5 @@
 // The answers of codes 5 to 8.
 use crate::Answered;
-use crate::Integral;
-use crate::Probed;
-use crate::Summed;
-use crate::Sums;
-use crate::Tallied;
-use crate::Tally;
-use crate::Weighed;
-use crate::measures;
-use crate::samples;
-use crate::write;
 use area::Sizes;
 use arith::Vec2;
 use arith::Vec3;
@@ -17,6 +7,16 @@ use arith::bytes;
 use arith::float;
 use casefile::Counts;
 use reading::Values;
+use samples::Integral;
+use samples::Probed;
+use samples::Summed;
+use samples::Sums;
+use samples::Tallied;
+use samples::Tally;
+use samples::Weighed;
+use samples::measures;
+use samples::walk;
+use samples::write;
 use sections::Plane;
 ghost use mathlib.Core.Path.{_≡_};
 ghost use mathlib.Core.Bool.{_&&_};
@@ -27,11 +27,11 @@ ghost use lib.Ieee.{Float};
 ghost use Rattle.casefile.specs.Field.{valuesOf};
 ghost use Rattle.area.specs.Layout.{pointsIn, meshIn};
 ghost use Rattle.sections.specs.Intersect.{intersect};
-ghost use Rattle.planes.specs.Statistics as Statistics;
-ghost use Rattle.planes.specs.Integrals as Integrals;
-ghost use Rattle.planes.specs.Probe as Probe;
+ghost use Rattle.samples.specs.Statistics as Statistics;
+ghost use Rattle.samples.specs.Integrals as Integrals;
+ghost use Rattle.samples.specs.Probe as Probe;
 ghost use Rattle.planes.specs.Answers.{probeWords, sectionOf, statisticsOf, integralsOf, probeOf};
-ghost use Rattle.planes.specs.Stream.{Ready};
+ghost use Rattle.samples.specs.Stream.{Ready};
 ghost use Rattle.planes.specs.Reply.{statisticsEnd, integralsEnd, missing, leftBy, Ended, Closed, Replied};
 
 fn both(a: bool, b: bool) -> bool
@@ -235,7 +235,7 @@ pub fn section(
     ensures { λ r. ⌜ ((floats : List Float) → Replied (sectionOf (meshIn (pointsIn (now (case .entry)) (n .points)) s (now (words .entry)) floats) plane) (valuesOf (now (case .entry))) (leftBy (valuesOf (now (case .entry))) (intersect (meshIn (pointsIn (now (case .entry)) (n .points)) s (now (words .entry)) floats) plane) (now (answers .entry))) r (now (answers .entry)) (now (answers .exit)) (now (marks .entry)) (now (marks .exit))) ⌝ }
 {
     let t = Tally::Section(0, 1);
-    let r = samples::sample_all(case, n, words, s, plane, t, answers, marks);
+    let r = walk::sample_all(case, n, words, s, plane, t, answers, marks);
     finish(r, answers)
 }
 
@@ -259,7 +259,7 @@ pub fn integrals(
         flux: 0.0,
     };
     let t = Tally::Integrals(Weighed::Whole(none));
-    let r = samples::sample_all(case, n, words, s, plane, t, answers, marks);
+    let r = walk::sample_all(case, n, words, s, plane, t, answers, marks);
     finish(r, answers)
 }
 
@@ -294,7 +294,7 @@ pub fn probe(
     let away = measures::off(plane, p);
     let q = measures::project(plane, p);
     let t = Tally::Probe(q, Probed::Missed);
-    let r = samples::sample_all(case, n, words, s, plane, t, answers, marks);
+    let r = walk::sample_all(case, n, words, s, plane, t, answers, marks);
     finish(unless_off(away, q, r), answers)
 }
 
@@ -325,6 +325,6 @@ pub fn statistics(
         weighted: 0.0,
     };
     let t = Tally::Statistics(field, Summed::Total(none));
-    let r = samples::sample_all(case, n, words, s, plane, t, answers, marks);
+    let r = walk::sample_all(case, n, words, s, plane, t, answers, marks);
     finish(r, answers)
 }

@@ -11,7 +11,7 @@ use Rattle.casefile.specs.Trailer.{opened}
 use Rattle.area.specs.Layout.{pointsIn, meshIn}
 use Rattle.polygons.specs.Layout.{fieldIn}
 use Rattle.velocity.specs.Ready as Tracer
-use Rattle.planes.specs.Stream as Planes
+use Rattle.samples.specs.Stream as Planes
 use Rattle.prepare.specs.Room.{Room, flat, solid, Lent}
 use Rattle.prepare.specs.declared.Place.{Place}
 use Rattle.prepare.specs.declared.Place.the-variants.{Flat, Solid}

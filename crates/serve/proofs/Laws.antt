@@ -42,8 +42,9 @@ use Rattle.lines.specs.Answered as Lines
 use Rattle.lines.specs.Answered.{tracedOf, readsOf}
 use Rattle.planes.specs.declared.Answered.{Answered}
 use Rattle.planes.specs.declared.Answered.the-variants as Answered
-use Rattle.planes.specs.Answers.{vecWords, sampleWords, sectionOf, statisticsOf, integralsOf, probeOf}
-use Rattle.planes.specs.Stream as Planes
+use Rattle.planes.specs.Answers.{sectionOf, statisticsOf, integralsOf, probeOf}
+use Rattle.samples.specs.Words.{vecWords, sampleWords}
+use Rattle.samples.specs.Stream as Planes
 use Rattle.planes.specs.Reply.{answeredOf, replied, goods, leftBy, Replied}
 use Rattle.requests.specs.declared.Request.{Request}
 use Rattle.requests.specs.declared.Request.the-variants.{Refused, Locate, Velocity, Streamline, Rake, Section, Statistics, Integrals, Probe}

@@ -14,7 +14,7 @@ use Rattle.lines.specs.declared.StreamlineDirection.{StreamlineDirection}
 use Rattle.lines.specs.declared.StreamlineDirection.the-variants.{Forward, Backward}
 use Rattle.sections.specs.declared.Plane.{Plane}
 use Rattle.sections.specs.Plane.{invalid, remote}
-use Rattle.planes.specs.Answers.{vecWords}
+use Rattle.samples.specs.Words.{vecWords}
 use Rattle.requests.specs.Requests.{number, real, point, barring, usedWords, astray, illFormed, against, direction, options, streamline, rakeOf, rake, planeOf, statistics, overPlane, planar, byCode, requestOf}
 use Rattle.requests.specs.declared.Request.{Request}
 use Rattle.requests.specs.declared.Request.the-variants.{Locate, Velocity, Streamline, Rake, Section, Statistics, Integrals, Probe}

@@ -14,7 +14,7 @@ use Rattle.area.specs.Tables.{Mesh, Cell}
 use Rattle.sections.specs.declared.Plane.{Plane}
 use Rattle.sections.specs.declared.Cut.{Cut}
 use Rattle.sections.specs.Intersect.{PlaneCell, foreign, meetings, middle, pieceAbout, pieceOf, piecesFrom, intersect}
-use Rattle.planes.specs.Sample.{Sample, onward, sample}
+use Rattle.samples.specs.Sample.{Sample, onward, sample}
 use Rattle.planes.specs.Answers.{sampled, sectionOf, statisticsOf, integralsOf, probeOf}
 
 all-only : {A : Type 0} (P : A → Type 0) (b : Bool) (a : A) → P a → All P (only b a)
