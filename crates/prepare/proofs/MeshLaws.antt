@@ -22,7 +22,7 @@ use Rattle.cells.specs.Cells.{Draft, Drafts, drafts}
 use Rattle.finish.specs.Finish.{finished}
 use Rattle.mesh.specs.Mesh.{joined, acceptable, completed, filled, fromCells}
 use Rattle.polygons.specs.Field.{Few}
-use Rattle.sections.specs.Work.{Bounded}
+use Rattle.crossings.specs.Work.{Bounded}
 use Rattle.shapes.specs.Shapes.{Limited, Over}
 use Rattle.shapes.proofs.CellLaws.{cells-counted, faces-of-cells, limited-faces, eight-vertices}
 use Rattle.shapes.proofs.CornerLaws.{few-corners}

@@ -11,7 +11,7 @@ use Rattle.casefile.specs.declared.Opened.the-variants.{Case}
 use Rattle.area.specs.declared.Sizes.{Sizes}
 use Rattle.area.specs.Layout.{pointsIn, meshIn, LentWords, LentFloats}
 use Rattle.polygons.specs.Field.{Few}
-use Rattle.sections.specs.Work.{Bounded}
+use Rattle.crossings.specs.Work.{Bounded}
 use Rattle.prepare.specs.Room.{Lent, shortage}
 
 -- what the number of a refusal among 4 to 7 stands for; 0 is none

@@ -3,9 +3,9 @@ pub mod encode;
 
 use arith::Vec3;
 use arith::bytes;
+use crossings::Plane;
+use crossings::axes;
 use lines::StreamlineDirection;
-use sections::Plane;
-use sections::axes;
 use velocity::StreamlineOptions;
 ghost use mathlib.Core.Path.{_≡_};
 ghost use mathlib.Core.Bool.{true, false};

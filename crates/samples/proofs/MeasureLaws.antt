@@ -8,8 +8,8 @@ use lib.Ieee.{Float}
 use Rattle.arith.specs.Lists.{foldl, windows}
 use Rattle.arith.specs.Vec.{origin}
 use Rattle.arith.specs.declared.Vec3.{Vec3}
-use Rattle.sections.specs.Work.{heldIn, pointIn}
-use Rattle.sections.proofs.HeldLaws.{held-left}
+use Rattle.crossings.specs.Work.{heldIn, pointIn}
+use Rattle.crossings.proofs.HeldLaws.{held-left}
 use Rattle.samples.specs.Sample.{addVector, vectorOf}
 
 pub vector-start : (x y z : List Float) (n : ℕ) (o t : Vec3) → 1 ≤ n → o ≡ pointIn x y z 0 → t ≡ origin →

@@ -14,13 +14,15 @@ use Rattle.casefile.specs.declared.Counts.{Counts}
 use Rattle.area.specs.declared.Sizes.{Sizes}
 use Rattle.area.specs.Tables.{Mesh, Cell, cellAt, noCell}
 use Rattle.area.specs.Layout.{pointsIn, cellsIn, meshIn}
-use Rattle.sections.specs.declared.Cut.{Cut}
-use Rattle.sections.specs.declared.Plane.{Plane}
+use Rattle.crossings.specs.declared.Cut.{Cut}
+use Rattle.crossings.specs.declared.Plane.{Plane}
 use Rattle.sections.specs.declared.Piece.{Piece}
 use Rattle.sections.specs.declared.Piece.the-variants.{Of, Empty}
-use Rattle.sections.specs.Intersect.{PlaneCell, pieceOf, piecesFrom, cutOf, intersect}
-use Rattle.sections.specs.Work.{heldIn, Holds, bare, pieceIn, verticesOf, Full, Pieced}
-use Rattle.sections.proofs.HeldLaws.{length-held}
+use Rattle.crossings.specs.Crossings.{cutOf}
+use Rattle.sections.specs.Intersect.{PlaneCell, pieceOf, piecesFrom, intersect}
+use Rattle.crossings.specs.Work.{heldIn, Holds, bare}
+use Rattle.sections.specs.Work.{pieceIn, verticesOf, Full, Pieced}
+use Rattle.crossings.proofs.HeldLaws.{length-held}
 use Rattle.sections.proofs.PieceLaws.{same-piece}
 use Rattle.samples.specs.declared.Tally.{Tally}
 use Rattle.samples.specs.declared.Tallied.{Tallied}

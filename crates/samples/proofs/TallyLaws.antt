@@ -15,9 +15,9 @@ use Rattle.arith.specs.declared.Vec2.{Vec2}
 use Rattle.arith.specs.declared.Vec3.{Vec3}
 use Rattle.reading.specs.declared.Values.{Values}
 use Rattle.reading.specs.Result.{Result, refused, fine}
-use Rattle.sections.specs.declared.Cut.{Cut}
-use Rattle.sections.specs.Work.{heldIn}
-use Rattle.sections.proofs.HeldLaws.{length-held}
+use Rattle.crossings.specs.declared.Cut.{Cut}
+use Rattle.crossings.specs.Work.{heldIn}
+use Rattle.crossings.proofs.HeldLaws.{length-held}
 use Rattle.samples.specs.declared.Sums.{Sums}
 use Rattle.samples.specs.declared.Integral.{Integral}
 use Rattle.samples.specs.declared.Summed.{Summed}

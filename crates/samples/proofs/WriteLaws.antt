@@ -10,8 +10,8 @@ use lib.Ieee.{Float}
 use Rattle.arith.specs.Lists.{concat}
 use Rattle.arith.specs.declared.Vec3.{Vec3}
 use Rattle.arith.proofs.RecordLaws.{tab-next, length-tab}
-use Rattle.sections.specs.Work.{heldIn, pointIn}
-use Rattle.sections.proofs.HeldLaws.{length-held}
+use Rattle.crossings.specs.Work.{heldIn, pointIn}
+use Rattle.crossings.proofs.HeldLaws.{length-held}
 use Rattle.reading.specs.declared.Values.{Values}
 use Rattle.samples.specs.Words.{vecWords, valuesWords, sampleWords}
 

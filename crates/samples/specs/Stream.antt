@@ -16,9 +16,9 @@ use Rattle.casefile.specs.declared.Counts.{Counts}
 use Rattle.casefile.specs.declared.Opened.the-variants.{Case}
 use Rattle.casefile.specs.Trailer.{opened}
 use Rattle.area.specs.declared.Sizes.{Sizes}
-use Rattle.sections.specs.declared.Cut.{Cut}
+use Rattle.crossings.specs.declared.Cut.{Cut}
 use Rattle.sections.specs.Intersect.{PlaneCell}
-use Rattle.sections.specs.Work.{Lent, Bounded, bare, heldIn}
+use Rattle.crossings.specs.Work.{Lent, Bounded, bare, heldIn}
 use Rattle.samples.specs.declared.Sums.{Sums}
 use Rattle.samples.specs.declared.Integral.{Integral}
 use Rattle.samples.specs.declared.Summed.{Summed}

@@ -2,15 +2,15 @@
 use arith::Vec2;
 use arith::Vec3;
 use arith::float;
+use crossings::Plane;
+use crossings::held;
 use reading::Values;
-use sections::Plane;
-use sections::held;
 ghost use mathlib.Core.Path.{_≡_};
 ghost use Prim.Native.Nat.{_+_, _≤_, _<_};
 ghost use Rattle.arith.specs.F64.{finite};
 ghost use Rattle.arith.specs.Lists.{after};
 ghost use Rattle.arith.specs.Polygon as Polygon;
-ghost use Rattle.sections.specs.Work.{heldIn, pointIn, Holds};
+ghost use Rattle.crossings.specs.Work.{heldIn, pointIn, Holds};
 ghost use Rattle.samples.specs.Sample as Sample;
 ghost use Rattle.samples.specs.Sample.{addVector, vectorOf, measureOf};
 ghost use Rattle.samples.specs.Statistics.{scalarOf};

@@ -10,14 +10,14 @@ use crate::write;
 use arith::Vec2;
 use arith::Vec3;
 use arith::float;
+use crossings::Cut;
 use reading::Values;
-use sections::Cut;
 ghost use mathlib.Core.Path.{_≡_};
 ghost use Prim.Native.Nat.{ℕ, _≤_, _<_};
 ghost use Rattle.samples.specs.Statistics as Statistics;
 ghost use Rattle.samples.specs.Integrals as Integrals;
 ghost use Rattle.samples.specs.Stream.{summedOf, weighedOf, summingOf, weighingOf, addSummed, addWeighed, addProbed, sampleIn, usedOf, sizeOf, Added};
-ghost use Rattle.sections.specs.Work.{Holds};
+ghost use Rattle.crossings.specs.Work.{Holds};
 
 // A sample with area and a finite value counts.
 fn counted(measure: f64, value: f64) -> bool

@@ -1,15 +1,15 @@
 // The answer words, written as far as they fit.
 use arith::Vec3;
 use arith::bytes;
+use crossings::held;
 use reading::Values;
-use sections::held;
 ghost use mathlib.Core.Path.{_≡_};
 ghost use mathlib.Core.List.{map};
 ghost use Prim.Native.Nat.{_+_, _*_, _≤_, _<_};
 ghost use lib.ListN.{length, set};
 ghost use lib.Seq.{sets};
 ghost use Rattle.arith.specs.Lists.{concat};
-ghost use Rattle.sections.specs.Work.{heldIn, Holds};
+ghost use Rattle.crossings.specs.Work.{heldIn, Holds};
 ghost use Rattle.samples.specs.Words.{vecWords, valuesWords, sampleWords};
 
 // Word `at` of the answers, where there is one.

@@ -16,9 +16,10 @@ use Rattle.arith.specs.declared.Angle.{Angle}
 use Rattle.arith.specs.declared.Vec3.{Vec3}
 use Rattle.arith.proofs.All.{All, all-append, all-getD, all-more}
 use Rattle.arith.proofs.SortLaws.{map-sort, all-insert, places-below, length-sort}
-use Rattle.sections.specs.declared.Plane.{Plane}
+use Rattle.crossings.specs.declared.Plane.{Plane}
 use Rattle.sections.specs.Intersect.{earlierOn}
-use Rattle.sections.specs.Work.{angleOn, Angled, Gathered, Holds, heldIn, pointIn}
+use Rattle.crossings.specs.Work.{Holds, heldIn, pointIn}
+use Rattle.sections.specs.Work.{angleOn, Angled, Gathered}
 
 module _ {s : Plane} {centre : Vec3} {point : ℕ → Vec3} where
   pub angled-none : (q : List ℕ) (t : List Float) → Angled s centre point 0 q t

@@ -1,6 +1,2 @@
-pub mod Turns
-pub mod HeldLaws
-pub mod PlaneLaws
-pub mod MeshLaws
 pub mod AngleLaws
 pub mod PieceLaws

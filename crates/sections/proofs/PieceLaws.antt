@@ -6,10 +6,10 @@ use mathlib.Core.Logic.{⊎-elim, _⊎_, inl, inr}
 use mathlib.Core.Bool.{Bool, true, false, not, cond, _&&_, _||_, true≢false}
 use mathlib.Core.List.{List, [], _∷_, _++_}
 use lib.Dec.{leb, eqb}
-use lib.ListN.{length}
+use lib.ListN.{length, drop}
 use lib.Ieee.{Float}
 use borrow.Author.Tests.{lt-leb, le-leb}
-use Rattle.arith.specs.Lists.{foldl, any, all, only, sort, Side, sidesWith, sides}
+use Rattle.arith.specs.Lists.{foldl, any, all, only, sort, Side, sidesWith, sides, windows}
 use Rattle.arith.specs.declared.Vec3.{Vec3}
 use Rattle.arith.proofs.All.{All, all-append}
 use Rattle.arith.proofs.RecordLaws.{lt-or-ge}
@@ -17,12 +17,23 @@ use Rattle.area.specs.declared.Sizes.{Sizes}
 use Rattle.area.specs.Tables.{Mesh, Face, Cell, pointAt, faceAt, cellAt}
 use Rattle.area.specs.Layout.{meshIn, facesIn, cellsIn, faceIn, cellIn, meshWords, meshFloats, pointsIn}
 use Rattle.area.proofs.LayoutLaws.{face-in, face-out, cell-in, cell-out}
-use Rattle.sections.specs.declared.Cut.{Cut}
-use Rattle.sections.specs.declared.Signs.{Signs}
+use Rattle.crossings.specs.declared.Cut.{Cut}
+use Rattle.crossings.specs.declared.Signs.{Signs}
+use Rattle.crossings.proofs.HeldLaws.{held-left}
 use Rattle.sections.specs.declared.Piece.{Piece}
 use Rattle.sections.specs.declared.Piece.the-variants.{Of, Empty}
-use Rattle.sections.specs.Intersect.{PlaneCell, near, below, above, rises, parted, addEnd, addBetween, addMeeting, shared, onPlane, foreign, addSide, addFace, meetings, earlierOn, middle, wide, pieceAbout, pieceOf}
-use Rattle.sections.specs.Work.{heldIn, signWith, addSign, faceSigns, signsOf, noSigns, mayMeet, pieceIn, verticesOf, bare, PiecedAbout, Pieced, Bounded}
+use Rattle.crossings.specs.Crossings.{near, below, above, rises, parted, addEnd, addBetween, addMeeting, shared, onPlane, foreign, addSide, addFace, meetings}
+use Rattle.sections.specs.Intersect.{PlaneCell, earlierOn, addArea, areaOf, middle, wide, pieceAbout, pieceOf}
+use Rattle.crossings.specs.Work.{heldIn, pointIn, signWith, addSign, faceSigns, signsOf, noSigns, mayMeet, bare, Bounded}
+use Rattle.sections.specs.Work.{pieceIn, verticesOf, PiecedAbout, Pieced}
+
+-- ---- the area of a polygon, from the first point
+
+pub area-start : (x y z : List Float) (n : ℕ) (o : Vec3) → 1 ≤ n → o ≡ pointIn x y z 0 →
+    foldl (addArea o) (Rattle.arith.specs.F64.0·0) (windows (drop 1 (heldIn x y z n))) ≡ areaOf (heldIn x y z n)
+unfolding areaOf
+area-start x y z n o h e =
+    rw e (sym (ap areaOf (held-left x y z n 0 (omega arith) .left)))
 
 -- ---- the piece of some points
 

@@ -1,3 +1,2 @@
-pub mod Plane
 pub mod Intersect
 pub mod Work

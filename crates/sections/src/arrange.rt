@@ -1,18 +1,19 @@
 // The points of a piece in angle order about its centre.
-use crate::Plane;
-use crate::held;
 use arith::Angle;
 use arith::Vec2;
 use arith::Vec3;
 use arith::angles;
 use arith::sort;
+use crossings::Plane;
+use crossings::held;
 ghost use mathlib.Core.Path.{_≡_};
 ghost use Prim.Native.Nat.{_+_, _≤_, _<_};
 ghost use lib.ListN.{length, getD, take};
 ghost use Rattle.arith.specs.Lists as Lists;
 ghost use Rattle.arith.specs.Records.{tab};
 ghost use Rattle.sections.specs.Intersect.{earlierOn};
-ghost use Rattle.sections.specs.Work.{pointIn, heldIn, angleOn, Holds, Angled, Gathered};
+ghost use Rattle.crossings.specs.Work.{pointIn, heldIn, Holds};
+ghost use Rattle.sections.specs.Work.{angleOn, Angled, Gathered};
 
 // The angle of p about the centre, in the plane's axes.
 fn angle_on(plane: Plane, centre: Vec3, p: Vec3) -> Angle

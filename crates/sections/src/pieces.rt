@@ -1,25 +1,26 @@
 // The piece that the plane cuts from one cell.
-use crate::Cut;
 use crate::Piece;
 use crate::arrange;
-use crate::heights;
-use crate::held;
-use crate::meetings;
+use crate::middle;
 use area::Sizes;
+use crossings::Cut;
+use crossings::heights;
+use crossings::meetings;
 ghost use mathlib.Core.Path.{_≡_};
 ghost use mathlib.Core.List.{List};
 ghost use Prim.Native.Nat.{_≤_};
 ghost use lib.Ieee.{Float};
 ghost use Rattle.area.specs.Layout.{pointsIn, meshIn};
 ghost use Rattle.sections.specs.Intersect.{wide};
-ghost use Rattle.sections.specs.Work.{heldIn, Holds, Lent, Bounded, bare, PiecedAbout, Pieced};
+ghost use Rattle.crossings.specs.Work.{heldIn, Holds, Lent, Bounded, bare};
+ghost use Rattle.sections.specs.Work.{PiecedAbout, Pieced};
 
 // The polygon's area is above the square of the tolerance.
 fn is_wide(cut: Cut, x: &[f64], y: &[f64], z: &[f64], n: usize) -> bool
     requires { ⌜ Holds (now x) (now y) (now z) n × (1 ≤ n) ⌝ }
     ensures { λ r. ⌜ r ≡ wide cut (heldIn (now (x .entry)) (now (y .entry)) (now (z .entry)) n) ⌝ }
 {
-    let area = held::area(x, y, z, n);
+    let area = middle::area(x, y, z, n);
     cut.tolerance * cut.tolerance < area
 }
 
@@ -40,7 +41,7 @@ fn piece_about(
     if n < 3 {
         return Piece::Empty;
     }
-    let centre = held::average(px, py, pz, n);
+    let centre = middle::average(px, py, pz, n);
     arrange::arrange(cut.plane, centre, px, py, pz, n, x, y, z);
     if is_wide(cut, x, y, z, n) {
         Piece::Of(centre, n)

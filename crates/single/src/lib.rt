@@ -1,11 +1,11 @@
 // Each request alone, as a job of one: it starts from the case bytes too.
 use arith::Vec3;
 use arith::bytes;
+use crossings::Plane;
 use job::Outcome;
 use lines::StreamlineDirection;
 use requests::encode;
 use samples::write;
-use sections::Plane;
 use velocity::StreamlineOptions;
 ghost use mathlib.Core.Path.{_≡_};
 ghost use Prim.Native.Nat.{_<_};

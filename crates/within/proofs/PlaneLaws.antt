@@ -11,9 +11,10 @@ use Rattle.reading.specs.Result.{Result}
 use Rattle.reading.specs.Asks.{Asks}
 use Rattle.reading.proofs.Within.{Within, given, asked, within-bind}
 use Rattle.area.specs.Tables.{Mesh, Cell}
-use Rattle.sections.specs.declared.Plane.{Plane}
-use Rattle.sections.specs.declared.Cut.{Cut}
-use Rattle.sections.specs.Intersect.{PlaneCell, foreign, meetings, middle, pieceAbout, pieceOf, piecesFrom, intersect}
+use Rattle.crossings.specs.declared.Plane.{Plane}
+use Rattle.crossings.specs.declared.Cut.{Cut}
+use Rattle.crossings.specs.Crossings.{foreign, meetings}
+use Rattle.sections.specs.Intersect.{PlaneCell, middle, pieceAbout, pieceOf, piecesFrom, intersect}
 use Rattle.samples.specs.Sample.{Sample, onward, sample}
 use Rattle.planes.specs.Answers.{sampled, sectionOf, statisticsOf, integralsOf, probeOf}
 

@@ -3,9 +3,9 @@ use native.Mathlib.Omega.{arith}
 use mathlib.Core.Path.{_≡_}
 use lib.ListN.{drop}
 use Rattle.arith.specs.Lists.{foldl, windows}
-use Rattle.sections.specs.Work.{heldIn}
-use Rattle.sections.proofs.Turns.{window-done}
-use Rattle.sections.proofs.HeldLaws.{held-window, held-past}
+use Rattle.crossings.specs.Work.{heldIn}
+use Rattle.crossings.proofs.Turns.{window-done}
+use Rattle.crossings.proofs.HeldLaws.{held-window, held-past}
 use Rattle.samples.specs.Sample.{addVector, vectorOf}
 use Rattle.samples.proofs.MeasureLaws.{vector-start}
 use borrow.Author.Needs.{needs}

@@ -1,7 +1,7 @@
 use Prim.Native.Nat.{_≤_, _-_}
 use mathlib.Core.Path.{_≡_}
 use mathlib.Core.Logic.{⊎-elim}
-use Rattle.sections.specs.Work.{heldIn}
+use Rattle.crossings.specs.Work.{heldIn}
 use Rattle.samples.specs.Probe.{covers}
 use Rattle.samples.proofs.InsideLaws.{rest, rest-start, rest-end, rest-toggled, rest-kept}
 use borrow.Author.Needs.{needs}

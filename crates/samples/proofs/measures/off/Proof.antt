@@ -1,4 +1,4 @@
-use Rattle.sections.specs.Plane.{normalOf}
+use Rattle.crossings.specs.Plane.{normalOf}
 use Rattle.samples.specs.Probe.{off}
 use borrow.Author.Needs.{needs}
 use Rattle.samples.proofs.measures.off.Statement.{statement}

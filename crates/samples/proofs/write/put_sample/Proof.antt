@@ -1,4 +1,4 @@
-use Rattle.sections.proofs.HeldLaws.{length-held}
+use Rattle.crossings.proofs.HeldLaws.{length-held}
 use Rattle.samples.proofs.WriteLaws.{sample-put}
 use borrow.Author.Needs.{needs}
 use Rattle.samples.proofs.write.put_sample.Statement.{statement}

@@ -2,8 +2,9 @@ use Prim.Native.Nat.{_≤_, _-_}
 use native.Mathlib.Omega.{arith}
 use mathlib.Core.Path.{_≡_, refl, ap, _∙_}
 use lib.ListN.{length, length-set}
-use Rattle.sections.specs.Work.{pointIn, angleOn, Angled}
-use Rattle.sections.proofs.Turns.{at-end}
+use Rattle.crossings.specs.Work.{pointIn}
+use Rattle.sections.specs.Work.{angleOn, Angled}
+use Rattle.crossings.proofs.Turns.{at-end}
 use Rattle.sections.proofs.AngleLaws.{angled-none, angled-more}
 use borrow.Author.Needs.{needs}
 use Rattle.sections.proofs.arrange.angles_of.Statement.{statement}

@@ -1,6 +1,6 @@
 use mathlib.Core.Path.{ap, sym, _∙_}
 use Rattle.arith.specs.Sort.{sortedPlaces}
-use Rattle.sections.proofs.HeldLaws.{holds-as}
+use Rattle.crossings.proofs.HeldLaws.{holds-as}
 use Rattle.sections.proofs.AngleLaws.{sorted-within, arranged}
 use borrow.Author.Needs.{needs}
 use Rattle.sections.proofs.arrange.arrange_by.Statement.{statement}

@@ -1,6 +1,6 @@
 use mathlib.Core.Path.{sym, _∙_}
 use lib.Seq.{length-take-le}
-use Rattle.sections.proofs.HeldLaws.{holds-as}
+use Rattle.crossings.proofs.HeldLaws.{holds-as}
 use borrow.Author.Needs.{needs}
 use Rattle.sections.proofs.arrange.arrange_first.Statement.{statement}
 use Rattle.sections.proofs.arrange.arrange_first.Tie as tie

@@ -3,9 +3,9 @@ use native.Mathlib.Omega.{arith}
 use mathlib.Core.Path.{_≡_, refl}
 use lib.ListN.{length, getD}
 use Rattle.arith.specs.Records.{tab}
-use Rattle.sections.specs.Work.{heldIn, pointIn, Holds}
-use Rattle.sections.proofs.Turns.{at-end}
-use Rattle.sections.proofs.HeldLaws.{gathered-more}
+use Rattle.crossings.specs.Work.{heldIn, pointIn, Holds}
+use Rattle.crossings.proofs.Turns.{at-end}
+use Rattle.crossings.proofs.HeldLaws.{gathered-more}
 use borrow.Author.Needs.{needs}
 use Rattle.sections.proofs.arrange.gather.Statement.{statement}
 use Rattle.sections.proofs.arrange.gather.Tie as tie

@@ -1,6 +1,6 @@
 use native.Mathlib.Omega.{arith}
 use mathlib.Core.Path.{sym}
-use Rattle.sections.proofs.HeldLaws.{length-held}
+use Rattle.crossings.proofs.HeldLaws.{length-held}
 use Rattle.sections.proofs.PieceLaws.{piece-few, piece-wide, piece-flat}
 use borrow.Author.Needs.{needs}
 use Rattle.sections.proofs.pieces.piece_about.Statement.{statement}

@@ -1,0 +1,4 @@
+pub mod Turns
+pub mod HeldLaws
+pub mod PlaneLaws
+pub mod MeshLaws

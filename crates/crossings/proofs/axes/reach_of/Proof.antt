@@ -1,0 +1,52 @@
+use Prim.Native.Nat.{_≤_, _-_}
+use mathlib.Core.Path.{_≡_, refl, ap}
+use lib.ListN.{drop}
+use Rattle.arith.specs.F64.{0·0}
+use Rattle.arith.specs.Lists.{foldl}
+use Rattle.arith.specs.Vec.{norm}
+use Rattle.area.specs.Layout.{pointsIn}
+use Rattle.crossings.specs.Crossings.{widest, farthest}
+use Rattle.crossings.proofs.Turns.{fold-turn, fold-done}
+use Rattle.crossings.proofs.MeshLaws.{points-left, points-past}
+use borrow.Author.Needs.{needs}
+use Rattle.crossings.proofs.axes.reach_of.Statement.{statement}
+use Rattle.crossings.proofs.axes.reach_of.Tie as tie
+
+abbrev Inv-loop : tie.InvT-loop
+Inv-loop case points origin span₀ location₀ i₀ span location i = (i ≤ points) × (foldl (widest origin) span (drop i (pointsIn case points)) ≡ foldl (widest origin) 0·0 (pointsIn case points)) × (foldl farthest location (drop i (pointsIn case points)) ≡ foldl farthest (norm origin) (pointsIn case points))
+
+abbrev μ-loop : tie.MeasureT-loop
+μ-loop case points origin span₀ location₀ i₀ span location i = points - i
+
+loop-holds : tie.Need-loop-holds Inv-loop μ-loop
+loop-holds c = (search needs, refl, ap (λ t. foldl farthest t (pointsIn (c .before .before .args .case .now) (c .before .before .args .points))) (c .norm .ensures))
+
+loop-again : tie.Need-loop-again Inv-loop μ-loop
+unfolding widest farthest
+loop-again c =
+    let here = points-left (c .before .before .before .before .before .before .before .before .before .before .args .case .now) (c .before .before .before .before .before .before .before .before .before .before .args .points) (c .before .before .before .before .before .before .before .loop .i) (c .before .before .before .before .before .before .loop-test .taken) in
+    (search needs, fold-turn here _ _ (c .before .before .before .before .before .before .before .loop .inv .1) (rw (c .before .before .max .ensures, c .before .before .before .norm2 .ensures, c .before .before .before .before .sub .ensures, c .before .before .before .before .before .point-at .ensures)), fold-turn here _ _ (c .before .before .before .before .before .before .before .loop .inv .2) (rw (c .max2 .ensures, c .before .norm3 .ensures, c .before .before .before .before .before .point-at .ensures)))
+
+returns : tie.Need-returns Inv-loop μ-loop
+returns c =
+    let past = points-past (c .before .before .before .before .args .case .now) (c .before .before .before .before .args .points) (c .before .loop .i) (c .loop-test .left) in
+    (fold-done past _ _ (c .before .loop .inv .1), fold-done past _ _ (c .before .loop .inv .2))
+
+pub reach-of-spec : {M : Type 1} → statement M
+reach-of-spec =
+    tie.close
+    (tie.spec
+    Inv-loop
+    μ-loop
+    (λ c κs. search needs)
+    loop-holds
+    (λ c κs. search needs)
+    (λ c κs. search needs)
+    (λ c κs. search needs)
+    (λ c κs. search needs)
+    (λ c κs. search needs)
+    (λ c κs. search needs)
+    (λ c. search needs)
+    (λ c. search needs)
+    loop-again
+    returns)

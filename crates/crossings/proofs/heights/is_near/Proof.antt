@@ -1,0 +1,16 @@
+use Rattle.crossings.specs.Crossings.{near}
+use borrow.Author.Needs.{needs}
+use Rattle.crossings.proofs.heights.is_near.Statement.{statement}
+use Rattle.crossings.proofs.heights.is_near.Tie as tie
+
+returns : tie.Need-returns
+unfolding near
+returns c = rw (c .before .abs .ensures, c .before .before .height .ensures)
+
+pub is-near-spec : {M : Type 1} → statement M
+is-near-spec =
+    tie.close
+    (tie.spec
+    (λ c κs. search needs)
+    (λ c κs. search needs)
+    returns)

@@ -1,0 +1,26 @@
+use mathlib.Core.Path.{sym, _∙_}
+use Rattle.crossings.proofs.PlaneLaws.{meeting-point, meeting-none}
+use Rattle.crossings.proofs.MeshLaws.{listed-as}
+use borrow.Author.Needs.{needs}
+use Rattle.crossings.proofs.meetings.add_meeting.Statement.{statement}
+use Rattle.crossings.proofs.meetings.add_meeting.Tie as tie
+
+returns : tie.Need-returns
+returns c = listed-as (meeting-point _ _ _ _ _ (sym (c .before .before .before .before .before .before .before .before .before .before .before .before .before .meeting .ensures) ∙ c .before .before .before .before .before .before .before .before .before .before .before .m .given .1)) (c .before .before .before .before .before .before .add-new .ensures)
+
+returns-2 : tie.Need-returns-2
+returns-2 c = record { list = meeting-none _ _ _ _ (sym (c .before .before .meeting .ensures) ∙ c .enum-told .given .1); few = search needs }
+
+pub add-meeting-spec : {M : Type 1} → statement M
+add-meeting-spec =
+    tie.close
+    (tie.spec
+    (λ c κs. search needs)
+    (λ c. search needs)
+    (λ c κs. search needs)
+    (λ c. search needs)
+    (λ c. search needs)
+    (λ c. search needs)
+    (λ c. search needs)
+    returns
+    returns-2)

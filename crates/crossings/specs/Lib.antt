@@ -1,0 +1,3 @@
+pub mod Plane
+pub mod Crossings
+pub mod Work

@@ -1,0 +1,234 @@
+// Where the sides of a cell's faces meet the plane.
+use crate::Cut;
+use crate::Meeting;
+use crate::heights;
+use crate::held;
+use area::Sizes;
+use arith::Found;
+use arith::Vec3;
+ghost use mathlib.Core.Path.{_≡_};
+ghost use mathlib.Core.List.{[]};
+ghost use Prim.Native.Nat.{_+_, _*_, _≤_, _<_};
+ghost use lib.ListN.{length};
+ghost use Rattle.arith.specs.Lists.{any, all, after};
+ghost use Rattle.area.specs.Tables.{cellAt, faceAt};
+ghost use Rattle.crossings.specs.Crossings as Crossings;
+ghost use Rattle.crossings.specs.Crossings.{onPlane, foreign, addMeeting, addSide, addFace, meetings};
+ghost use Rattle.crossings.specs.Work.{heldIn, Holds, Listed, bare, Lent, Bounded, sideAt, meetingOf};
+
+// a lies below the plane and b above it.
+fn rises(cut: Cut, a: Vec3, b: Vec3) -> bool
+    ensures { λ r. ⌜ r ≡ Crossings.rises cut a b ⌝ }
+{
+    if heights::is_below(cut, a) {
+        heights::is_above(cut, b)
+    } else {
+        false
+    }
+}
+
+// The ends of a side lie on both sides of the plane.
+fn parted(cut: Cut, a: Vec3, b: Vec3) -> bool
+    ensures { λ r. ⌜ r ≡ Crossings.parted cut a b ⌝ }
+{
+    if rises(cut, a, b) {
+        true
+    } else {
+        rises(cut, b, a)
+    }
+}
+
+// The point between a and b at which the side meets the plane.
+fn between(cut: Cut, a: Vec3, b: Vec3) -> Vec3
+    ensures { λ r. ⌜ r ≡ Crossings.between cut a b ⌝ }
+{
+    let da = heights::height(cut, a);
+    let db = heights::height(cut, b);
+    a.add(b.sub(a).scale(da / (da - db)))
+}
+
+// Where the side from a to b meets the plane.
+fn meeting(cut: Cut, a: Vec3, b: Vec3) -> Meeting
+    ensures { λ r. ⌜ r ≡ meetingOf cut a b ⌝ }
+{
+    if heights::is_near(cut, a) {
+        Meeting::Point(a)
+    } else if parted(cut, a, b) {
+        Meeting::Point(between(cut, a, b))
+    } else {
+        Meeting::None
+    }
+}
+
+// Adds to the n points where the side from a to b meets the plane; how many there are then.
+fn add_meeting(
+    cut: Cut,
+    a: Vec3,
+    b: Vec3,
+    x: &mut [f64],
+    y: &mut [f64],
+    z: &mut [f64],
+    n: usize,
+) -> usize
+    requires { ⌜ Holds (now x) (now y) (now z) (n + 1) ⌝ }
+    ensures { λ r. ⌜ Listed (addMeeting cut (heldIn (now (x .entry)) (now (y .entry)) (now (z .entry)) n) a b) (now (x .exit)) (now (y .exit)) (now (z .exit)) r (n + 1) ⌝ }
+{
+    let m = meeting(cut, a, b);
+    match m {
+        Meeting::Point(p) => held::add_new(cut, p, x, y, z, n),
+        Meeting::None => n,
+    }
+}
+
+// The number after i, of n in a round.
+fn next_of(i: usize, n: usize) -> usize
+    requires { ⌜ i < n ⌝ }
+    ensures { λ r. ⌜ r ≡ after n i ⌝ }
+{
+    let j = i + 1;
+    if j == n { 0 } else { j }
+}
+
+// The same for side k of the `count` of face f.
+fn add_side(
+    case: &[u8],
+    points: usize,
+    words: &[u32],
+    s: Sizes,
+    cut: Cut,
+    f: usize,
+    count: usize,
+    k: usize,
+    x: &mut [f64],
+    y: &mut [f64],
+    z: &mut [f64],
+    n: usize,
+) -> usize
+    requires { ⌜ Lent (now case) points s (now words) × Holds (now x) (now y) (now z) (n + 1) ⌝ }
+    requires { ⌜ (k < count) × (count ≡ length (faceAt (bare (now case) points s (now words) .faces) f .vertices)) ⌝ }
+    ensures { λ r. ⌜ Listed (addSide (bare (now (case .entry)) points s (now (words .entry))) cut (heldIn (now (x .entry)) (now (y .entry)) (now (z .entry)) n) (sideAt (faceAt (bare (now (case .entry)) points s (now (words .entry)) .faces) f .vertices) k)) (now (x .exit)) (now (y .exit)) (now (z .exit)) r (n + 1) ⌝ }
+{
+    let a = heights::corner(case, points, words, s, f, k);
+    let b = heights::corner(case, points, words, s, f, next_of(k, count));
+    add_meeting(cut, a, b, x, y, z, n)
+}
+
+// The same for all sides of face f.
+fn add_face(
+    case: &[u8],
+    points: usize,
+    words: &[u32],
+    s: Sizes,
+    cut: Cut,
+    f: usize,
+    x: &mut [f64],
+    y: &mut [f64],
+    z: &mut [f64],
+    from: usize,
+) -> usize
+    requires { ⌜ Lent (now case) points s (now words) × Holds (now x) (now y) (now z) (from + 8) ⌝ }
+    requires { ⌜ length (faceAt (bare (now case) points s (now words) .faces) f .vertices) ≤ 8 ⌝ }
+    ensures { λ r. ⌜ Listed (addFace (bare (now (case .entry)) points s (now (words .entry))) cut (heldIn (now (x .entry)) (now (y .entry)) (now (z .entry)) from) f) (now (x .exit)) (now (y .exit)) (now (z .exit)) r (from + 8) ⌝ }
+{
+    let count = area::vertex_count(words, s, f);
+    let mut n = from;
+    let mut k = 0;
+    while k < count {
+        n = add_side(case, points, words, s, cut, f, count, k, x, y, z, n);
+        k += 1;
+    }
+    n
+}
+
+// The points at which the plane meets the sides of a cell: how many.
+pub fn meetings(
+    case: &[u8],
+    points: usize,
+    words: &[u32],
+    s: Sizes,
+    cut: Cut,
+    cell: usize,
+    x: &mut [f64],
+    y: &mut [f64],
+    z: &mut [f64],
+) -> usize
+    requires { ⌜ Lent (now case) points s (now words) × Holds (now x) (now y) (now z) 192 ⌝ }
+    requires { ⌜ Bounded (bare (now case) points s (now words)) ⌝ }
+    ensures { λ r. ⌜ Listed (meetings (bare (now (case .entry)) points s (now (words .entry))) cut (cellAt (bare (now (case .entry)) points s (now (words .entry)) .cells) cell .faces)) (now (x .exit)) (now (y .exit)) (now (z .exit)) r 192 ⌝ }
+{
+    let count = area::face_count(words, s, cell);
+    let mut n = 0;
+    let mut j = 0;
+    while j < count {
+        let f = area::cell_face(words, s, cell, j);
+        n = add_face(case, points, words, s, cut, f, x, y, z, n);
+        j += 1;
+    }
+    n
+}
+
+// Every corner of face f lies in the plane.
+fn on_plane(case: &[u8], points: usize, words: &[u32], s: Sizes, cut: Cut, f: usize) -> bool
+    requires { ⌜ Lent (now case) points s (now words) ⌝ }
+    ensures { λ r. ⌜ r ≡ all (onPlane (bare (now (case .entry)) points s (now (words .entry))) cut) (faceAt (bare (now (case .entry)) points s (now (words .entry)) .faces) f .vertices) ⌝ }
+{
+    let n = area::vertex_count(words, s, f);
+    let mut k = 0;
+    while k < n {
+        if heights::is_near(cut, heights::corner(case, points, words, s, f, k)) {
+            k += 1;
+        } else {
+            return false;
+        }
+    }
+    true
+}
+
+// The plane holds face f of the cell, which another cell owns.
+fn is_foreign(
+    case: &[u8],
+    points: usize,
+    words: &[u32],
+    s: Sizes,
+    cut: Cut,
+    cell: usize,
+    f: usize,
+) -> bool
+    requires { ⌜ Lent (now case) points s (now words) ⌝ }
+    ensures { λ r. ⌜ r ≡ foreign (bare (now (case .entry)) points s (now (words .entry))) cut cell f ⌝ }
+{
+    let other = area::neighbour_of(words, s, f);
+    match other {
+        Found::At(_) => {
+            if area::owner_of(words, s, f) == cell {
+                return false;
+            }
+            on_plane(case, points, words, s, cut, f)
+        }
+        Found::Nothing => false,
+    }
+}
+
+// The plane holds some face of the cell that another cell owns.
+pub fn has_foreign(
+    case: &[u8],
+    points: usize,
+    words: &[u32],
+    s: Sizes,
+    cut: Cut,
+    cell: usize,
+) -> bool
+    requires { ⌜ Lent (now case) points s (now words) ⌝ }
+    ensures { λ r. ⌜ r ≡ any (foreign (bare (now (case .entry)) points s (now (words .entry))) cut cell) (cellAt (bare (now (case .entry)) points s (now (words .entry)) .cells) cell .faces) ⌝ }
+{
+    let count = area::face_count(words, s, cell);
+    let mut j = 0;
+    while j < count {
+        let f = area::cell_face(words, s, cell, j);
+        if is_foreign(case, points, words, s, cut, cell, f) {
+            return true;
+        }
+        j += 1;
+    }
+    false
+}
