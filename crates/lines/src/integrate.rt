@@ -14,8 +14,7 @@ ghost use mathlib.Core.Path.{_≡_};
 ghost use Prim.Native.Nat.{_≤_};
 ghost use Rattle.casefile.specs.Field.{valuesOf};
 ghost use Rattle.area.specs.Layout.{LentWords, LentFloats};
-ghost use Rattle.polygons.specs.Bins.{Binned};
-ghost use Rattle.polygons.specs.Layout.{fieldIn};
+ghost use Rattle.polygons.specs.Layout.{fieldIn, Searchable};
 ghost use Rattle.velocity.specs.Ready.{Ready};
 ghost use Rattle.lines.specs.Line as Line;
 ghost use Rattle.lines.specs.Answered.{Answered};
@@ -50,7 +49,7 @@ pub fn are_good(options: StreamlineOptions) -> bool
 
 // A point locates nowhere.
 pub fn is_nowhere(words: &[u32], floats: &[f64], s: Sizes, g: Grid, p: Vec3) -> bool
-    requires { ⌜ LentWords s (now words) × LentFloats s (now floats) × Binned g ⌝ }
+    requires { ⌜ LentWords s (now words) × LentFloats s (now floats) × Searchable g s (now words) ⌝ }
     ensures { λ r. ⌜ r ≡ Line.nowhere (fieldIn g s (now (words .entry)) (now (floats .entry))) p ⌝ }
 {
     match locate::locate_cell(words, floats, s, g, p) {

@@ -13,8 +13,7 @@ ghost use Prim.Native.Nat.{_≤_, _<_, _*_, _+_};
 ghost use Rattle.arith.specs.Lists.{any};
 ghost use Rattle.casefile.specs.Field.{valuesOf};
 ghost use Rattle.area.specs.Layout.{LentWords, LentFloats};
-ghost use Rattle.polygons.specs.Bins.{Binned};
-ghost use Rattle.polygons.specs.Layout.{fieldIn};
+ghost use Rattle.polygons.specs.Layout.{fieldIn, Searchable};
 ghost use Rattle.velocity.specs.Ready.{Ready};
 ghost use Rattle.lines.specs.Line.{nowhere};
 ghost use Rattle.lines.specs.Rake as Rake;
@@ -40,7 +39,7 @@ fn any_nowhere(
     end: Vec3,
     count: usize,
 ) -> bool
-    requires { ⌜ LentWords s (now words) × LentFloats s (now floats) × Binned g ⌝ }
+    requires { ⌜ LentWords s (now words) × LentFloats s (now floats) × Searchable g s (now words) ⌝ }
     requires { ⌜ (2 ≤ count) × (count ≤ 64) ⌝ }
     ensures { λ r. ⌜ r ≡ any (nowhere (fieldIn g s (now (words .entry)) (now (floats .entry)))) (Rake.seeds start end count) ⌝ }
 {

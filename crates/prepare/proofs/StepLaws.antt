@@ -148,7 +148,7 @@ module _ (case : List ℕ) (n : Counts) (s : Sizes) (w : List ℕ) (f : List Flo
           standing {p = Flat n s g} whole
           (record {
             opens = d .opens;
-            servable = record { opens = d .opens; lent-words = lent-words s w w′ (d .lent-words) lw; lent-floats = lent-floats s f f′ (d .lent-floats) lf; binned = t .binned g e };
+            servable = record { opens = d .opens; lent-words = lent-words s w w′ (d .lent-words) lw; lent-floats = lent-floats s f f′ (d .lent-floats) lf; searchable = t .searchable g e };
           })
 
 -- ---- 8 to 17

@@ -28,8 +28,7 @@ ghost use Rattle.reading.specs.Result.{Result};
 ghost use Rattle.reading.specs.Asks.{Asks, run};
 ghost use Rattle.area.specs.Layout.{LentWords, LentFloats, pointsIn, meshIn};
 ghost use Rattle.casefile.specs.Field.{valuesOf};
-ghost use Rattle.polygons.specs.Bins.{Binned};
-ghost use Rattle.polygons.specs.Layout.{fieldIn};
+ghost use Rattle.polygons.specs.Layout.{fieldIn, Searchable};
 ghost use Rattle.velocity.specs.Ready as Tracer;
 ghost use Rattle.lines.specs.Answered.{tracedOf};
 ghost use Rattle.samples.specs.Stream as Planes;
@@ -86,7 +85,7 @@ fn serve_locate(
     out: &mut [u64],
     p: Vec3,
 ) -> Answered
-    requires { ⌜ LentWords s (now words) × LentFloats s (now floats) × Binned g ⌝ }
+    requires { ⌜ LentWords s (now words) × LentFloats s (now floats) × Searchable g s (now words) ⌝ }
     ensures { λ r. ⌜ ((f : ℕ → Values) (m : List ℕ) → Replied (Serve.serveFlat (fieldIn g s (now (words .entry)) (now (floats .entry))) (Code.Locate p)) f (now (out .entry)) r (now (out .entry)) (now (out .exit)) m m) ⌝ }
 {
     put_found(locate::locate_cell(words, floats, s, g, p), out);

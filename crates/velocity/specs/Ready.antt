@@ -9,11 +9,11 @@ use Rattle.casefile.specs.Trailer.{opened}
 use Rattle.area.specs.declared.Sizes.{Sizes}
 use Rattle.area.specs.Layout.{LentWords, LentFloats}
 use Rattle.polygons.specs.declared.Grid.{Grid}
-use Rattle.polygons.specs.Bins.{Binned}
+use Rattle.polygons.specs.Layout.{Searchable}
 
--- a case that opens, an area of the right sizes, and a grid with bins
+-- a case that opens, an area of the right sizes, and a grid whose bins can be searched
 pub record Ready (case : List ℕ) (n : Counts) (words : List ℕ) (floats : List Float) (s : Sizes) (g : Grid) : Type 0 where
   pub opens : opened case ≡ Case n
   pub lent-words : LentWords s words
   pub lent-floats : LentFloats s floats
-  pub binned : Binned g
+  pub searchable : Searchable g s words
