@@ -31,11 +31,12 @@ fn between(a: f64, b: f64, c: f64) -> bool
     }
 }
 
-// q lies on the line from a to b, within 1e-12.
+// q lies on the line from a to b, within 1e-12. Two tests and no sign: the sign is a branch that cannot be foreseen.
 fn on_line(q: Vec2, a: Vec2, b: Vec2) -> bool
     ensures { λ r. ⌜ r ≡ Locate.onLine q (record { from = a; to = b }) ⌝ }
 {
-    float::abs((b.x - a.x) * (q.y - a.y) - (b.y - a.y) * (q.x - a.x)) <= 1.0e-12
+    let v = (b.x - a.x) * (q.y - a.y) - (b.y - a.y) * (q.x - a.x);
+    (v <= 1.0e-12) & (v >= -1.0e-12)
 }
 
 // q lies on the side from a to b, within 1e-12.
