@@ -96,7 +96,7 @@ whole-in n h = le→leb n (2 ^ 53) (omega arith)
 
 -- ---- the whole part against x
 
-ltb-scale : (p a c : ℕ) → 0 < c → ltb (p * c) (a * c) ≡ ltb p a
+pub ltb-scale : (p a c : ℕ) → 0 < c → ltb (p * c) (a * c) ≡ ltb p a
 ltb-scale p a c h = go (ltb p a) refl
   where
     go : (b : Bool) → ltb p a ≡ b → ltb (p * c) (a * c) ≡ b

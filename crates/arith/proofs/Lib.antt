@@ -4,3 +4,4 @@ pub mod ListLaws
 pub mod RecordLaws
 pub mod All
 pub mod SortLaws
+pub mod RootLaws
