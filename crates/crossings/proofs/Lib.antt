@@ -2,3 +2,4 @@ pub mod Turns
 pub mod HeldLaws
 pub mod PlaneLaws
 pub mod MeshLaws
+pub mod ReachLaws

@@ -73,21 +73,25 @@ pub fn validate(plane: Plane) -> u64
     }
 }
 
-// How far the points reach, from the origin of the plane and from (0, 0, 0).
+// How far the points reach, from the origin of the plane and from (0, 0, 0): the roots of the
+// largest squares.
 fn reach_of(case: &[u8], points: usize, origin: Vec3) -> Reach
     requires { ⌜ (points ≤ 65536) × (24 * points ≤ length (now case)) ⌝ }
     ensures { λ r. ⌜ (r .span ≡ foldl (Crossings.widest origin) 0·0 (pointsIn (now (case .entry)) points)) × (r .location ≡ foldl Crossings.farthest (norm origin) (pointsIn (now (case .entry)) points)) ⌝ }
 {
     let mut span = 0.0;
-    let mut location = origin.norm();
+    let mut location = origin.norm_squared();
     let mut i = 0;
     while i < points {
         let p = area::point_at(case, points, i);
-        span = float::max(span, p.sub(origin).norm());
-        location = float::max(location, p.norm());
+        span = float::max(span, p.sub(origin).norm_squared());
+        location = float::max(location, p.norm_squared());
         i += 1;
     }
-    Reach { span, location }
+    Reach {
+        span: root::sqrt(span),
+        location: root::sqrt(location),
+    }
 }
 
 // The tolerance, by the two distances.
