@@ -100,7 +100,7 @@ finite-else (inf s) h = refl
 finite-else (fin s m e) h = absurd (true≢false h)
 
 -- ---- the sign bit
-signed-odd : (d : ℕ) (s : Bool) (q k l : ℕ) → signed (odd d s q k l) ≡ s
+pub signed-odd : (d : ℕ) (s : Bool) (q k l : ℕ) → signed (odd d s q k l) ≡ s
 unfolding odd signed
 signed-odd d s zero k l = refl
 signed-odd d s (suc q) k l = refl

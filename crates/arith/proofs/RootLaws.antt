@@ -3,23 +3,23 @@ use mathlib.Core.Path.{_≡_, refl, sym, ap, ap₂, _∙_, subst}
 use Prim.Native.Nat.{ℕ, zero, suc, _+_, _-_, _*_, _/_, _%_, _^_, _≤_, _<_, zero-le}
 use native.Mathlib.Nat.{add-comm, mul-comm, mul-assoc, mul-one, mul-right-comm, mul-pos, mul-le-mul-right, mul-le-mul-left, mul-div-cancel, zero-lt-suc, le-of-suc-le-suc, lt-of-not-le, not-le-of-lt, lt-trans, lt-of-lt-of-le, le-antisymm, le-refl, le-of-lt, le-trans, lt-irrefl, pos-of-ne-zero, zero-mul, zero-div}
 use native.Mathlib.Omega.{arith}
-use mathlib.Core.Bool.{Bool, true, false, cond, _&&_, _||_}
+use mathlib.Core.Bool.{Bool, true, false, cond, _&&_, _||_, true≢false, false≢true}
 use mathlib.Core.List.{List, [], _∷_}
 use lib.IntN.{ℤ, pos, negsuc}
 use lib.Dec.{T, eqb, leb, ltb, leb→le, lit<}
 use lib.Pow.{pow-add, pow-mono, pow-pos}
-use lib.Ieee.{Float, nan, inf, fin, binary64, up, down, lt, fits, isNan, ofBits, toBits}
-use lib.Ieee.Fits.{add-fits, up-pos, down-pos, and-l, and-r}
+use lib.Ieee.{Float, nan, inf, fin, binary64, up, down, odd, units, round, sum, add, mul, lt, fits, isNan, ofBits, toBits}
+use lib.Ieee.Fits.{round-is, add-fits, up-pos, down-pos, and-l, and-r}
 use lib.Ieee.Bits.{ofBits-toBits}
 use borrow.Author.Tests.{ltb-true, ltb-false, lt-ltb, le-ltb}
 use Rattle.root.specs.Root.{mag, root, plus, Nearest}
 use Rattle.root.proofs.Nearest.{root-nearest}
-use Rattle.arith.specs.F64.{_⊕_, _⊗_, _≺_, fmax}
+use Rattle.arith.specs.F64.{_⊕_, _⊗_, _≺_, finite, signed, fmax}
 use Rattle.arith.specs.Vec.{dot, normSquared, norm}
 use Rattle.arith.specs.declared.Vec3.{Vec3}
 use Rattle.arith.specs.Lists.{foldl}
 use Rattle.arith.proofs.Counts.{ltb-scale}
-use Rattle.arith.proofs.Floats.{zero-exp}
+use Rattle.arith.proofs.Floats.{zero-exp, signed-odd}
 
 -- ---- the size of an f64 in units is exact
 
@@ -372,6 +372,53 @@ pub root-monotone : (a b : Float) → T (fits binary64 a) → T (fits binary64 b
 root-monotone nan b f g h = unfold lt root in refl
 root-monotone (inf s) b f g h = root-not-less (inf s) b f g (of-inf s b ∙ ap (λ (c : Bool). cond c b (inf s)) h)
 root-monotone (fin s m e) b f g h = root-not-less (fin s m e) b f g (left s m e b h)
+
+-- ---- a square has no minus sign
+
+signed-round : (s : Bool) (a c : ℕ) → signed (round binary64 s a c) ≡ s
+signed-round s a c = ap signed (round-is binary64 s a c) ∙ of-units _ _
+  where
+    of-units : (q k : ℕ) → signed (units binary64 s q k) ≡ s
+    of-units q k = unfold units in by (ltb (q * 2 ^ k) (2 ^ 2098)) (odd 54 s q k 1074) (signed-odd 54 s q k 1074)
+      where
+        by : (t : Bool) (x : Float) → signed x ≡ s → signed (cond t x (inf s)) ≡ s
+        by true x h = h
+        by false x h = unfold signed in refl
+
+square-sign : (x : Float) → signed (x ⊗ x) ≡ false
+unfolding mul signed
+square-sign nan = refl
+square-sign (inf true) = refl
+square-sign (inf false) = refl
+square-sign (fin true m e) = signed-round false (m * up e * (m * up e)) (down e * down e)
+square-sign (fin false m e) = signed-round false (m * up e * (m * up e)) (down e * down e)
+
+sum-sign : (x y : Float) → signed x ≡ false → signed y ≡ false → signed (x ⊕ y) ≡ false
+unfolding add sum signed
+sum-sign nan y h k = refl
+sum-sign (inf s) nan h k = refl
+sum-sign (inf true) (inf t) h k = absurd (true≢false h)
+sum-sign (inf false) (inf true) h k = absurd (true≢false k)
+sum-sign (inf false) (inf false) h k = refl
+sum-sign (inf s) (fin t n d) h k = h
+sum-sign (fin s m e) nan h k = refl
+sum-sign (fin s m e) (inf t) h k = k
+sum-sign (fin true m e) (fin t n d) h k = absurd (true≢false h)
+sum-sign (fin false m e) (fin true n d) h k = absurd (true≢false k)
+sum-sign (fin false m e) (fin false n d) h k = signed-round false (m * up e * down d + n * up d * down e) (down e * down d)
+
+pub square-signed : (v : Vec3) → signed (normSquared v) ≡ false
+unfolding normSquared dot
+square-signed v = sum-sign (v .x ⊗ v .x ⊕ v .y ⊗ v .y) (v .z ⊗ v .z) (sum-sign (v .x ⊗ v .x) (v .y ⊗ v .y) (square-sign (v .x)) (square-sign (v .y))) (square-sign (v .z))
+
+-- so a finite one has a finite root
+pub root-plus : (x : Float) → T (fits binary64 x) → signed x ≡ false → finite x ≡ true → T (plus (root x))
+unfolding signed finite
+root-plus nan f h k = absurd (false≢true k)
+root-plus (inf s) f h k = absurd (false≢true k)
+root-plus (fin true m e) f h k = absurd (true≢false h)
+root-plus (fin false zero e) f h k = subst (λ (r : Float). T (plus r)) (sym (zero-root false e)) tt
+root-plus (fin false (suc m) e) f h k = root-nearest m e f .is-plus
 
 -- ---- the largest of many
 

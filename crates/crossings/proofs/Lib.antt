@@ -3,3 +3,4 @@ pub mod HeldLaws
 pub mod PlaneLaws
 pub mod MeshLaws
 pub mod ReachLaws
+pub mod CloseLaws

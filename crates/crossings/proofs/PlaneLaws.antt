@@ -21,7 +21,7 @@ or-cases true b e f = absurd (true≢false f)
 or-cases false b e f = e
 
 -- at most: less, or equal
-at-most : (a b : ℕ) (c : Bool) → (ltb a b || (eqb a b && c)) ≡ true → a ≤ b
+pub at-most : (a b : ℕ) (c : Bool) → (ltb a b || (eqb a b && c)) ≡ true → a ≤ b
 at-most a b c e = by (ltb a b) refl (eqb a b) refl e
   where
     by : (t : Bool) → ltb a b ≡ t → (u : Bool) → eqb a b ≡ u → (t || (u && c)) ≡ true → a ≤ b
