@@ -37,9 +37,9 @@ use Rattle.polygons.specs.Layout.{fieldIn, Traceable}
 use Rattle.polygons.proofs.BuildLaws.{lent-words, lent-floats}
 use Rattle.crossings.specs.Work.{bare}
 use Rattle.sections.proofs.PieceLaws.{same-bounds}
-use Rattle.prepare.specs.Room.{Room, flat, solid, Lent, furnished, roomOf, requestsWrong, shortage, prepared}
+use Rattle.prepare.specs.Room.{Room, flat, solid, Lent, roomFrom, roomOf, requestsWrong, shortage, prepared}
 use Rattle.prepare.specs.Stands.{roomIn, countsIn, Servable, Stands, Preparing, standing, barred}
-use Rattle.prepare.specs.Steps.{shortAs, Shortage, Dressable}
+use Rattle.prepare.specs.Steps.{shortAs, Shortage, FieldReady}
 use Rattle.prepare.specs.declared.Place.the-variants.{Flat, Solid}
 use Rattle.prepare.specs.declared.Prepared.{Prepared}
 use Rattle.prepare.specs.declared.Prepared.the-variants as Prepared
@@ -96,7 +96,7 @@ module _ (n : Counts) (faces requests words floats marks answers : ℕ) where
 
 -- ---- the field of a mesh, or the mesh
 
-module _ (case : List ℕ) (n : Counts) (s : Sizes) (w : List ℕ) (f : List Float) (d : Dressable case n s w f) where
+module _ (case : List ℕ) (n : Counts) (s : Sizes) (w : List ℕ) (f : List Float) (d : FieldReady case n s w f) where
   abbrev m : Mesh
   m = meshIn (pointsIn case (n .points)) s w f
 
@@ -115,15 +115,15 @@ module _ (case : List ℕ) (n : Counts) (s : Sizes) (w : List ℕ) (f : List Flo
             };
       }
 
-  pub dress-solid : (n .dimension ≡ 2 → ⊥) → Preparing (furnished (n .dimension) m) case w f (Prepared.Ready (Solid n s))
-  unfolding furnished roomIn
-  dress-solid h =
-      let e : furnished (n .dimension) m ≡ fine (solid m) = rw (ne-eqb (n .dimension) 2 h, furnished) in standing {p = Solid n s} e solid-stands
+  pub add-field-solid : (n .dimension ≡ 2 → ⊥) → Preparing (roomFrom (n .dimension) m) case w f (Prepared.Ready (Solid n s))
+  unfolding roomFrom roomIn
+  add-field-solid h =
+      let e : roomFrom (n .dimension) m ≡ fine (solid m) = rw (ne-eqb (n .dimension) 2 h, roomFrom) in standing {p = Solid n s} e solid-stands
 
   module _ (two : n .dimension ≡ 2) (w′ : List ℕ) (f′ : List Float) where
-    furnished-flat : furnished (n .dimension) m ≡ (fieldOf m >>= λ k. fine (flat k))
-    unfolding furnished
-    furnished-flat = rw (eq-eqb (n .dimension) 2 two, furnished)
+    room-from-flat : roomFrom (n .dimension) m ≡ (fieldOf m >>= λ k. fine (flat k))
+    unfolding roomFrom
+    room-from-flat = rw (eq-eqb (n .dimension) 2 two, roomFrom)
 
     module _ (r : polygons.Built) (t : Traceable m s w′ f′ r) where
       count : length (m .cells) ≡ s .cells
@@ -136,15 +136,15 @@ module _ (case : List ℕ) (n : Counts) (s : Sizes) (w : List ℕ) (f : List Flo
           let g : gridOf (s .cells) (polygonsOf m) ≡ refused k = sym (t .result) ∙ ap builtGrid e in
           rw (count, g, _>>=_)
 
-      pub dress-refused : (k : ℕ) → r ≡ Traced.Refused k → Preparing (furnished (n .dimension) m) case w′ f′ (Prepared.Refused k)
+      pub add-field-refused : (k : ℕ) → r ≡ Traced.Refused k → Preparing (roomFrom (n .dimension) m) case w′ f′ (Prepared.Refused k)
       unfolding _>>=_
-      dress-refused k e =
-          let g : furnished (n .dimension) m ≡ refused k = furnished-flat ∙ rw (field-refused k e, _>>=_) in barred g
+      add-field-refused k e =
+          let g : roomFrom (n .dimension) m ≡ refused k = room-from-flat ∙ rw (field-refused k e, _>>=_) in barred g
 
-      pub dress-flat : (g : Grid) → r ≡ Traced.Made g → length w′ ≡ length w → length f′ ≡ length f → Preparing (furnished (n .dimension) m) case w′ f′ (Prepared.Ready (Flat n s g))
+      pub add-field-flat : (g : Grid) → r ≡ Traced.Made g → length w′ ≡ length w → length f′ ≡ length f → Preparing (roomFrom (n .dimension) m) case w′ f′ (Prepared.Ready (Flat n s g))
       unfolding _>>=_ roomIn Servable countsIn
-      dress-flat g e lw lf =
-          let whole : furnished (n .dimension) m ≡ fine (flat (fieldIn g s w′ f′)) = furnished-flat ∙ rw (t .field g e, _>>=_) in
+      add-field-flat g e lw lf =
+          let whole : roomFrom (n .dimension) m ≡ fine (flat (fieldIn g s w′ f′)) = room-from-flat ∙ rw (t .field g e, _>>=_) in
           standing {p = Flat n s g} whole
           (record {
             opens = d .opens;
@@ -166,19 +166,19 @@ module _ {r : Result Mesh} {ps : List Vec3} {w : List ℕ} {f : List Float} wher
 
 module _ (case : List ℕ) (n : Counts) (defs : List Definition) (w : List ℕ) (f : List Float) (x : Built)
     (b : Building (fromCells (n .dimension) (pointsIn case (n .points)) defs) (pointsIn case (n .points)) w f x) where
-  pub furnish-refused : (k : ℕ) → x ≡ Built.Refused k → Preparing (roomOf case (record { counts = n; definitions = defs })) case w f (Prepared.Refused k)
+  pub built-refused : (k : ℕ) → x ≡ Built.Refused k → Preparing (roomOf case (record { counts = n; definitions = defs })) case w f (Prepared.Refused k)
   unfolding roomOf meshOf _>>=_
-  furnish-refused k e =
+  built-refused k e =
       let g : roomOf case (record { counts = n; definitions = defs }) ≡ refused k = rw (building-refused k b e, _>>=_) in barred g
 
   module _ (s : Sizes) (e : x ≡ Built.Mesh s) where
-    pub furnish-room : furnished (n .dimension) (meshIn (pointsIn case (n .points)) s w f) ≡ roomOf case (record { counts = n; definitions = defs })
+    pub built-room : roomFrom (n .dimension) (meshIn (pointsIn case (n .points)) s w f) ≡ roomOf case (record { counts = n; definitions = defs })
     unfolding roomOf meshOf _>>=_
-    furnish-room = rw (building-mesh s b e .0, _>>=_)
+    built-room = rw (building-mesh s b e .0, _>>=_)
 
-    pub dressable : opened case ≡ Case n → definitions (n .cells) (wordsOf case n) ≡ fine defs → Dressable case n s w f
+    pub field-ready : opened case ≡ Case n → definitions (n .cells) (wordsOf case n) ≡ fine defs → FieldReady case n s w f
     unfolding meshIn
-    dressable o r =
+    field-ready o r =
         let p = building-mesh s b e in
         record {
           opens = o;

@@ -21,13 +21,13 @@ pub record Lent : Type 0 where
   pub answers : ℕ
 
 -- "in 2D only, 18 flat bounds, 19 a bin count above 65,536"
-unfoldable pub furnished : ℕ → Mesh → Result Room
-furnished dimension m =
+unfoldable pub roomFrom : ℕ → Mesh → Result Room
+roomFrom dimension m =
     elim (eqb dimension 2) as (λ _. Result Room) [ true ↦ fieldOf m >>= λ f. fine (flat f) | false ↦ fine (solid m) ]
 
 -- 8 to 19
 unfoldable pub roomOf : List ℕ → Surveyed-case → Result Room
-roomOf file c = meshOf file c >>= λ m. furnished (c .counts .dimension) m
+roomOf file c = meshOf file c >>= λ m. roomFrom (c .counts .dimension) m
 
 -- 6: "request bytes no multiple of 128, or over 4,096 requests"
 unfoldable pub requestsWrong : ℕ → Bool

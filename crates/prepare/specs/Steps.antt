@@ -24,7 +24,7 @@ unfoldable pub Shortage : Counts → ℕ → ℕ → Lent → ℕ → Type 0
 Shortage n faces requests lent r = (defs : List Definition) → faces ≡ facesCounted defs → shortage (record { counts = n; definitions = defs }) requests lent ≡ shortAs r
 
 -- the mesh of a case stands in the area
-pub record Dressable (case : List ℕ) (n : Counts) (s : Sizes) (words : List ℕ) (floats : List Float) : Type 0 where
+pub record FieldReady (case : List ℕ) (n : Counts) (s : Sizes) (words : List ℕ) (floats : List Float) : Type 0 where
   pub opens : opened case ≡ Case n
   pub lent-words : LentWords s words
   pub lent-floats : LentFloats s floats

@@ -16,7 +16,7 @@ ghost use Rattle.area.specs.Layout.{pointsIn, meshIn};
 ghost use Rattle.mesh.specs.Steps.{Buildable};
 ghost use Rattle.prepare.specs.Room as Room;
 ghost use Rattle.prepare.specs.Stands.{Preparing};
-ghost use Rattle.prepare.specs.Steps.{Shortage, Dressable};
+ghost use Rattle.prepare.specs.Steps.{Shortage, FieldReady};
 
 // Where a room stands in the work area.
 pub enum Place {
@@ -31,9 +31,9 @@ pub enum Prepared {
 }
 
 // The field of a 2D mesh; a 3D one needs none.
-fn dress(case: &[u8], n: Counts, s: Sizes, words: &mut [u32], floats: &mut [f64]) -> Prepared
-    requires { ⌜ Dressable (now case) n s (now words) (now floats) ⌝ }
-    ensures { λ r. ⌜ Preparing (Room.furnished (n .dimension) (meshIn (pointsIn (now (case .entry)) (n .points)) s (now (words .entry)) (now (floats .entry)))) (now (case .entry)) (now (words .exit)) (now (floats .exit)) r ⌝ }
+fn add_field(case: &[u8], n: Counts, s: Sizes, words: &mut [u32], floats: &mut [f64]) -> Prepared
+    requires { ⌜ FieldReady (now case) n s (now words) (now floats) ⌝ }
+    ensures { λ r. ⌜ Preparing (Room.roomFrom (n .dimension) (meshIn (pointsIn (now (case .entry)) (n .points)) s (now (words .entry)) (now (floats .entry)))) (now (case .entry)) (now (words .exit)) (now (floats .exit)) r ⌝ }
 {
     if n.dimension != 2 {
         return Prepared::Ready(Place::Solid(n, s));
@@ -45,13 +45,19 @@ fn dress(case: &[u8], n: Counts, s: Sizes, words: &mut [u32], floats: &mut [f64]
 }
 
 // 8 to 19.
-fn furnish(case: &[u8], n: Counts, faces: usize, words: &mut [u32], floats: &mut [f64]) -> Prepared
+fn build_room(
+    case: &[u8],
+    n: Counts,
+    faces: usize,
+    words: &mut [u32],
+    floats: &mut [f64],
+) -> Prepared
     requires { ⌜ Buildable (now case) n faces (now words) (now floats) ⌝ }
     ensures { λ r. ⌜ ((defs : List Definition) → definitions (n .cells) (wordsOf (now (case .entry)) n) ≡ fine defs → Preparing (Room.roomOf (now (case .entry)) (record { counts = n; definitions = defs })) (now (case .entry)) (now (words .exit)) (now (floats .exit)) r) ⌝ }
 {
     match mesh::build(case, n, faces, words, floats) {
         mesh::Built::Refused(k) => Prepared::Refused(k),
-        mesh::Built::Mesh(s) => dress(case, n, s, words, floats),
+        mesh::Built::Mesh(s) => add_field(case, n, s, words, floats),
     }
 }
 
@@ -122,7 +128,7 @@ pub fn prepare(
             if k != 0 {
                 return Prepared::Refused(k);
             }
-            furnish(case, n, faces, words, floats)
+            build_room(case, n, faces, words, floats)
         }
     }
 }

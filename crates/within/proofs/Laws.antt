@@ -20,9 +20,9 @@ use Rattle.polygons.specs.Field.{StreamlineField, fieldOf}
 use Rattle.mesh.specs.Case.{Surveyed-case, surveyOf, meshOf}
 use Rattle.requests.specs.declared.Request.{Request}
 use Rattle.requests.specs.declared.Request.the-variants as requests
-use Rattle.prepare.specs.Room.{Room, flat, solid, Lent, furnished, roomOf, prepared}
+use Rattle.prepare.specs.Room.{Room, flat, solid, Lent, roomFrom, roomOf, prepared}
 use Rattle.serve.specs.Serve.{serveFlat, serveSolid, serve}
-use Rattle.within.specs.Within.{Numbers, Sound, Furnished}
+use Rattle.within.specs.Within.{Numbers, Sound, RoomWithin}
 use Rattle.within.proofs.LineLaws.{velocity-within, integrate-within, rake-within}
 use Rattle.within.proofs.PlaneLaws.{section-within, statistics-within, integrals-within, probe-within}
 use Rattle.within.proofs.MeshLaws.{mesh-numbers}
@@ -56,7 +56,7 @@ solid-within n m h (requests.Probe s p) = probe-within n m h s p
 
 -- ---- the room
 
-pub room-within : (n : ℕ) (room : Room) → Furnished n room → (q : Request) → Within n (serve room q)
+pub room-within : (n : ℕ) (room : Room) → RoomWithin n room → (q : Request) → Within n (serve room q)
 unfolding serve
 room-within n (flat f) h q = flat-within n f h q
 room-within n (solid m) h q = solid-within n m h q
@@ -64,24 +64,24 @@ room-within n (solid m) h q = solid-within n m h q
 fine-same : {A : Type 0} {x y : A} → fine x ≡ fine y → x ≡ y
 fine-same e = cc
 
-mesh-furnished : (n d : ℕ) (m : Mesh) (room : Room) → Numbers n m → furnished d m ≡ fine room → Furnished n room
-unfolding furnished
-mesh-furnished n d m room h e = by (eqb d 2) e
+mesh-within : (n d : ℕ) (m : Mesh) (room : Room) → Numbers n m → roomFrom d m ≡ fine room → RoomWithin n room
+unfolding roomFrom
+mesh-within n d m room h e = by (eqb d 2) e
   where
-    by : (t : Bool) → (elim t as (λ _. Result Room) [ true ↦ fieldOf m >>= λ f. fine (flat f) | false ↦ fine (solid m) ]) ≡ fine room → Furnished n room
+    by : (t : Bool) → (elim t as (λ _. Result Room) [ true ↦ fieldOf m >>= λ f. fine (flat f) | false ↦ fine (solid m) ]) ≡ fine room → RoomWithin n room
     by true e =
         let a = bound _ _ _ e in
         let w : flat (a .value) ≡ room = fine-same (a .then) in
-        subst (Furnished n) w (field-sound n m (a .value) h (a .had))
+        subst (RoomWithin n) w (field-sound n m (a .value) h (a .had))
     by false e =
         let w : solid m ≡ room = fine-same e in
-        subst (Furnished n) w (omega (arith, h .cells))
+        subst (RoomWithin n) w (omega (arith, h .cells))
 
-room-furnished : (file : List ℕ) (c : Surveyed-case) (room : Room) → roomOf file c ≡ fine room → Furnished (length (c .definitions)) room
+case-within : (file : List ℕ) (c : Surveyed-case) (room : Room) → roomOf file c ≡ fine room → RoomWithin (length (c .definitions)) room
 unfolding roomOf meshOf
-room-furnished file c room e =
+case-within file c room e =
     let a = bound _ _ _ e in
-    mesh-furnished (length (c .definitions)) (c .counts .dimension) (a .value) room (mesh-numbers _ _ (c .definitions) (a .value) (a .had)) (a .then)
+    mesh-within (length (c .definitions)) (c .counts .dimension) (a .value) room (mesh-numbers _ _ (c .definitions) (a .value) (a .had)) (a .then)
 
 -- ---- the case
 
@@ -100,14 +100,14 @@ survey-counts file c e =
     rw (← w) (length-definitions _ _ (b .value) (b .had) ∙ ap (λ (k : Counts). k .cells) (counts-of file (a .value) (opened file) refl (a .had)))
 
 -- the room of an accepted case has the case's cells
-pub prepared-furnished : (file : List ℕ) (requests : ℕ) (lent : Lent) (room : Room) → prepared file requests lent ≡ fine room → Furnished (countsOf file .cells) room
+pub prepared-within : (file : List ℕ) (requests : ℕ) (lent : Lent) (room : Room) → prepared file requests lent ≡ fine room → RoomWithin (countsOf file .cells) room
 unfolding prepared
-prepared-furnished file requests lent room e =
+prepared-within file requests lent room e =
     let a = bound _ _ _ e in
     let b = bound _ _ _ (a .then) in
-    subst (λ n. Furnished n room) (survey-counts file (a .value) (a .had)) (room-furnished file (a .value) room (b .then))
+    subst (λ n. RoomWithin n room) (survey-counts file (a .value) (a .had)) (case-within file (a .value) room (b .then))
 
 -- "An accepted job reads the cells that its requests read": only cells of the case
 pub serve-within : (file : List ℕ) (requests : ℕ) (lent : Lent) (room : Room) → prepared file requests lent ≡ fine room
     → (q : Request) → Within (countsOf file .cells) (serve room q)
-serve-within file requests lent room e q = room-within (countsOf file .cells) room (prepared-furnished file requests lent room e) q
+serve-within file requests lent room e q = room-within (countsOf file .cells) room (prepared-within file requests lent room e) q

@@ -36,6 +36,6 @@ pub record FieldFrom (m : Mesh) (f : StreamlineField) : Type 0 where
   pub polygons : length (f .polygons) ≡ length (m .cells)
 
 -- a room of at most n cells
-abbrev pub Furnished : ℕ → Room → Type 0
-Furnished n (flat f) = Sound n f
-Furnished n (solid m) = length (m .cells) ≤ n
+abbrev pub RoomWithin : ℕ → Room → Type 0
+RoomWithin n (flat f) = Sound n f
+RoomWithin n (solid m) = length (m .cells) ≤ n

@@ -21,8 +21,8 @@ returns c =
     let k = survey-case _ _ (c .before .before .before .before .before .survey .ensures) (c .before .before .before .n .given .1) in
     prepare-short _ _ _ _ _ k _ (c .before .shortage .ensures) _ _ (c .if1 .taken)
 
-furnish-requires : tie.Need-furnish-requires
-furnish-requires c κs =
+build-room-requires : tie.Need-build-room-requires
+build-room-requires c κs =
     let k = survey-case _ _ (c .before .before .before .before .before .before .before .survey .ensures) (c .before .before .before .before .before .n .given .1) in
     buildable _ _ _ _ _ k _ (c .before .before .before .shortage .ensures) (c .before .before .if1 .left) _ _ refl refl
 
@@ -32,7 +32,7 @@ returns-2 c = barred (prepared-shut _ _ _ _ (survey-refused _ (c .before .before
 returns-3 : tie.Need-returns-3
 returns-3 c =
     let k = survey-case _ _ (c .before .before .before .before .before .before .before .before .before .before .before .before .survey .ensures) (c .before .before .before .before .before .before .before .before .before .before .n .given .1) in
-    prepare-ready _ _ _ _ _ k _ (c .before .before .before .before .before .before .before .before .shortage .ensures) (c .before .before .before .before .before .before .before .if1 .left) (c .before .before .before .before .furnish .ensures (k .ds) (k .right))
+    prepare-ready _ _ _ _ _ k _ (c .before .before .before .before .before .before .before .before .shortage .ensures) (c .before .before .before .before .before .before .before .if1 .left) (c .before .before .before .before .build-room .ensures (k .ds) (k .right))
 
 pub prepare-spec : {M : Type 1} → statement M
 prepare-spec =
@@ -43,7 +43,7 @@ prepare-spec =
     (λ c. search needs)
     shortage-requires
     returns
-    furnish-requires
+    build-room-requires
     returns-2
     (λ c. search needs)
     (λ c. search needs)
