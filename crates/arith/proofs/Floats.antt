@@ -3,6 +3,7 @@ use mathlib.Core.Path.{_≡_, refl, sym, ap, _∙_, subst}
 use Prim.Native.Nat.{ℕ, zero, suc, _+_, _-_, _*_, _/_, _%_, _^_, _≤_, _<_}
 use native.Mathlib.Nat.{mul-pos, mul-one, one-mul, zero-lt-suc, not-le-of-lt}
 use native.Mathlib.Omega.{arith}
+use native.Mathlib.Decide.{ℕ-discrete}
 use mathlib.Core.Bool.{Bool, true, false, cond, not, _&&_, _||_, true≢false, false≢true}
 use lib.IntN.{ℤ, pos, negsuc}
 use lib.Dec.{T, eqb, leb, ltb, eqb→eq}
@@ -84,6 +85,71 @@ abs-else (fin true (suc m) e) h k =
   where
     go : (n d : ℕ) → 0 < n → 0 < n * 1 + 0 * 1 * d
     go n d h = omega arith
+
+-- ---- |x| against a bound, by two tests
+
+eqb-sym : (a b : ℕ) → eqb a b ≡ eqb b a
+eqb-sym a b = by (ℕ-discrete a b)
+  where
+    by : Dec (a ≡ b) → eqb a b ≡ eqb b a
+    by (yes e) = eq-eqb a b e ∙ sym (eq-eqb b a (sym e))
+    by (no ne) = ne-eqb a b ne ∙ sym (ne-eqb b a (λ e. ne (sym e)))
+
+and-true : (x y : Bool) → y ≡ true → x ≡ x && y
+and-true true y e = sym e
+and-true false y e = refl
+
+or-true : (x : Bool) → x || true ≡ true
+or-true true = refl
+or-true false = refl
+
+and-false : (x : Bool) → false ≡ x && false
+and-false true = refl
+and-false false = refl
+
+-- -a is at most b
+minus-plus : (a b : ℕ) → ltb 0 (a + b) || (eqb a b && eqb a 0) ≡ true
+minus-plus a b = by (ℕ-discrete (a + b) 0)
+  where
+    by : Dec (a + b ≡ 0) → ltb 0 (a + b) || (eqb a b && eqb a 0) ≡ true
+    by (yes e) =
+        let ea : a ≡ 0 = omega arith in
+        let eb : a ≡ b = omega arith in
+        rw (eq-eqb a b eb, eq-eqb a 0 ea) (or-true (ltb 0 (a + b)))
+    by (no ne) = rw (lt-ltb 0 (a + b) (omega arith))
+
+plus-minus : (a b : ℕ) → eqb a b && eqb a 0 ≡ (eqb a b && eqb a 0) && (ltb b a || (eqb b a && true))
+plus-minus a b = by (ℕ-discrete a b)
+  where
+    by : Dec (a ≡ b) → eqb a b && eqb a 0 ≡ (eqb a b && eqb a 0) && (ltb b a || (eqb b a && true))
+    by (yes e) = and-true _ _ (rw (eq-eqb b a (sym e)) (or-true (ltb b a)))
+    by (no ne) = rw (ne-eqb a b ne)
+
+minus-minus : (a b : ℕ) → eqb a b && eqb a 0 ≡ (ltb b a || (eqb a b && true)) && (eqb b a && eqb b 0)
+minus-minus a b = by (ℕ-discrete a b)
+  where
+    by : Dec (a ≡ b) → eqb a b && eqb a 0 ≡ (ltb b a || (eqb a b && true)) && (eqb b a && eqb b 0)
+    by (yes e) = rw (eq-eqb a b e, eq-eqb b a (sym e), or-true (ltb b a), e)
+    by (no ne) = rw (ne-eqb a b ne, ne-eqb b a (λ e. ne (sym e))) (and-false (ltb b a || false))
+
+pub abs-within : (v c : Float) → le (abs v) c ≡ le v c && le (neg c) v
+unfolding abs le lt eq neg
+abs-within nan c = refl
+abs-within (inf s) nan = refl
+abs-within (inf true) (inf true) = refl
+abs-within (inf true) (inf false) = refl
+abs-within (inf false) (inf true) = refl
+abs-within (inf false) (inf false) = refl
+abs-within (inf true) (fin t n d) = refl
+abs-within (inf false) (fin t n d) = refl
+abs-within (fin s m e) nan = refl
+abs-within (fin s m e) (inf true) = refl
+abs-within (fin s m e) (inf false) = refl
+abs-within (fin false m e) (fin false n d) = and-true _ _ (minus-plus (n * up d * down e) (m * up e * down d))
+abs-within (fin true m e) (fin false n d) =
+    rw (minus-plus (m * up e * down d) (n * up d * down e), eqb-sym (m * up e * down d) (n * up d * down e))
+abs-within (fin false m e) (fin true n d) = plus-minus (m * up e * down d) (n * up d * down e)
+abs-within (fin true m e) (fin true n d) = minus-minus (m * up e * down d) (n * up d * down e)
 
 -- ---- finite
 pub finite-less : (x : Float) → lt x (inf false) ≡ true → lt (inf true) x ≡ finite x

@@ -4,7 +4,6 @@ use crate::Cut;
 use crate::Signs;
 use area::Sizes;
 use arith::Vec3;
-use arith::float;
 ghost use mathlib.Core.Path.{_≡_};
 ghost use Rattle.area.specs.Tables.{cellAt, faceAt};
 ghost use Rattle.arith.specs.Lists.{foldl};
@@ -22,7 +21,8 @@ pub fn height(cut: Cut, p: Vec3) -> f64
 pub fn is_near(cut: Cut, p: Vec3) -> bool
     ensures { λ r. ⌜ r ≡ Crossings.near cut p ⌝ }
 {
-    float::abs(height(cut, p)) <= cut.tolerance
+    let h = height(cut, p);
+    (h <= cut.tolerance) & (h >= -cut.tolerance)
 }
 
 // p lies below the plane, beyond the tolerance.
@@ -44,7 +44,7 @@ fn add_sign(cut: Cut, p: Vec3, g: Signs) -> Signs
     ensures { λ r. ⌜ r ≡ signWith cut g p ⌝ }
 {
     let h = height(cut, p);
-    let near = float::abs(h) <= cut.tolerance;
+    let near = (h <= cut.tolerance) & (h >= -cut.tolerance);
     let below = h < -cut.tolerance;
     let above = h > cut.tolerance;
     Signs {

@@ -5,53 +5,17 @@ use native.Mathlib.Omega.{arith}
 use mathlib.Core.Path.{_≡_, refl, ap, sym, _∙_}
 use mathlib.Core.Bool.{Bool, true, false, not, cond, _&&_, _||_}
 use mathlib.Core.List.{List, [], _∷_}
-use lib.Dec.{eqb, leb, ltb}
+use lib.Dec.{eqb, leb}
 use lib.ListN.{length, getD, drop}
-use lib.IntN.{ℤ}
-use lib.Ieee.{Float, nan, inf, fin, le, lt, eq, up, down}
-use Rattle.arith.specs.F64.{abs}
-use mathlib.Core.Logic.{_⊎_, inl, inr}
-use native.Mathlib.Decide.{ℕ-discrete}
-use borrow.Author.Tests.{lt-ltb, le-ltb, eqb-true, eqb-false, eq-eqb, ne-eqb, lt-leb, le-leb}
+use lib.Ieee.{Float}
+use borrow.Author.Tests.{eqb-true, eqb-false, eq-eqb, ne-eqb, lt-leb, le-leb}
 use Rattle.arith.specs.declared.Vec2.{Vec2}
 use Rattle.arith.specs.Lists.{Side, sides, after, count, any}
 use Rattle.arith.specs.Polygon.{crosses, evenOdd}
 use Rattle.arith.proofs.ListLaws.{count-next, any-here, any-next, length-sides, sides-at}
-use Rattle.arith.proofs.RecordLaws.{length-tab, getD-tab, drop-end, lt-or-ge}
+use Rattle.arith.proofs.RecordLaws.{length-tab, getD-tab, drop-end}
 use Rattle.polygons.specs.Locate.{onEdge, contains}
 use Rattle.polygons.specs.Layout.{pairFrom, pairsFrom}
-
--- ---- a distance within a tolerance, without its sign
-
-eqb-sym : (a b : ℕ) → eqb a b ≡ eqb b a
-eqb-sym a b = by (ℕ-discrete a b)
-  where
-    by : Dec (a ≡ b) → eqb a b ≡ eqb b a
-    by (yes e) = eq-eqb a b e ∙ sym (eq-eqb b a (sym e))
-    by (no ne) = ne-eqb a b ne ∙ sym (ne-eqb b a (λ e. ne (sym e)))
-
-and-true : (x y : Bool) → y ≡ true → x ≡ x && y
-and-true true y e = sym e
-and-true false y e = refl
-
-minus-plus : (a b : ℕ) → ltb 0 (a + b) || (eqb a b && eqb a 0) ≡ true
-minus-plus a b = by (lt-or-ge 0 (a + b))
-  where
-    by : (0 < a + b) ⊎ (a + b ≤ 0) → ltb 0 (a + b) || (eqb a b && eqb a 0) ≡ true
-    by (inl h) = rw (lt-ltb 0 (a + b) h)
-    by (inr h) =
-        let ea : a ≡ 0 = omega arith in
-        let eb : a ≡ b = omega arith in
-        rw (le-ltb 0 (a + b) h, eq-eqb a b eb, eq-eqb a 0 ea)
-
-pub abs-within : (v : Float) (n : ℕ) (d : ℤ) → le (abs v) (fin false n d) ≡ le v (fin false n d) && le (fin true n d) v
-unfolding abs le lt eq
-abs-within nan n d = refl
-abs-within (inf true) n d = refl
-abs-within (inf false) n d = refl
-abs-within (fin true m e) n d =
-    rw (minus-plus (m * up e * down d) (n * up d * down e), eqb-sym (m * up e * down d) (n * up d * down e))
-abs-within (fin false m e) n d = and-true _ _ (minus-plus (n * up d * down e) (m * up e * down d))
 
 -- ---- the number after i
 

@@ -1,3 +1,4 @@
+use Rattle.arith.proofs.Floats.{abs-within}
 use Rattle.crossings.specs.Crossings.{near, below, above}
 use Rattle.crossings.specs.Work.{signWith}
 use borrow.Author.Needs.{needs}
@@ -6,12 +7,7 @@ use Rattle.crossings.proofs.heights.add_sign.Tie as tie
 
 returns : tie.Need-returns
 unfolding signWith near below above
-returns c = rw (c .before .before .before .before .before .before .abs .ensures, c .before .before .before .before .before .before .before .height .ensures)
+returns c = rw (c .before .before .before .before .before .before .before .height .ensures, abs-within)
 
 pub add-sign-spec : {M : Type 1} → statement M
-add-sign-spec =
-    tie.close
-    (tie.spec
-    (λ c κs. search needs)
-    (λ c κs. search needs)
-    returns)
+add-sign-spec = tie.close (tie.spec (λ c κs. search needs) returns)

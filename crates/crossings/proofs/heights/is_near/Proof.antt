@@ -1,3 +1,4 @@
+use Rattle.arith.proofs.Floats.{abs-within}
 use Rattle.crossings.specs.Crossings.{near}
 use borrow.Author.Needs.{needs}
 use Rattle.crossings.proofs.heights.is_near.Statement.{statement}
@@ -5,12 +6,7 @@ use Rattle.crossings.proofs.heights.is_near.Tie as tie
 
 returns : tie.Need-returns
 unfolding near
-returns c = rw (c .before .abs .ensures, c .before .before .height .ensures)
+returns c = rw (c .before .before .height .ensures, abs-within)
 
 pub is-near-spec : {M : Type 1} → statement M
-is-near-spec =
-    tie.close
-    (tie.spec
-    (λ c κs. search needs)
-    (λ c κs. search needs)
-    returns)
+is-near-spec = tie.close (tie.spec (λ c κs. search needs) returns)

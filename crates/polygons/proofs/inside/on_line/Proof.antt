@@ -1,7 +1,6 @@
 use mathlib.Core.Path.{sym}
-use lib.Ieee.{ofBits, neg}
 use Rattle.polygons.specs.Locate.{onLine}
-use Rattle.polygons.proofs.InsideLaws.{abs-within}
+use Rattle.arith.proofs.Floats.{abs-within}
 use borrow.Author.Needs.{needs}
 use Rattle.polygons.proofs.inside.on_line.Statement.{statement}
 use Rattle.polygons.proofs.inside.on_line.Tie as tie
@@ -9,8 +8,8 @@ use Rattle.polygons.proofs.inside.on_line.Reads as reads
 use Rattle.polygons.proofs.inside.on_line.Lts as lts
 
 returns : tie.Need-returns
-unfolding onLine ofBits neg
-returns c = sym (abs-within _ _ _)
+unfolding onLine
+returns c = sym (abs-within _ _)
 
 pub on-line-spec : {M : Type 1} → statement M
 on-line-spec = tie.close (tie.spec returns)
