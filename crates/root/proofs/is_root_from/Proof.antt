@@ -1,8 +1,8 @@
 use borrow.Author.Needs.{needs}
 use native.Mathlib.Omega.{arith}
 use Rattle.root.proofs.Halves.{product, checked}
-use Rattle.root.proofs.is_root.Statement.{statement}
-use Rattle.root.proofs.is_root.Tie as tie
+use Rattle.root.proofs.is_root_from.Statement.{statement}
+use Rattle.root.proofs.is_root_from.Tie as tie
 
 mul-if1 : tie.Need-mul-if1
 mul-if1 c = omega (arith, product (c .args .h) (c .args .h) (c .pre .0) (c .pre .0))
@@ -66,8 +66,8 @@ returns-6 c t =
     let a = c .before .before .before .before .before .args in
     checked (a .d) (a .h) (a .l) (c .before .before .before .before .if1 .left) (c .before .before .if3 .left) (c .if5 .left) t
 
-pub is-root-spec : {M : Type 1} → statement M
-is-root-spec =
+pub is-root-from-spec : {M : Type 1} → statement M
+is-root-from-spec =
     tie.close
     (tie.spec
     mul-if1
