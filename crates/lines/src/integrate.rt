@@ -49,7 +49,7 @@ pub fn are_good(options: StreamlineOptions) -> bool
 
 // A point locates nowhere.
 pub fn is_nowhere(words: &[u32], floats: &[f64], s: Sizes, g: Grid, p: Vec3) -> bool
-    requires { ⌜ LentWords s (now words) × LentFloats s (now floats) × Searchable g s (now words) ⌝ }
+    requires { ⌜ LentWords s (now words) × LentFloats s (now floats) × Searchable g s (now words) (now floats) ⌝ }
     ensures { λ r. ⌜ r ≡ Line.nowhere (fieldIn g s (now (words .entry)) (now (floats .entry))) p ⌝ }
 {
     match locate::locate_cell(words, floats, s, g, p) {

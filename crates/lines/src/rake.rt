@@ -39,7 +39,7 @@ fn any_nowhere(
     end: Vec3,
     count: usize,
 ) -> bool
-    requires { ⌜ LentWords s (now words) × LentFloats s (now floats) × Searchable g s (now words) ⌝ }
+    requires { ⌜ LentWords s (now words) × LentFloats s (now floats) × Searchable g s (now words) (now floats) ⌝ }
     requires { ⌜ (2 ≤ count) × (count ≤ 64) ⌝ }
     ensures { λ r. ⌜ r ≡ any (nowhere (fieldIn g s (now (words .entry)) (now (floats .entry)))) (Rake.seeds start end count) ⌝ }
 {

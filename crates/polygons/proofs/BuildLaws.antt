@@ -26,7 +26,8 @@ use Rattle.polygons.specs.Corners.{turnsAbout, cornersOf, polygonOf}
 use Rattle.polygons.specs.Bounds.{boundsOf}
 use Rattle.polygons.specs.Bins.{Binned, binCounts, listedIn}
 use Rattle.polygons.specs.Field.{Few, polygonsOf, gridFor, gridOf, fieldOf, builtGrid}
-use Rattle.polygons.specs.Layout.{wordsAt, floatsAt, pairFrom, pairsFrom, countIn, polygonIn, polygonsIn, cornerIn, cornersIn, cellPolygonsIn, fieldIn, Placed, Stored, Kept, Traceable, Searchable}
+use Rattle.polygons.specs.Layout.{wordsAt, floatsAt, countIn, polygonIn, polygonsIn, cornerIn, cornersIn, cellPolygonsIn, fieldIn, Placed, Stored, Kept, Traceable, Searchable}
+use Rattle.inside.specs.Vertices.{pairFrom, pairsFrom}
 use Rattle.polygons.proofs.CornerLaws.{cell-corners-any}
 use Rattle.polygons.proofs.GridLaws.{map-tab}
 
@@ -161,7 +162,7 @@ module _ (ps : List Vec3) (s : Sizes) (w₀ w : List ℕ) (f₀ f : List Float) 
       never : (g : Grid) → r ≡ Made g → ⊥
       never g q = let z : _≡_ {A = ℕ} 0 1 = cc in omega arith
 
-  pub made-field : (g : Grid) (w′ : List ℕ) → r ≡ Made g → cellPolygonsIn s w′ f ≡ map (listedIn g) (polygonsIn s w f) → take (wordsEnd s) w′ ≡ take (wordsEnd s) w → Searchable g s w′
+  pub made-field : (g : Grid) (w′ : List ℕ) → r ≡ Made g → cellPolygonsIn s w′ f ≡ map (listedIn g) (polygonsIn s w f) → take (wordsEnd s) w′ ≡ take (wordsEnd s) w → Searchable g s w′ f
       → Traceable (meshIn ps s w₀ f₀) s w′ f (Made g) × Kept s w₀ w′ f₀ f
   made-field g w′ e l t se =
       let tw : take (wordsEnd s) w′ ≡ take (wordsEnd s) w₀ = t ∙ kept .words in

@@ -28,8 +28,9 @@ use Rattle.polygons.specs.declared.Built.the-variants.{Made, Refused}
 use Rattle.polygons.specs.Bounds.{boundless, widened, boundsOf, lowCorner, highCorner}
 use Rattle.polygons.specs.Bins.{CellPolygon, Binned, binFor, listedIn, areFlat, areMany}
 use Rattle.polygons.specs.Field.{gridFor, builtGrid}
-use Rattle.polygons.specs.Layout.{wordsAt, floatsAt, pairFrom, pairsFrom, countIn, polygonIn, polygonsIn, binFrom, cellPolygonIn, cellPolygonsIn, Listed}
-use Rattle.polygons.proofs.InsideLaws.{length-pairs, pairs-at}
+use Rattle.polygons.specs.Layout.{wordsAt, floatsAt, countIn, polygonIn, polygonsIn, binFrom, cellPolygonIn, cellPolygonsIn, Listed}
+use Rattle.inside.specs.Vertices.{pairFrom, pairsFrom}
+use Rattle.inside.proofs.Laws.{length-pairs, pairs-at}
 
 -- ---- 18, 19, or the grid
 

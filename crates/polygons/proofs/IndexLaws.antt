@@ -23,8 +23,10 @@ use Rattle.bin_index.proofs.Laws.{Opened, opened, closed, bin-low}
 use Rattle.polygons.specs.declared.Bin.{Bin}
 use Rattle.polygons.specs.declared.Grid.{Grid}
 use Rattle.polygons.specs.Bins.{CellPolygon, Binned, binAlong, binFor, listedIn, isListed, reaches}
-use Rattle.polygons.specs.Locate.{holds, contains}
-use Rattle.polygons.specs.Layout.{wordsAt, binFrom, polygonIn, polygonsIn, cellPolygonIn, cellPolygonsIn, Searchable}
+use Rattle.polygons.specs.Locate.{holds}
+use Rattle.inside.specs.Contains.{contains}
+use Rattle.polygons.specs.Layout.{wordsAt, binFrom, polygonIn, polygonsIn, cellPolygonIn, cellPolygonsIn, Limited, Searchable}
+use Rattle.polygons.proofs.LimitLaws.{limited-words}
 use Rattle.polygons.proofs.GridLaws.{cellPolygon-same, map-tab}
 use Rattle.polygons.proofs.LocateLaws.{locate-here, locate-next, locate-end, cellPolygon-at}
 
@@ -151,6 +153,9 @@ module _ (g : Grid) (s : Sizes) (w w′ : List ℕ) (f : List Float) (l : cellPo
       ∙ ap (λ (k : List CellPolygon). getD k i (cellPolygonIn s w′ f i)) (l ∙ map-tab (listedIn g) (polygonIn s w f) (s .cells))
       ∙ getD-tab (λ j. listedIn g (polygonIn s w f j)) (s .cells) i (cellPolygonIn s w′ f i) h
 
+  polygon-then : (i : ℕ) → i < s .cells → polygonIn s w′ f i ≡ polygonIn s w f i
+  polygon-then i h = (unfold cellPolygonIn listedIn in ap (λ (c : CellPolygon). c .polygon) (listed-at i h))
+
   last-x : (i : ℕ) → i < s .cells → slotIn w′ (wordsEnd s) i 2 < g .bins .x
   last-x i h =
       let e : cellPolygonIn s w′ f i .last .x ≡ listedIn g (polygonIn s w f i) .last .x = ap (λ (c : CellPolygon). c .last .x) (listed-at i h) in
@@ -176,11 +181,15 @@ module _ (g : Grid) (s : Sizes) (w w′ : List ℕ) (f : List Float) (l : cellPo
         high = last-y;
       }
 
-  pub indexed-cells : (w″ : List ℕ) → take (wordsEnd s) w′ ≡ take (wordsEnd s) w → Built w′ w″ (wordsEnd s) (s .cells) (g .bins .x) (g .bins .y)
-      → (cellPolygonsIn s w″ f ≡ map (listedIn g) (polygonsIn s w f)) × (take (wordsEnd s) w″ ≡ take (wordsEnd s) w) × Searchable g s w″
-  indexed-cells w″ t bu =
-      (kept ∙ l, take-less w″ w′ (bu .cells) ∙ t, record { binned = binned; index = λ some e. bu .index e })
+  pub indexed-cells : (w″ : List ℕ) → take (wordsEnd s) w′ ≡ take (wordsEnd s) w → Built w′ w″ (wordsEnd s) (s .cells) (g .bins .x) (g .bins .y) → Limited s w f
+      → (cellPolygonsIn s w″ f ≡ map (listedIn g) (polygonsIn s w f)) × (take (wordsEnd s) w″ ≡ take (wordsEnd s) w) × Searchable g s w″ f
+  indexed-cells w″ t bu lim =
+      (kept ∙ l, take-less w″ w′ (bu .cells) ∙ t, record { binned = binned; index = λ some e. bu .index e; limits = limited-words s w w″ f (λ i h. polygon-now i h ∙ polygon-then i h) lim })
     where
+      polygon-now : (i : ℕ) → i < s .cells → polygonIn s w″ f i ≡ polygonIn s w′ f i
+      polygon-now i h =
+          (unfold cellPolygonIn in ap (λ (c : CellPolygon). c .polygon) (cellPolygon-same s w′ w″ f (s .cells) i (bu .cells) h))
+
       kept : cellPolygonsIn s w″ f ≡ cellPolygonsIn s w′ f
       kept = unfold cellPolygonsIn in tab-same (cellPolygonIn s w″ f) (cellPolygonIn s w′ f) (s .cells) (λ j h. cellPolygon-same s w′ w″ f (s .cells) j (bu .cells) h)
 
@@ -189,9 +198,9 @@ module _ (g : Grid) (s : Sizes) (w w′ : List ℕ) (f : List Float) (l : cellPo
           let less : wordsEnd s ≤ wordsEnd s + 8 * s .cells = omega arith in
           sym (take-take (wordsEnd s) (wordsEnd s + 8 * s .cells) a less) ∙ ap (take (wordsEnd s)) e ∙ take-take (wordsEnd s) (wordsEnd s + 8 * s .cells) b less
 
-  pub none-indexed : s .cells ≤ 0 → take (wordsEnd s) w′ ≡ take (wordsEnd s) w
-      → (cellPolygonsIn s w′ f ≡ map (listedIn g) (polygonsIn s w f)) × (take (wordsEnd s) w′ ≡ take (wordsEnd s) w) × Searchable g s w′
-  none-indexed few t = (l, t, record { binned = binned; index = λ some e. absurd (omega arith) })
+  pub none-indexed : s .cells ≤ 0 → take (wordsEnd s) w′ ≡ take (wordsEnd s) w → Limited s w f
+      → (cellPolygonsIn s w′ f ≡ map (listedIn g) (polygonsIn s w f)) × (take (wordsEnd s) w′ ≡ take (wordsEnd s) w) × Searchable g s w′ f
+  none-indexed few t lim = (l, t, record { binned = binned; index = λ some e. absurd (omega arith); limits = limited-words s w w′ f polygon-then lim })
 
 -- the bins of a grid are not too many to count
 pub bins-count : (g : Grid) → Binned g → g .bins .x * g .bins .y < 18446744073709551616

@@ -1,4 +1,4 @@
-pub mod InsideLaws
+pub mod LimitLaws
 pub mod LocateLaws
 pub mod GridLaws
 pub mod IndexLaws

@@ -23,7 +23,8 @@ use Rattle.arith.proofs.All.{All, all-more}
 use Rattle.arith.proofs.RecordLaws.{length-tab, tab-next, tab-same}
 use Rattle.arith.proofs.SortLaws.{sort-snoc, length-sort, all-insert, map-sort, place-below}
 use Rattle.polygons.specs.Corners.{about, turnsAbout}
-use Rattle.polygons.specs.Layout.{pairFrom, pairsFrom, cornerIn, cornersIn, AnglesAbout}
+use Rattle.polygons.specs.Layout.{cornerIn, cornersIn, AnglesAbout}
+use Rattle.inside.specs.Vertices.{pairFrom, pairsFrom}
 use Rattle.polygons.proofs.GridLaws.{map-tab}
 
 -- ---- the angles, one point after another

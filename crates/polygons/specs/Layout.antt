@@ -1,6 +1,6 @@
 -- Where the tracer's part of the work area holds the polygons, and what its functions promise.
 -- Words: cell i from 16F + 8C + 8i on: its first bin x, y, its last bin x, y, its vertex count; from 16F + 16C on the index of the bins, where
--- it fits. Floats: from 12F + 4C + 60i on the x and y of its vertices, of which at most 24 are read.
+-- it fits. Floats: from 12F + 4C + 60i on the x and y of its vertices, of which at most 24 are read, and from the 49th on its limits.
 use Prim.Native.Nat.{ℕ, _+_, _*_, _≤_, _<_, min}
 use mathlib.Core.Path.{_≡_}
 use mathlib.Core.List.{List, map}
@@ -17,6 +17,8 @@ use Rattle.area.specs.declared.Sizes.{Sizes}
 use Rattle.area.specs.Tables.{Mesh}
 use Rattle.area.specs.Layout.{wordsEnd, floatsEnd, cellsIn}
 use Rattle.bin_index.specs.Index.{flagIn, Indexed}
+use Rattle.inside.specs.Vertices.{pairsFrom}
+use Rattle.inside.specs.Extent.{Outside, limitsFrom}
 use Rattle.polygons.specs.declared.Bin.{Bin}
 use Rattle.polygons.specs.declared.Grid.{Grid}
 use Rattle.polygons.specs.declared.Built.{Built}
@@ -31,14 +33,6 @@ wordsAt s i = wordsEnd s + 8 * i
 
 abbrev pub floatsAt : Sizes → ℕ → ℕ
 floatsAt s i = floatsEnd s + 60 * i
-
--- the point whose two floats start at a place
-unfoldable pub pairFrom : List Float → ℕ → Vec2
-pairFrom floats at = pair (getD floats at nan) (getD floats (at + 1) nan)
-
--- the n points from a place on
-unfoldable pub pairsFrom : List Float → ℕ → ℕ → List Vec2
-pairsFrom floats at n = tab (λ k. pairFrom floats (at + 2 * k)) n
 
 -- point k of those whose x and y stand in two lists, and the first n of them
 abbrev pub cornerIn : List Float → List Float → ℕ → Vec2
@@ -108,13 +102,25 @@ pub record Listed (g : Grid) (s : Sizes) (w w′ : List ℕ) (f : List Float) (i
   pub before : take (wordsAt s i) w′ ≡ take (wordsAt s i) w
   pub polygons : polygonsIn s w′ f ≡ polygonsIn s w f
 
--- a grid with bins; the index, where it stands, lists the cells of each bin
-pub record Searchable (g : Grid) (s : Sizes) (words : List ℕ) : Type 0 where
+-- cell i has its limits; no polygon, no other cell's limits and nothing of the mesh is changed
+pub record Fenced (s : Sizes) (w : List ℕ) (f f′ : List Float) (i : ℕ) : Type 0 where
+  pub here : Outside (polygonIn s w f′ i) (limitsFrom f′ (floatsAt s i + 48))
+  pub polygons : (j : ℕ) → polygonIn s w f′ j ≡ polygonIn s w f j
+  pub others : (j : ℕ) → j < i → limitsFrom f′ (floatsAt s j + 48) ≡ limitsFrom f (floatsAt s j + 48)
+  pub mesh : take (floatsEnd s) f′ ≡ take (floatsEnd s) f
+
+-- no polygon contains a point outside of the limits that stand with it
+pub record Limited (s : Sizes) (words : List ℕ) (floats : List Float) : Type 0 where
+  pub each : (i : ℕ) → i < s .cells → Outside (polygonIn s words floats i) (limitsFrom floats (floatsAt s i + 48))
+
+-- a grid with bins; the index, where it stands, lists the cells of each bin; the polygons have limits
+pub record Searchable (g : Grid) (s : Sizes) (words : List ℕ) (floats : List Float) : Type 0 where
   pub binned : Binned g
   pub index : 0 < s .cells → flagIn words (wordsEnd s) (s .cells) ≡ 1 → Indexed words (wordsEnd s) (s .cells) (g .bins .x) (g .bins .y)
+  pub limits : Limited s words floats
 
 -- the refusal, or the field of the mesh
 pub record Traceable (m : Mesh) (s : Sizes) (words′ : List ℕ) (floats′ : List Float) (r : Built) : Type 0 where
   pub result : builtGrid r ≡ gridOf (s .cells) (polygonsOf m)
   pub field : (g : Grid) → r ≡ Made g → fieldOf m ≡ fine (fieldIn g s words′ floats′)
-  pub searchable : (g : Grid) → r ≡ Made g → Searchable g s words′
+  pub searchable : (g : Grid) → r ≡ Made g → Searchable g s words′ floats′

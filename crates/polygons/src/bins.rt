@@ -141,10 +141,10 @@ fn list_cells(words: &mut [u32], floats: &[f64], s: Sizes, g: Grid)
 
 // Lists every cell, and builds the index of the bins.
 pub fn index_cells(words: &mut [u32], floats: &[f64], s: Sizes, g: Grid)
-    requires { ⌜ LentWords s (now words) × LentFloats s (now floats) × Binned g ⌝ }
+    requires { ⌜ LentWords s (now words) × LentFloats s (now floats) × Binned g × Layout.Limited s (now words) (now floats) ⌝ }
     ensures { λ _. ⌜ (Layout.cellPolygonsIn s (now (words .exit)) (now (floats .entry)) ≡ map (listedIn g) (Layout.polygonsIn s (now (words .entry)) (now (floats .entry))))
         × (take (wordsEnd s) (now (words .exit)) ≡ take (wordsEnd s) (now (words .entry)))
-        × Layout.Searchable g s (now (words .exit)) ⌝ }
+        × Layout.Searchable g s (now (words .exit)) (now (floats .entry)) ⌝ }
 {
     list_cells(words, floats, s, g);
     if s.cells > 0 {

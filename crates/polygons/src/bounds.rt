@@ -1,6 +1,5 @@
 // Bounds of points that stand in the area.
 use crate::Box;
-use crate::inside;
 use crate::locate;
 use area::Sizes;
 use arith::Vec2;
@@ -12,7 +11,8 @@ ghost use Rattle.arith.specs.Lists.{foldl, concat};
 ghost use Rattle.area.specs.Layout.{LentWords, LentFloats};
 ghost use Rattle.polygons.specs.Bounds as Bounds;
 ghost use Rattle.polygons.specs.Bounds.{boundsOf};
-ghost use Rattle.polygons.specs.Layout.{pairsFrom, polygonsIn};
+ghost use Rattle.inside.specs.Vertices.{pairsFrom};
+ghost use Rattle.polygons.specs.Layout.{polygonsIn};
 
 // The box about no point.
 pub fn boundless() -> Box

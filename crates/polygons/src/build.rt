@@ -9,17 +9,21 @@ use arith::Vec2;
 use arith::Vec3;
 use arith::angles;
 use arith::sort;
+use inside::Limits;
+use inside::extent;
 ghost use mathlib.Core.Path.{_≡_};
-ghost use mathlib.Core.List.{List, map};
+ghost use mathlib.Core.List.{List, map, [], _∷_};
 ghost use Prim.Native.Nat.{ℕ, _+_, _*_, _<_, _≤_};
 ghost use lib.ListN.{length, take, getD};
 ghost use Rattle.arith.specs.Lists as Lists;
+ghost use Rattle.arith.specs.Records.{puts};
 ghost use Rattle.area.specs.Tables.{cellAt};
-ghost use Rattle.area.specs.Layout.{LentWords, LentFloats, pointsIn, meshIn, cellsIn};
+ghost use Rattle.area.specs.Layout.{floatsEnd, LentWords, LentFloats, pointsIn, meshIn, cellsIn};
 ghost use Rattle.polygons.specs.Corners.{turnsAbout, cornersOf, polygonOf};
 ghost use Rattle.polygons.specs.Field.{Few, polygonsOf};
 ghost use Rattle.polygons.specs.Layout as Layout;
-ghost use Rattle.polygons.specs.Layout.{cornerIn, cornersIn, pairsFrom, polygonsIn, AnglesAbout, Placed, Stored, Kept, Traceable};
+ghost use Rattle.inside.specs.Vertices.{pairsFrom};
+ghost use Rattle.polygons.specs.Layout.{cornerIn, cornersIn, polygonsIn, AnglesAbout, Placed, Stored, Kept, Fenced, Limited, Traceable};
 
 // The quarters and slopes of the first n points about a centre.
 fn angles_about(
@@ -159,6 +163,52 @@ fn put_polygons(case: &[u8], points: usize, words: &mut [u32], floats: &mut [f64
     }
 }
 
+// Stores limits from `at` on.
+fn put_limits(floats: &mut [f64], at: usize, l: Limits)
+    requires { ⌜ at + 3 ≤ length (now floats) ⌝ }
+    ensures { λ _. ⌜ now (floats .exit) ≡ puts (now (floats .entry)) at (l .low ∷ l .high ∷ l .right ∷ []) ⌝ }
+{
+    floats[at] = l.low;
+    floats[at + 1] = l.high;
+    floats[at + 2] = l.right;
+}
+
+// Stores the limits of cell i's polygon with it.
+fn limit_cell(words: &[u32], floats: &mut [f64], s: Sizes, i: usize)
+    requires { ⌜ LentWords s (now words) × LentFloats s (now floats) × (i < s .cells) ⌝ }
+    ensures { λ _. ⌜ Fenced s (now (words .entry)) (now (floats .entry)) (now (floats .exit)) i ⌝ }
+{
+    let at = locate::floats_at(s, i);
+    let l = extent::limits_of(floats, at, locate::count_in(words, s, i));
+    put_limits(floats, at + 48, l);
+}
+
+// Stores the limits of every polygon with it.
+fn limit_cells(words: &[u32], floats: &mut [f64], s: Sizes)
+    requires { ⌜ LentWords s (now words) × LentFloats s (now floats) ⌝ }
+    ensures { λ _. ⌜ (polygonsIn s (now (words .entry)) (now (floats .exit)) ≡ polygonsIn s (now (words .entry)) (now (floats .entry)))
+        × (take (floatsEnd s) (now (floats .exit)) ≡ take (floatsEnd s) (now (floats .entry)))
+        × Limited s (now (words .entry)) (now (floats .exit)) ⌝ }
+{
+    let mut i = 0;
+    while i < s.cells {
+        limit_cell(words, floats, s, i);
+        i += 1;
+    }
+}
+
+// Stores the polygons of all cells, with their limits.
+fn put_cells(case: &[u8], points: usize, words: &mut [u32], floats: &mut [f64], s: Sizes)
+    requires { ⌜ (points ≤ 65536) × (24 * points ≤ length (now case)) × LentWords s (now words) × LentFloats s (now floats) ⌝ }
+    requires { ⌜ Few (meshIn (pointsIn (now case) points) s (now words) (now floats)) ⌝ }
+    ensures { λ _. ⌜ (polygonsIn s (now (words .exit)) (now (floats .exit)) ≡ polygonsOf (meshIn (pointsIn (now (case .entry)) points) s (now (words .entry)) (now (floats .entry))))
+        × Kept s (now (words .entry)) (now (words .exit)) (now (floats .entry)) (now (floats .exit))
+        × Limited s (now (words .exit)) (now (floats .exit)) ⌝ }
+{
+    put_polygons(case, points, words, floats, s);
+    limit_cells(words, floats, s);
+}
+
 // The grid of the field that now stands in the area, or the refusal 18 or 19.
 pub fn from_dataset(
     case: &[u8],
@@ -172,7 +222,7 @@ pub fn from_dataset(
     ensures { λ r. ⌜ Traceable (meshIn (pointsIn (now (case .entry)) points) s (now (words .entry)) (now (floats .entry))) s (now (words .exit)) (now (floats .exit)) r
         × Kept s (now (words .entry)) (now (words .exit)) (now (floats .entry)) (now (floats .exit)) ⌝ }
 {
-    put_polygons(case, points, words, floats, s);
+    put_cells(case, points, words, floats, s);
     let b = bounds::all_bounds(words, floats, s);
     let n = bins::bin_counts(s.cells, b);
     let built = bins::grid_for(b, n);

@@ -4,7 +4,6 @@ pub mod bins;
 pub mod bounds;
 pub mod build;
 pub mod corners;
-pub mod inside;
 pub mod locate;
 
 // A bin, or the number of bins each way.

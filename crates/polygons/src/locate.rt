@@ -1,12 +1,12 @@
 // The bins of a grid, and the lowest listed cell that contains a point.
 use crate::Bin;
 use crate::Grid;
-use crate::inside;
 use area::Sizes;
 use arith::Found;
 use arith::Vec2;
 use arith::Vec3;
 use arith::float;
+use inside::extent;
 ghost use mathlib.Core.Path.{_≡_};
 ghost use Prim.Native.Nat.{_+_, _*_, _<_, _≤_};
 ghost use lib.ListN.{length};
@@ -16,6 +16,7 @@ ghost use Rattle.arith.specs.Lists.{firstFrom};
 ghost use mathlib.Core.Bool.{true};
 ghost use Rattle.area.specs.Layout.{wordsEnd, LentWords, LentFloats};
 ghost use Rattle.bin_index.specs.Index.{flagIn, Indexed};
+ghost use Rattle.inside.specs.Contains.{contains};
 ghost use Rattle.polygons.specs.Bins as Bins;
 ghost use Rattle.polygons.specs.Bins.{Binned};
 ghost use Rattle.polygons.specs.Locate as Locate;
@@ -27,7 +28,8 @@ fn bin_along(low: f64, high: f64, n: usize, a: f64) -> usize
     ensures { λ r. ⌜ (r ≡ Bins.binAlong low high n a) × (r < n) ⌝ }
 {
     let normalized = float::clamp((a - low) / (high - low));
-    float::floor_usize(normalized * (n as f64)) % n
+    let k = float::floor_usize(normalized * (n as f64));
+    if k < n { k } else { k % n }
 }
 
 // The bin of a point.
@@ -107,16 +109,21 @@ fn is_listed(words: &[u32], s: Sizes, i: usize, b: Bin) -> bool
 
 // Cell i contains q.
 fn has_point(words: &[u32], floats: &[f64], s: Sizes, q: Vec2, i: usize) -> bool
-    requires { ⌜ LentWords s (now words) × LentFloats s (now floats) × (i < s .cells) ⌝ }
-    ensures { λ r. ⌜ r ≡ Locate.contains q (Layout.polygonIn s (now (words .entry)) (now (floats .entry)) i) ⌝ }
+    requires { ⌜ LentWords s (now words) × LentFloats s (now floats) × Layout.Limited s (now words) (now floats) × (i < s .cells) ⌝ }
+    ensures { λ r. ⌜ r ≡ contains q (Layout.polygonIn s (now (words .entry)) (now (floats .entry)) i) ⌝ }
 {
+    let at = floats_at(s, i);
+    let limits = extent::limits_at(floats, at + 48);
+    if extent::misses(limits, q) {
+        return false;
+    }
     let n = count_in(words, s, i);
-    inside::point_in_polygon(q, floats, floats_at(s, i), n)
+    inside::point_in_polygon(q, floats, at, n)
 }
 
 // Cell i is listed in bin b, and contains q.
 fn holds(words: &[u32], floats: &[f64], s: Sizes, b: Bin, q: Vec2, i: usize) -> bool
-    requires { ⌜ LentWords s (now words) × LentFloats s (now floats) × (i < s .cells) ⌝ }
+    requires { ⌜ LentWords s (now words) × LentFloats s (now floats) × Layout.Limited s (now words) (now floats) × (i < s .cells) ⌝ }
     ensures { λ r. ⌜ r ≡ Locate.holds b q (Layout.cellPolygonIn s (now (words .entry)) (now (floats .entry)) i) ⌝ }
 {
     if is_listed(words, s, i, b) {
@@ -128,7 +135,7 @@ fn holds(words: &[u32], floats: &[f64], s: Sizes, b: Bin, q: Vec2, i: usize) -> 
 
 // The lowest cell that is listed in bin b and contains q: over all cells.
 fn first_holding(words: &[u32], floats: &[f64], s: Sizes, b: Bin, q: Vec2) -> Found
-    requires { ⌜ LentWords s (now words) × LentFloats s (now floats) ⌝ }
+    requires { ⌜ LentWords s (now words) × LentFloats s (now floats) × Layout.Limited s (now words) (now floats) ⌝ }
     ensures { λ r. ⌜ r ≡ firstFrom (Locate.holds b q) 0 (Layout.cellPolygonsIn s (now (words .entry)) (now (floats .entry))) ⌝ }
 {
     let mut i = 0;
@@ -152,7 +159,7 @@ fn first_listed(
     y: usize,
     q: Vec2,
 ) -> Found
-    requires { ⌜ LentWords s (now words) × LentFloats s (now floats) × (x < nx) × (y < ny) ⌝ }
+    requires { ⌜ LentWords s (now words) × LentFloats s (now floats) × Layout.Limited s (now words) (now floats) × (x < nx) × (y < ny) ⌝ }
     requires { ⌜ Indexed (now words) (wordsEnd s) (s .cells) nx ny ⌝ }
     ensures { λ r. ⌜ r ≡ firstFrom (Locate.holds (record { x = x; y = y }) q) 0 (Layout.cellPolygonsIn s (now (words .entry)) (now (floats .entry))) ⌝ }
 {
@@ -182,7 +189,7 @@ fn is_indexed(words: &[u32], s: Sizes) -> bool
 
 // The lowest cell that is listed in q's bin and contains q.
 fn first_at(words: &[u32], floats: &[f64], s: Sizes, g: Grid, q: Vec2) -> Found
-    requires { ⌜ LentWords s (now words) × LentFloats s (now floats) × Layout.Searchable g s (now words) ⌝ }
+    requires { ⌜ LentWords s (now words) × LentFloats s (now floats) × Layout.Searchable g s (now words) (now floats) ⌝ }
     ensures { λ r. ⌜ r ≡ firstFrom (Locate.holds (Bins.binFor g q) q) 0 (Layout.cellPolygonsIn s (now (words .entry)) (now (floats .entry))) ⌝ }
 {
     let b = bin_for(g, q);
@@ -195,7 +202,7 @@ fn first_at(words: &[u32], floats: &[f64], s: Sizes, g: Grid, q: Vec2) -> Found
 
 // The lowest listed cell that contains p; nowhere for an x or y that is not finite.
 pub fn locate_cell(words: &[u32], floats: &[f64], s: Sizes, g: Grid, p: Vec3) -> Found
-    requires { ⌜ LentWords s (now words) × LentFloats s (now floats) × Layout.Searchable g s (now words) ⌝ }
+    requires { ⌜ LentWords s (now words) × LentFloats s (now floats) × Layout.Searchable g s (now words) (now floats) ⌝ }
     ensures { λ r. ⌜ r ≡ Locate.locate g (Layout.cellPolygonsIn s (now (words .entry)) (now (floats .entry))) p ⌝ }
 {
     if float::is_finite(p.x) {

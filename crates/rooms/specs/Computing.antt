@@ -42,12 +42,15 @@ use Rattle.finish.specs.Steps.{geometryAt, firstCells}
 use Rattle.mesh.specs.Case.{surveyOf, areaShort, meshOf, meshFrom}
 use Rattle.mesh.specs.Mesh.{joined, acceptable, completed, filled, fromCells}
 use Rattle.mesh.specs.Steps.{draftsHeld, acceptedAs}
+use Rattle.inside.specs.Contains.{between, onLine, onEdge, contains}
+use Rattle.inside.specs.Extent.{limitsFrom, misses, endWithin, run, crossingWithin, sideWithin}
+use Rattle.inside.specs.Vertices.{pairFrom, pairsFrom}
 use Rattle.polygons.specs.Bins.{binAlong, binFor, listedIn, reaches, isListed, aspect, binCounts, areFlat, areMany}
 use Rattle.polygons.specs.Bounds.{boundless, widened, boundsOf}
 use Rattle.polygons.specs.Corners.{alike, flat, addCorner, addCorners, cornersOf, about, turnsAbout, polygonOf}
 use Rattle.polygons.specs.Field.{polygonsOf, gridFor, gridOf, fieldOf, builtGrid}
-use Rattle.polygons.specs.Layout.{pairFrom, pairsFrom, cornersIn, countIn, polygonIn, polygonsIn, binFrom, cellPolygonIn, cellPolygonsIn, fieldIn}
-use Rattle.polygons.specs.Locate.{between, onLine, onEdge, contains, holds, locateWhere, locate}
+use Rattle.polygons.specs.Layout.{cornersIn, countIn, polygonIn, polygonsIn, binFrom, cellPolygonIn, cellPolygonsIn, fieldIn}
+use Rattle.polygons.specs.Locate.{holds, locateWhere, locate}
 use Rattle.velocity.specs.RungeKutta.{weighed, fourth, third, second, rungeKutta}
 use Rattle.velocity.specs.Step.{hereIf, rk4Step, kept, step}
 use Rattle.velocity.specs.Velocity.{locateIn, centreOf, neighboursOf as neighboursOf-2, distance, nearerOf, blended, apart, beside, toward, velocityIn, velocityWhere, velocityAt, from, unit, directionAt}
@@ -80,5 +83,5 @@ use Rattle.job.specs.List.{fitting, answerWords, isFlat, replyTo, serveAll}
 use Rattle.job.specs.Serving.{answerTo}
 
 unfoldable pub computing : Unit {0}
-unfolding add sub mul div lt le eq ofBits toBits ofInt round toUnsigned isNan neg size odd mag isqrt rounded root unitsOf leftward quarter slope angleOf precedes turnsBefore le32 le64 floatAt vecAt readAll finite abs signed fmin fmax clamp nearer within ceilℕ foldl any all count firstFrom only concat addNew insert sort sidesWith windows sides same sorted rising crosses evenOdd tab upTo angleAt earlier sortedPlaces placeIn plus minus opposite times over dot normSquared norm cross each3 done Named _>>=_ _>>=_-2 refuse steps mapAll refusalOf pointsIn meshWords meshFloats listAt vecFrom found faceIn cellIn facesIn cellsIn meshIn pointAt faceAt cellAt places row cornerOf digitOf numbers counted faceLists made kinds definition definitions tetrahedron hexahedron prism pyramid ends picked facesOf faceCount addFaceCount facesCounted blank outside cellsOf nought valuesIn valuesOf listed listAt-2 skipped sideEnd trailerWord countsOf wordsFrom fieldFrom pressuresFrom trailerFrom isDimension hasOffsets hasParts trailerRight overLimit opened openedCase wordsIn wordsOf firstOf headOf cursorAt stepped stepAt walked walkedFaces readOf definitionAt faceAt-2 faceFrom nextFace total vectorOf faceOf cellOf insertNew rising-2 addPoint average turnedEdge addCross vectorIn areaVector enough longEnough faceAreaVector faceWith measured inward turnedIf orientedFace leftOrder weightless addPart doubled addTriangle centre2D sixth addVolume addTetrahedron addFan fanOf addFace3D centre3D geometryIn cellGeometry bodyOf bodyIn measuredOf measuredIn faceOf-2 tableIn headIn last hasKey lookup newFace withNeighbour joining settled adding placed addFace someBelow everyBelow round-2 rounds connectedBy sidesAre joins share connected meets connectedCells otherOf beyond addFound addNeighbour neighboursOf linkedAt linked countBelow behind neighbourBehind misplaced facesAt fansOf wrongKind missing referenceOf insertBelow numbersIn checked referenceCase measuredFrom addFaceOf addCell drafts draftIn draftsIn read finished finishedAs geometryAt firstCells surveyOf areaShort meshOf meshFrom joined acceptable completed filled fromCells draftsHeld acceptedAs binAlong binFor listedIn reaches isListed aspect binCounts areFlat areMany boundless widened boundsOf alike flat addCorner addCorners cornersOf about turnsAbout polygonOf polygonsOf gridFor gridOf fieldOf builtGrid pairFrom pairsFrom cornersIn countIn polygonIn polygonsIn binFrom cellPolygonIn cellPolygonsIn fieldIn between onLine onEdge contains holds locateWhere locate weighed fourth third second rungeKutta hereIf rk4Step kept step locateIn centreOf neighboursOf-2 distance nearerOf blended apart beside toward velocityIn velocityWhere velocityAt from unit directionAt tracedOf readsOf wordsOf-2 sign signedStep onward lineFrom line isLength isSpeed areGood isNowhere nowhere pointWords lineWords lineAnswer integrate seedAt seeds linesWords integrateRake widest farthest epsOf tolerance cutOf height near below above close rises parted between-2 addEnd addBetween addMeeting shared onPlane foreign addSide addFace-2 meetings finiteAxes notUnit askew invalid remote planeRefusal normalOf along pointIn heldIn bare cornerOf-2 sideAt signWith noSigns addSign faceSigns signsOf mayMeet meetingOf earlierOn addArea areaOf middle wide pieceAbout pieceOf piecesFrom intersect pieceIn verticesOf angleOn noIntegral weighing fit addIntegral finiteIntegral vacant integralWords integrals project covers firstOver off probe sound before onward-2 sample addVector vectorOf-2 measureOf scalarOf noSums including counted-2 summing addSample finiteSums empty fractionWords statisticsWords statistics summedOf summingOf addSummed weighedOf weighingOf addWeighed addProbed addTo written stream usedOf sizeOf vecWords valuesWords sampleWords sectionWords probeWords sampled sectionOf statisticsOf integralsOf probeOf answeredOf wordsOf-3 replied goods leftBy statisticsEnd integralsEnd ended lastWords missing-2 Allowed bytesFrom wordBytes bytesOf wordsAt requestsIn number real point barring usedWords astray illFormed against direction options streamline rakeOf rake planeOf statistics-2 overPlane planar byCode requestOf roomFrom roomOf requestsWrong shortage prepared roomIn countsIn Servable shortAs Shortage leftUnder foundWords velocityWords decided serveFlat serveSolid serve jobOf outcome numberOf fitting answerWords isFlat replyTo serveAll answerTo
+unfolding add sub mul div lt le eq ofBits toBits ofInt round toUnsigned isNan neg size odd mag isqrt rounded root unitsOf leftward quarter slope angleOf precedes turnsBefore le32 le64 floatAt vecAt readAll finite abs signed fmin fmax clamp nearer within ceilℕ foldl any all count firstFrom only concat addNew insert sort sidesWith windows sides same sorted rising crosses evenOdd tab upTo angleAt earlier sortedPlaces placeIn plus minus opposite times over dot normSquared norm cross each3 done Named _>>=_ _>>=_-2 refuse steps mapAll refusalOf pointsIn meshWords meshFloats listAt vecFrom found faceIn cellIn facesIn cellsIn meshIn pointAt faceAt cellAt places row cornerOf digitOf numbers counted faceLists made kinds definition definitions tetrahedron hexahedron prism pyramid ends picked facesOf faceCount addFaceCount facesCounted blank outside cellsOf nought valuesIn valuesOf listed listAt-2 skipped sideEnd trailerWord countsOf wordsFrom fieldFrom pressuresFrom trailerFrom isDimension hasOffsets hasParts trailerRight overLimit opened openedCase wordsIn wordsOf firstOf headOf cursorAt stepped stepAt walked walkedFaces readOf definitionAt faceAt-2 faceFrom nextFace total vectorOf faceOf cellOf insertNew rising-2 addPoint average turnedEdge addCross vectorIn areaVector enough longEnough faceAreaVector faceWith measured inward turnedIf orientedFace leftOrder weightless addPart doubled addTriangle centre2D sixth addVolume addTetrahedron addFan fanOf addFace3D centre3D geometryIn cellGeometry bodyOf bodyIn measuredOf measuredIn faceOf-2 tableIn headIn last hasKey lookup newFace withNeighbour joining settled adding placed addFace someBelow everyBelow round-2 rounds connectedBy sidesAre joins share connected meets connectedCells otherOf beyond addFound addNeighbour neighboursOf linkedAt linked countBelow behind neighbourBehind misplaced facesAt fansOf wrongKind missing referenceOf insertBelow numbersIn checked referenceCase measuredFrom addFaceOf addCell drafts draftIn draftsIn read finished finishedAs geometryAt firstCells surveyOf areaShort meshOf meshFrom joined acceptable completed filled fromCells draftsHeld acceptedAs between onLine onEdge contains limitsFrom misses endWithin run crossingWithin sideWithin pairFrom pairsFrom binAlong binFor listedIn reaches isListed aspect binCounts areFlat areMany boundless widened boundsOf alike flat addCorner addCorners cornersOf about turnsAbout polygonOf polygonsOf gridFor gridOf fieldOf builtGrid cornersIn countIn polygonIn polygonsIn binFrom cellPolygonIn cellPolygonsIn fieldIn holds locateWhere locate weighed fourth third second rungeKutta hereIf rk4Step kept step locateIn centreOf neighboursOf-2 distance nearerOf blended apart beside toward velocityIn velocityWhere velocityAt from unit directionAt tracedOf readsOf wordsOf-2 sign signedStep onward lineFrom line isLength isSpeed areGood isNowhere nowhere pointWords lineWords lineAnswer integrate seedAt seeds linesWords integrateRake widest farthest epsOf tolerance cutOf height near below above close rises parted between-2 addEnd addBetween addMeeting shared onPlane foreign addSide addFace-2 meetings finiteAxes notUnit askew invalid remote planeRefusal normalOf along pointIn heldIn bare cornerOf-2 sideAt signWith noSigns addSign faceSigns signsOf mayMeet meetingOf earlierOn addArea areaOf middle wide pieceAbout pieceOf piecesFrom intersect pieceIn verticesOf angleOn noIntegral weighing fit addIntegral finiteIntegral vacant integralWords integrals project covers firstOver off probe sound before onward-2 sample addVector vectorOf-2 measureOf scalarOf noSums including counted-2 summing addSample finiteSums empty fractionWords statisticsWords statistics summedOf summingOf addSummed weighedOf weighingOf addWeighed addProbed addTo written stream usedOf sizeOf vecWords valuesWords sampleWords sectionWords probeWords sampled sectionOf statisticsOf integralsOf probeOf answeredOf wordsOf-3 replied goods leftBy statisticsEnd integralsEnd ended lastWords missing-2 Allowed bytesFrom wordBytes bytesOf wordsAt requestsIn number real point barring usedWords astray illFormed against direction options streamline rakeOf rake planeOf statistics-2 overPlane planar byCode requestOf roomFrom roomOf requestsWrong shortage prepared roomIn countsIn Servable shortAs Shortage leftUnder foundWords velocityWords decided serveFlat serveSolid serve jobOf outcome numberOf fitting answerWords isFlat replyTo serveAll answerTo
 computing = tt

@@ -85,7 +85,7 @@ fn serve_locate(
     out: &mut [u64],
     p: Vec3,
 ) -> Answered
-    requires { ⌜ LentWords s (now words) × LentFloats s (now floats) × Searchable g s (now words) ⌝ }
+    requires { ⌜ LentWords s (now words) × LentFloats s (now floats) × Searchable g s (now words) (now floats) ⌝ }
     ensures { λ r. ⌜ ((f : ℕ → Values) (m : List ℕ) → Replied (Serve.serveFlat (fieldIn g s (now (words .entry)) (now (floats .entry))) (Code.Locate p)) f (now (out .entry)) r (now (out .entry)) (now (out .exit)) m m) ⌝ }
 {
     put_found(locate::locate_cell(words, floats, s, g, p), out);

@@ -16,4 +16,4 @@ pub record Ready (case : List ℕ) (n : Counts) (words : List ℕ) (floats : Lis
   pub opens : opened case ≡ Case n
   pub lent-words : LentWords s words
   pub lent-floats : LentFloats s floats
-  pub searchable : Searchable g s words
+  pub searchable : Searchable g s words floats

@@ -30,13 +30,13 @@ same-length : tie.Need-same-length
 same-length c = search needs
 
 returns : tie.Need-returns
-returns c = indexed-cells _ _ _ _ _ (c .before .before .before .before .before .before .before .before .before .before .list-cells .ensures .0) (c .before .before .before .before .before .before .before .before .before .before .before .before .before .before .pre .2) _ (c .before .before .before .before .before .before .before .before .before .before .list-cells .ensures .1) (c .before .before .build .ensures)
+returns c = indexed-cells _ _ _ _ _ (c .before .before .before .before .before .before .before .before .before .before .list-cells .ensures .0) (c .before .before .before .before .before .before .before .before .before .before .before .before .before .before .pre .2) _ (c .before .before .before .before .before .before .before .before .before .before .list-cells .ensures .1) (c .before .before .build .ensures) (c .before .before .before .before .before .before .before .before .before .before .before .before .before .before .pre .3)
 
 same-length-2 : tie.Need-same-length-2
 same-length-2 c = search needs
 
 returns-2 : tie.Need-returns-2
-returns-2 c = none-indexed _ _ _ _ _ (c .before .before .before .before .list-cells .ensures .0) (c .before .before .before .before .before .before .before .before .pre .2) (c .if1 .left) (c .before .before .before .before .list-cells .ensures .1)
+returns-2 c = none-indexed _ _ _ _ _ (c .before .before .before .before .list-cells .ensures .0) (c .before .before .before .before .before .before .before .before .pre .2) (c .if1 .left) (c .before .before .before .before .list-cells .ensures .1) (c .before .before .before .before .before .before .before .before .pre .3)
 
 pub index-cells-spec : {M : Type 1} → statement M
 index-cells-spec =

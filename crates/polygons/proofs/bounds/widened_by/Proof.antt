@@ -1,5 +1,5 @@
 use Rattle.polygons.proofs.GridLaws.{widen-turn, widen-end}
-use Rattle.polygons.specs.Layout.{pairsFrom}
+use Rattle.inside.specs.Vertices.{pairsFrom}
 use Rattle.polygons.specs.Bounds.{widened}
 use Rattle.arith.specs.Lists.{foldl}
 use lib.ListN.{drop}
@@ -11,7 +11,7 @@ use Rattle.polygons.proofs.bounds.widened_by.Tie as tie
 use Rattle.polygons.proofs.bounds.widened_by.Reads as reads
 use Rattle.polygons.proofs.bounds.widened_by.Lts as lts
 use Rattle.polygons.proofs.bounds.widened.Reads as widened-reads
-use Rattle.polygons.proofs.inside.pair_at.Reads as pair-at-reads
+use Rattle.inside.proofs.pair_at.Reads as pair-at-reads
 
 abbrev Inv-loop : tie.InvT-loop
 Inv-loop floats at n b₀ k₀ b k = (k ≤ n) × (foldl widened b (drop k (pairsFrom floats at n)) ≡ foldl widened b₀ (pairsFrom floats at n))

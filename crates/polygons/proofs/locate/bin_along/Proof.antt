@@ -1,4 +1,5 @@
-use native.Mathlib.Nat.{mod-lt}
+use mathlib.Core.Path.{sym, _∙_}
+use native.Mathlib.Nat.{mod-lt, mod-eq-of-lt}
 use native.Mathlib.Omega.{arith}
 use Rattle.arith.proofs.Counts.{whole-in}
 use Rattle.polygons.specs.Bins.{binAlong}
@@ -29,9 +30,13 @@ rem-result c = search needs
 -- src/locate.rt:23:1
 returns : tie.Need-returns
 unfolding binAlong
-returns c = (rw (c .floor-usize .ensures, c .before .before .clamp .ensures), mod-lt _ (omega arith))
+returns c = (sym (mod-eq-of-lt (c .if1 .taken)) ∙ rw (c .before .floor-usize .ensures, c .before .before .before .clamp .ensures), c .if1 .taken)
+
+returns-2 : tie.Need-returns-2
+unfolding binAlong
+returns-2 c = (rw (c .before .floor-usize .ensures, c .before .before .before .clamp .ensures), mod-lt _ (omega arith))
 
 pub bin-along-spec : {M : Type 1} → statement M
 bin-along-spec =
     tie.close
-    (tie.spec clamp-requires int-to-float-floor-usize floor-usize-requires rem-result returns)
+    (tie.spec clamp-requires int-to-float-floor-usize floor-usize-requires rem-result returns returns-2)

@@ -19,7 +19,7 @@ first-listed-requires c κs =
     let p = c .before .before .before .before .before .pre in
     let e = c .before .before .bin-for .ensures in
     let i = c .before .is-indexed .ensures (c .if1 .taken) in
-    ((p .0, p .1, e .3, e .4), p .2 .index (i .0) (i .1))
+    ((p .0, p .1, p .2 .limits, e .3, e .4), p .2 .index (i .0) (i .1))
 
 returns : tie.Need-returns
 returns c = rw (← c .before .before .before .bin-for .ensures .0) (c .first-listed .ensures)

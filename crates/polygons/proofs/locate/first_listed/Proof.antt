@@ -29,7 +29,7 @@ add-base c = search needs
 bin-of-requires : tie.Need-bin-of-requires Inv-loop μ-loop
 bin-of-requires c κs =
     let p = c .before .before .before .before .pre in
-    (p .0 .2, p .0 .3, few-heads _ _ _ _ _ (p .1) (p .0 .0 .few-cells))
+    (p .0 .3, p .0 .4, few-heads _ _ _ _ _ (p .1) (p .0 .0 .few-cells))
 
 pool-requires : tie.Need-pool-requires Inv-loop μ-loop
 pool-requires c κs =
@@ -41,7 +41,7 @@ pool-requires c κs =
 loop-holds : tie.Need-loop-holds Inv-loop μ-loop
 loop-holds c =
     let p = c .before .before .before .before .before .before .pre in
-    go-start _ _ _ _ _ _ _ _ _ (p .1) (p .0 .2) (p .0 .3) refl (c .before .bin-of .ensures .0) (c .pool .ensures .0)
+    go-start _ _ _ _ _ _ _ _ _ (p .1) (p .0 .3) (p .0 .4) refl (c .before .bin-of .ensures .0) (c .pool .ensures .0)
 
 pool-requires-2 : tie.Need-pool-requires-2 Inv-loop μ-loop
 pool-requires-2 c κs =
@@ -51,7 +51,7 @@ pool-requires-2 c κs =
 has-point-requires : tie.Need-has-point-requires Inv-loop μ-loop
 has-point-requires c κs =
     let r = go-cell _ _ _ _ _ _ _ (c .before .before .loop .inv) (c .before .loop-test .taken) _ refl _ (c .pool2 .ensures .0) in
-    (search needs, search needs, r)
+    (search needs, search needs, search needs, r)
 
 returns : tie.Need-returns Inv-loop μ-loop
 returns c =
@@ -75,7 +75,7 @@ loop-again c =
 returns-2 : tie.Need-returns-2 Inv-loop μ-loop
 returns-2 c =
     let p = c .before .before .before .before .before .before .before .before .pre in
-    go-end _ _ _ _ _ _ _ (c .before .loop .inv) (p .0 .2) (p .0 .3) (c .loop-test .left)
+    go-end _ _ _ _ _ _ _ (c .before .loop .inv) (p .0 .3) (p .0 .4) (c .loop-test .left)
 
 pub first-listed-spec : {M : Type 1} → statement M
 first-listed-spec =

@@ -1,0 +1,13 @@
+use mathlib.Core.Path.{refl}
+use Rattle.inside.specs.Extent.{run}
+use Rattle.inside.proofs.extent.run.Statement.{statement}
+use Rattle.inside.proofs.extent.run.Tie as tie
+use Rattle.inside.proofs.extent.run.Reads as reads
+use Rattle.inside.proofs.extent.run.Lts as lts
+
+returns : tie.Need-returns
+unfolding run
+returns c = refl
+
+pub run-spec : {M : Type 1} → statement M
+run-spec = tie.close (tie.spec returns)
