@@ -1,4 +1,5 @@
 // The velocity at a point, and its direction.
+use crate::Near;
 use crate::Vector;
 use area::Sizes;
 use arith::Found;
@@ -50,13 +51,18 @@ fn distance(floats: &[f64], s: Sizes, p: Vec3, i: usize) -> f64
     p.sub(area::centre_of(floats, s, i)).norm_squared()
 }
 
-// The nearer one of two cells; of equal distances the first.
-fn nearer_of(floats: &[f64], s: Sizes, p: Vec3, best: usize, i: usize) -> usize
-    requires { ⌜ LentFloats s (now floats) ⌝ }
-    ensures { λ r. ⌜ ((g : Grid) (words : List ℕ) → r ≡ Velocity.nearerOf (fieldIn g s words (now (floats .entry))) p best i) ⌝ }
+// The nearer one of two cells, with its distance; of equal distances the first.
+fn nearer_of(floats: &[f64], s: Sizes, p: Vec3, best: Near, i: usize) -> Near
+    requires { ⌜ LentFloats s (now floats) × ((g : Grid) (words : List ℕ) → best .distance ≡ Velocity.distance (fieldIn g s words (now floats)) p (best .cell)) ⌝ }
+    ensures { λ r. ⌜ ((g : Grid) (words : List ℕ) → r .cell ≡ Velocity.nearerOf (fieldIn g s words (now (floats .entry))) p (best .cell) i)
+        × ((g : Grid) (words : List ℕ) → r .distance ≡ Velocity.distance (fieldIn g s words (now (floats .entry))) p (r .cell)) ⌝ }
 {
-    if float::nearer(distance(floats, s, p, i), distance(floats, s, p, best)) {
-        i
+    let d = distance(floats, s, p, i);
+    if float::nearer(d, best.distance) {
+        Near {
+            cell: i,
+            distance: d,
+        }
     } else {
         best
     }
@@ -70,13 +76,17 @@ fn nearest(words: &[u32], floats: &[f64], s: Sizes, p: Vec3, i: usize) -> usize
         (drop 1 (Velocity.neighboursOf (fieldIn g s (now (words .entry)) (now (floats .entry))) i))) ⌝ }
 {
     let count = area::neighbour_count(words, s, i);
-    let mut best = area::neighbour(words, s, i, 0);
+    let first = area::neighbour(words, s, i, 0);
+    let mut best = Near {
+        cell: first,
+        distance: distance(floats, s, p, first),
+    };
     let mut k = 1;
     while k < count {
         best = nearer_of(floats, s, p, best, area::neighbour(words, s, i, k));
         k += 1;
     }
-    best
+    best.cell
 }
 
 // From `base` toward `there`.

@@ -10,6 +10,12 @@ pub enum Vector {
     Nowhere,
 }
 
+// A cell, and the squared distance of its centre from a point.
+pub struct Near {
+    pub cell: usize,
+    pub distance: f64,
+}
+
 // The next point with its segment length, or that the line ends.
 pub enum Step {
     Next(Vec3, f64),

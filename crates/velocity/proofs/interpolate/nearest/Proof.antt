@@ -1,10 +1,11 @@
 use Rattle.velocity.proofs.VelocityLaws.{nearest-turn, nearest-end, neighbours-in}
-use Rattle.velocity.specs.Velocity.{nearerOf, neighboursOf}
+use Rattle.velocity.specs.Velocity.{distance, nearerOf, neighboursOf}
 use Rattle.polygons.specs.Layout.{fieldIn}
 use Rattle.polygons.specs.declared.Grid.{Grid}
 use Rattle.arith.specs.Lists.{foldl}
 use lib.ListN.{getD, drop}
 use mathlib.Core.Path.{_≡_, refl}
+use mathlib.Core.List.{List}
 use Prim.Native.Nat.{ℕ, _≤_, _-_}
 use native.Mathlib.Omega.{arith}
 use borrow.Author.Needs.{needs}
@@ -15,48 +16,49 @@ use Rattle.velocity.proofs.interpolate.nearest.Lts as lts
 use Rattle.area.proofs.neighbour.Reads as neighbour-reads
 use Rattle.area.proofs.neighbour_count.Reads as neighbour-count-reads
 use Rattle.velocity.proofs.interpolate.nearer_of.Reads as nearer-of-reads
+use Rattle.velocity.proofs.interpolate.distance.Reads as distance-reads
 
 abbrev Inv-loop : tie.InvT-loop
-Inv-loop words floats s p i count best₀ k₀ best k = (g : Grid) → foldl (nearerOf (fieldIn g s words floats) p) best (drop k (neighboursOf (fieldIn g s words floats) i)) ≡ foldl (nearerOf (fieldIn g s words floats) p) (getD (neighboursOf (fieldIn g s words floats) i) 0 0) (drop 1 (neighboursOf (fieldIn g s words floats) i))
+Inv-loop words floats s p i count first best₀ k₀ best k =
+    ((g : Grid) → foldl (nearerOf (fieldIn g s words floats) p) (best .cell) (drop k (neighboursOf (fieldIn g s words floats) i)) ≡ foldl (nearerOf (fieldIn g s words floats) p) (getD (neighboursOf (fieldIn g s words floats) i) 0 0) (drop 1 (neighboursOf (fieldIn g s words floats) i)))
+    × ((g : Grid) (words : List ℕ) → best .distance ≡ distance (fieldIn g s words floats) p (best .cell))
 
 abbrev μ-loop : tie.MeasureT-loop
-μ-loop words floats s p i count best₀ k₀ best k = count - k
+μ-loop words floats s p i count first best₀ k₀ best k = count - k
 
--- src/interpolate.rt:65:9
 neighbour-count-requires : tie.Need-neighbour-count-requires Inv-loop μ-loop
 neighbour-count-requires c κs = search needs
 
--- src/interpolate.rt:66:9
 neighbour-requires : tie.Need-neighbour-requires Inv-loop μ-loop
 neighbour-requires c κs = search needs
 
--- src/interpolate.rt:68:5
-loop-holds : tie.Need-loop-holds Inv-loop μ-loop
-loop-holds c = λ g. rw (c .neighbour .ensures .0 (c .before .before .before .before .args .floats .now), neighbours-in g _ _ _ _)
+distance-requires : tie.Need-distance-requires Inv-loop μ-loop
+distance-requires c κs = search needs
 
--- src/interpolate.rt:69:46
+loop-holds : tie.Need-loop-holds Inv-loop μ-loop
+loop-holds c =
+    (λ g. rw (c .before .neighbour .ensures .0 (c .before .before .before .before .before .args .floats .now), neighbours-in g _ _ _ _), λ g words. c .distance .ensures g words)
+
 neighbour-requires-2 : tie.Need-neighbour-requires-2 Inv-loop μ-loop
 neighbour-requires-2 c κs = search needs
 
--- src/interpolate.rt:69:9
 nearer-of-requires : tie.Need-nearer-of-requires Inv-loop μ-loop
-nearer-of-requires c κs = search needs
+nearer-of-requires c κs = (search needs, c .before .before .loop .inv .1)
 
--- src/interpolate.rt:70:9
 add-k : tie.Need-add-k Inv-loop μ-loop
 add-k c = search needs
 
--- src/interpolate.rt:68:5
 loop-less : tie.Need-loop-less Inv-loop μ-loop
 loop-less c = search needs
 
--- src/interpolate.rt:68:5
 loop-again : tie.Need-loop-again Inv-loop μ-loop
-loop-again c = λ g. nearest-turn g _ _ _ _ _ _ _ _ _ (c .before .before .before .before .before .neighbour-count .ensures .0 (c .before .before .before .before .before .before .before .before .args .floats .now)) (c .before .before .before .loop .inv g) _ _ (c .before .before .loop-test .taken) (c .before .neighbour2 .ensures .0 (c .before .before .before .before .before .before .before .before .args .floats .now)) (c .nearer-of .ensures g (c .before .before .before .before .before .before .before .before .args .words .now))
+loop-again c =
+    let a = c .before .before .before .before .before .before .before .before .before .args in
+    (λ g. nearest-turn g _ _ _ _ _ _ _ _ _ (c .before .before .before .before .before .before .neighbour-count .ensures .0 (a .floats .now)) (c .before .before .before .loop .inv .0 g) _ _ (c .before .before .loop-test .taken) (c .before .neighbour2 .ensures .0 (a .floats .now)) (c .nearer-of .ensures .0 g (a .words .now)), λ g words. c .nearer-of .ensures .1 g words)
 
--- src/interpolate.rt:59:1
 returns : tie.Need-returns Inv-loop μ-loop
-returns c = λ g. nearest-end g _ _ _ _ _ _ _ _ _ (c .before .before .before .neighbour-count .ensures .0 (c .before .before .before .before .before .before .args .floats .now)) (c .before .loop .inv g) (c .loop-test .left)
+returns c =
+    λ g. nearest-end g _ _ _ _ _ _ _ _ _ (c .before .before .before .before .neighbour-count .ensures .0 (c .before .before .before .before .before .before .before .args .floats .now)) (c .before .loop .inv .0 g) (c .loop-test .left)
 
 pub nearest-spec : {M : Type 1} → statement M
 nearest-spec =
@@ -66,6 +68,7 @@ nearest-spec =
     μ-loop
     neighbour-count-requires
     neighbour-requires
+    distance-requires
     loop-holds
     neighbour-requires-2
     nearer-of-requires
