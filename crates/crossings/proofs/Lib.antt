@@ -4,3 +4,4 @@ pub mod PlaneLaws
 pub mod MeshLaws
 pub mod ReachLaws
 pub mod CloseLaws
+pub mod SignLaws

@@ -100,6 +100,9 @@ module _ (m : Mesh) (c : Cut) (cell f : ℕ) where
 
 -- ---- a side by its corners
 
+pub after-within : (n k : ℕ) → k + 1 < n → after n k ≡ k + 1
+after-within n k h = rw (ne-eqb (k + 1) n (λ e. omega arith))
+
 pub side-added : (m : Mesh) (c : Cut) (l : List Vec3) (f k j n : ℕ) (a b : Vec3) → a ≡ cornerOf m f k → b ≡ cornerOf m f j → j ≡ after n k →
     n ≡ length (faceAt (m .faces) f .vertices) → addMeeting c l a b ≡ addSide m c l (sideAt (faceAt (m .faces) f .vertices) k)
 unfolding addSide sideAt cornerOf

@@ -14,9 +14,10 @@ use Rattle.area.specs.Tables.{Mesh, pointAt, faceAt, cellAt}
 use Rattle.area.specs.Layout.{pointsIn, meshIn, LentWords}
 use Rattle.crossings.specs.declared.Cut.{Cut}
 use Rattle.crossings.specs.declared.Signs.{Signs}
+use Rattle.crossings.specs.declared.End.{End}
 use Rattle.crossings.specs.declared.Meeting.{Meeting}
 use Rattle.crossings.specs.declared.Meeting.the-variants.{Point, None}
-use Rattle.crossings.specs.Crossings.{near, below, above, parted, between}
+use Rattle.crossings.specs.Crossings.{height, near, below, above, parted, between}
 
 -- ---- points held in three slices
 
@@ -94,6 +95,10 @@ unfoldable pub mayMeet : Signs → Bool
 mayMeet g = g .near || (g .below && g .above)
 
 -- ---- where one side meets the plane: at one point at most
+
+-- an end's height is that of its point
+pub record Level (c : Cut) (a : End) : Type 0 where
+  pub level : a .height ≡ height c (a .point)
 
 unfoldable pub meetingOf : Cut → Vec3 → Vec3 → Meeting
 meetingOf c a b = cond (near c a) (Point a) (cond (parted c a b) (Point (between c a b)) None)

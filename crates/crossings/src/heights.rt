@@ -25,20 +25,6 @@ pub fn is_near(cut: Cut, p: Vec3) -> bool
     (h <= cut.tolerance) & (h >= -cut.tolerance)
 }
 
-// p lies below the plane, beyond the tolerance.
-pub fn is_below(cut: Cut, p: Vec3) -> bool
-    ensures { λ r. ⌜ r ≡ Crossings.below cut p ⌝ }
-{
-    height(cut, p) < -cut.tolerance
-}
-
-// p lies above the plane, beyond the tolerance.
-pub fn is_above(cut: Cut, p: Vec3) -> bool
-    ensures { λ r. ⌜ r ≡ Crossings.above cut p ⌝ }
-{
-    height(cut, p) > cut.tolerance
-}
-
 // The signs of some points with those of p.
 fn add_sign(cut: Cut, p: Vec3, g: Signs) -> Signs
     ensures { λ r. ⌜ r ≡ signWith cut g p ⌝ }
@@ -86,7 +72,14 @@ fn add_face(
     g
 }
 
-// The plane may meet the cell.
+// The plane may meet a cell with these signs.
+fn meets(g: Signs) -> bool
+    ensures { λ r. ⌜ r ≡ mayMeet g ⌝ }
+{
+    g.near | (g.below & g.above)
+}
+
+// The plane may meet the cell: the faces are read up to the one that tells.
 pub fn may_meet(case: &[u8], points: usize, words: &[u32], s: Sizes, cut: Cut, cell: usize) -> bool
     requires { ⌜ Lent (now case) points s (now words) ⌝ }
     ensures { λ r. ⌜ r ≡ mayMeet (signsOf (bare (now (case .entry)) points s (now (words .entry))) cut cell) ⌝ }
@@ -101,7 +94,10 @@ pub fn may_meet(case: &[u8], points: usize, words: &[u32], s: Sizes, cut: Cut, c
     while j < n {
         let f = area::cell_face(words, s, cell, j);
         g = add_face(case, points, words, s, cut, f, g);
+        if meets(g) {
+            return true;
+        }
         j += 1;
     }
-    g.near | (g.below & g.above)
+    false
 }

@@ -34,6 +34,12 @@ pub struct Signs {
     pub above: bool,
 }
 
+// An end of a side with its height over the plane.
+pub struct End {
+    pub point: Vec3,
+    pub height: f64,
+}
+
 // Where a side meets the plane.
 pub enum Meeting {
     Point(Vec3),

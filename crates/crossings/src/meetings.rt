@@ -1,5 +1,6 @@
 // Where the sides of a cell's faces meet the plane.
 use crate::Cut;
+use crate::End;
 use crate::Meeting;
 use crate::heights;
 use crate::held;
@@ -13,23 +14,33 @@ ghost use lib.ListN.{length};
 ghost use Rattle.arith.specs.Lists.{any, all, after};
 ghost use Rattle.area.specs.Tables.{cellAt, faceAt};
 ghost use Rattle.crossings.specs.Crossings as Crossings;
-ghost use Rattle.crossings.specs.Crossings.{onPlane, foreign, addMeeting, addSide, addFace, meetings};
-ghost use Rattle.crossings.specs.Work.{heldIn, Holds, Listed, bare, Lent, Bounded, sideAt, meetingOf};
+ghost use Rattle.crossings.specs.Crossings.{onPlane, foreign, addMeeting, addFace, meetings};
+ghost use Rattle.crossings.specs.Work.{heldIn, Holds, Listed, bare, Lent, Bounded, Level, cornerOf, meetingOf};
+
+// a lies in the plane, within the tolerance.
+fn is_level(cut: Cut, a: End) -> bool
+    requires { ⌜ Level cut a ⌝ }
+    ensures { λ r. ⌜ r ≡ Crossings.near cut (a .point) ⌝ }
+{
+    (a.height <= cut.tolerance) & (a.height >= -cut.tolerance)
+}
 
 // a lies below the plane and b above it.
-fn rises(cut: Cut, a: Vec3, b: Vec3) -> bool
-    ensures { λ r. ⌜ r ≡ Crossings.rises cut a b ⌝ }
+fn rises(cut: Cut, a: End, b: End) -> bool
+    requires { ⌜ Level cut a × Level cut b ⌝ }
+    ensures { λ r. ⌜ r ≡ Crossings.rises cut (a .point) (b .point) ⌝ }
 {
-    if heights::is_below(cut, a) {
-        heights::is_above(cut, b)
+    if a.height < -cut.tolerance {
+        b.height > cut.tolerance
     } else {
         false
     }
 }
 
 // The ends of a side lie on both sides of the plane.
-fn parted(cut: Cut, a: Vec3, b: Vec3) -> bool
-    ensures { λ r. ⌜ r ≡ Crossings.parted cut a b ⌝ }
+fn parted(cut: Cut, a: End, b: End) -> bool
+    requires { ⌜ Level cut a × Level cut b ⌝ }
+    ensures { λ r. ⌜ r ≡ Crossings.parted cut (a .point) (b .point) ⌝ }
 {
     if rises(cut, a, b) {
         true
@@ -39,20 +50,21 @@ fn parted(cut: Cut, a: Vec3, b: Vec3) -> bool
 }
 
 // The point between a and b at which the side meets the plane.
-fn between(cut: Cut, a: Vec3, b: Vec3) -> Vec3
-    ensures { λ r. ⌜ r ≡ Crossings.between cut a b ⌝ }
+fn between(cut: Cut, a: End, b: End) -> Vec3
+    requires { ⌜ Level cut a × Level cut b ⌝ }
+    ensures { λ r. ⌜ r ≡ Crossings.between cut (a .point) (b .point) ⌝ }
 {
-    let da = heights::height(cut, a);
-    let db = heights::height(cut, b);
-    a.add(b.sub(a).scale(da / (da - db)))
+    a.point.add(b.point.sub(a.point).scale(a.height / (a.height - b.height)))
 }
 
 // Where the side from a to b meets the plane.
-fn meeting(cut: Cut, a: Vec3, b: Vec3) -> Meeting
-    ensures { λ r. ⌜ r ≡ meetingOf cut a b ⌝ }
+fn meeting(cut: Cut, a: End, b: End) -> Meeting
+    requires { ⌜ Level cut a × Level cut b ⌝ }
+    ensures { λ r. ⌜ r ≡ meetingOf cut (a .point) (b .point) ⌝ }
 {
-    if heights::is_near(cut, a) {
-        Meeting::Point(a)
+    let p = a.point;
+    if is_level(cut, a) {
+        Meeting::Point(p)
     } else if parted(cut, a, b) {
         Meeting::Point(between(cut, a, b))
     } else {
@@ -63,15 +75,15 @@ fn meeting(cut: Cut, a: Vec3, b: Vec3) -> Meeting
 // Adds to the n points where the side from a to b meets the plane; how many there are then.
 fn add_meeting(
     cut: Cut,
-    a: Vec3,
-    b: Vec3,
+    a: End,
+    b: End,
     x: &mut [f64],
     y: &mut [f64],
     z: &mut [f64],
     n: usize,
 ) -> usize
-    requires { ⌜ Holds (now x) (now y) (now z) (n + 1) ⌝ }
-    ensures { λ r. ⌜ Listed (addMeeting cut (heldIn (now (x .entry)) (now (y .entry)) (now (z .entry)) n) a b) (now (x .exit)) (now (y .exit)) (now (z .exit)) r (n + 1) ⌝ }
+    requires { ⌜ Level cut a × Level cut b × Holds (now x) (now y) (now z) (n + 1) ⌝ }
+    ensures { λ r. ⌜ Listed (addMeeting cut (heldIn (now (x .entry)) (now (y .entry)) (now (z .entry)) n) (a .point) (b .point)) (now (x .exit)) (now (y .exit)) (now (z .exit)) r (n + 1) ⌝ }
 {
     let m = meeting(cut, a, b);
     match m {
@@ -89,31 +101,18 @@ fn next_of(i: usize, n: usize) -> usize
     if j == n { 0 } else { j }
 }
 
-// The same for side k of the `count` of face f.
-fn add_side(
-    case: &[u8],
-    points: usize,
-    words: &[u32],
-    s: Sizes,
-    cut: Cut,
-    f: usize,
-    count: usize,
-    k: usize,
-    x: &mut [f64],
-    y: &mut [f64],
-    z: &mut [f64],
-    n: usize,
-) -> usize
-    requires { ⌜ Lent (now case) points s (now words) × Holds (now x) (now y) (now z) (n + 1) ⌝ }
-    requires { ⌜ (k < count) × (count ≡ length (faceAt (bare (now case) points s (now words) .faces) f .vertices)) ⌝ }
-    ensures { λ r. ⌜ Listed (addSide (bare (now (case .entry)) points s (now (words .entry))) cut (heldIn (now (x .entry)) (now (y .entry)) (now (z .entry)) n) (sideAt (faceAt (bare (now (case .entry)) points s (now (words .entry)) .faces) f .vertices) k)) (now (x .exit)) (now (y .exit)) (now (z .exit)) r (n + 1) ⌝ }
+// Corner k of face f with its height.
+fn end_at(case: &[u8], points: usize, words: &[u32], s: Sizes, cut: Cut, f: usize, k: usize) -> End
+    requires { ⌜ Lent (now case) points s (now words) ⌝ }
+    ensures { λ r. ⌜ (r .point ≡ cornerOf (bare (now (case .entry)) points s (now (words .entry))) f k) × Level cut r ⌝ }
 {
-    let a = heights::corner(case, points, words, s, f, k);
-    let b = heights::corner(case, points, words, s, f, next_of(k, count));
-    add_meeting(cut, a, b, x, y, z, n)
+    let point = heights::corner(case, points, words, s, f, k);
+    let height = heights::height(cut, point);
+    End { point, height }
 }
 
-// The same for all sides of face f.
+// Adds to the points where the sides of face f meet the plane; each corner is read once, as the
+// end of one side and the start of the next.
 fn add_face(
     case: &[u8],
     points: usize,
@@ -132,9 +131,12 @@ fn add_face(
 {
     let count = area::vertex_count(words, s, f);
     let mut n = from;
+    let mut a = end_at(case, points, words, s, cut, f, 0);
     let mut k = 0;
     while k < count {
-        n = add_side(case, points, words, s, cut, f, count, k, x, y, z, n);
+        let b = end_at(case, points, words, s, cut, f, next_of(k, count));
+        n = add_meeting(cut, a, b, x, y, z, n);
+        a = b;
         k += 1;
     }
     n

@@ -1,50 +1,58 @@
-use Prim.Native.Nat.{_≤_, _-_, _+_}
+use Prim.Native.Nat.{_≤_, _<_, _-_, _+_}
 use native.Mathlib.Omega.{arith}
-use mathlib.Core.Path.{_≡_, refl}
+use mathlib.Core.Path.{_≡_, refl, ap, _∙_}
 use mathlib.Core.List.{[]}
 use lib.ListN.{length, drop}
 use Rattle.arith.specs.Lists.{foldl, sides}
 use Rattle.area.specs.Tables.{faceAt}
 use Rattle.crossings.specs.Crossings.{addSide, addFace}
-use Rattle.crossings.specs.Work.{bare, heldIn}
+use Rattle.crossings.specs.Work.{bare, heldIn, cornerOf, Level}
 use Rattle.crossings.proofs.Turns.{fold-done}
-use Rattle.crossings.proofs.MeshLaws.{sides-left, sides-past, count-vertices, few-vertices, listed-turn}
+use Rattle.crossings.proofs.MeshLaws.{sides-left, sides-past, count-vertices, few-vertices, side-added, after-within, listed-as, listed-turn}
 use borrow.Author.Needs.{needs}
 use Rattle.crossings.proofs.meetings.add_face.Statement.{statement}
 use Rattle.crossings.proofs.meetings.add_face.Tie as tie
 
 abbrev Inv-loop : tie.InvT-loop
-Inv-loop case points words s cut f x₀ y₀ z₀ from count n₀ k₀ x y z n k = (k ≤ count) × (n ≤ from + k) × (length x ≡ length x₀) × (length y ≡ length y₀) × (length z ≡ length z₀) × (foldl (addSide (bare case points s words) cut) (heldIn x y z n) (drop k (sides (faceAt (bare case points s words .faces) f .vertices))) ≡ addFace (bare case points s words) cut (heldIn x₀ y₀ z₀ from) f)
+Inv-loop case points words s cut f x₀ y₀ z₀ from count n₀ a₀ k₀ x y z n a k = (k ≤ count) × (n ≤ from + k) × (length x ≡ length x₀) × (length y ≡ length y₀) × (length z ≡ length z₀) × Level cut a × ((k < count) → a .point ≡ cornerOf (bare case points s words) f k) × (foldl (addSide (bare case points s words) cut) (heldIn x y z n) (drop k (sides (faceAt (bare case points s words .faces) f .vertices))) ≡ addFace (bare case points s words) cut (heldIn x₀ y₀ z₀ from) f)
 
 abbrev μ-loop : tie.MeasureT-loop
-μ-loop case points words s cut f x₀ y₀ z₀ from count n₀ k₀ x y z n k = count - k
+μ-loop case points words s cut f x₀ y₀ z₀ from count n₀ a₀ k₀ x y z n a k = count - k
 
 loop-holds : tie.Need-loop-holds Inv-loop μ-loop
 unfolding addFace
-loop-holds c = (search needs, search needs, refl, refl, refl, refl)
+loop-holds c = (search needs, search needs, refl, refl, refl, c .end-at .ensures .1, λ h. c .end-at .ensures .0, refl)
 
-add-side-requires : tie.Need-add-side-requires Inv-loop μ-loop
-add-side-requires c κs =
-    let a = c .before .before .before .before .before .before .before .before .before .before .before .args in
-    let p = c .before .before .before .before .before .before .before .before .before .before .before .pre in
-    let i = c .before .before .before .before .loop .inv in
+add-meeting-requires : tie.Need-add-meeting-requires Inv-loop μ-loop
+add-meeting-requires c κs =
+    let a = c .before .before .before .before .before .before .before .before .before .before .before .before .before .before .args in
+    let p = c .before .before .before .before .before .before .before .before .before .before .before .before .before .before .pre in
+    let i = c .before .before .before .before .before .before .loop .inv in
     let h = p .0 .1 in
-    let few = few-vertices (a .case .now) (a .points) (a .s) (a .words .now) (a .f) (c .before .before .before .before .before .vertex-count .result) (c .before .before .before .before .before .vertex-count .ensures .0 []) (p .1) in
-    ((p .0 .0, record { in-x = omega arith; in-y = omega arith; in-z = omega arith }), (c .before .before .before .loop-test .taken, count-vertices (a .case .now) (a .points) (a .s) (a .words .now) (a .f) (c .before .before .before .before .before .vertex-count .result) (c .before .before .before .before .before .vertex-count .ensures .0 [])))
+    let few = few-vertices (a .case .now) (a .points) (a .s) (a .words .now) (a .f) (c .before .before .before .before .before .before .before .before .vertex-count .result) (c .before .before .before .before .before .before .before .before .vertex-count .ensures .0 []) (p .1) in
+    let test = c .before .before .before .before .before .loop-test .taken in
+    (i .5, c .before .before .before .end-at2 .ensures .1, record { in-x = omega arith; in-y = omega arith; in-z = omega arith })
 
 loop-again : tie.Need-loop-again Inv-loop μ-loop
 loop-again c =
-    let a = c .before .before .before .before .before .before .before .before .before .before .before .before .before .before .before .before .before .before .args in
-    let i = c .before .before .before .before .before .before .before .before .before .before .before .loop .inv in
-    let g = sides-left (a .case .now) (a .points) (a .s) (a .words .now) (a .f) (c .before .before .before .before .before .before .before .before .before .before .before .before .vertex-count .result) (c .before .before .before .before .before .before .before .before .before .before .before .before .vertex-count .ensures .0 []) (c .before .before .before .before .before .before .before .before .before .before .before .loop .k) (c .before .before .before .before .before .before .before .before .before .before .loop-test .taken) in
-    (omega arith, omega (arith, c .before .before .before .before .before .before .add-side .ensures .few), search needs, search needs, search needs, listed-turn g _ _ _ (i .5) (c .before .before .before .before .before .before .add-side .ensures))
+    let a = c .before .before .before .before .before .before .before .before .before .before .before .before .before .before .before .before .before .before .before .before .before .args in
+    let i = c .before .before .before .before .before .before .before .before .before .before .before .before .before .loop .inv in
+    let k = c .before .before .before .before .before .before .before .before .before .before .before .before .before .loop .k in
+    let n = c .before .before .before .before .before .before .before .before .before .before .before .before .before .before .before .vertex-count .result in
+    let e = c .before .before .before .before .before .before .before .before .before .before .before .before .before .before .before .vertex-count .ensures .0 [] in
+    let t = c .before .before .before .before .before .before .before .before .before .before .before .before .loop-test .taken in
+    let next = c .before .before .before .before .before .before .before .before .before .before .before .next-of .ensures in
+    let b = c .before .before .before .before .before .before .before .before .before .before .end-at2 .ensures in
+    let added = c .before .before .before .before .before .before .add-meeting .ensures in
+    let g = sides-left (a .case .now) (a .points) (a .s) (a .words .now) (a .f) n e k t in
+    (omega arith, omega (arith, added .few), search needs, search needs, search needs, b .1, (λ h. b .0 ∙ ap (cornerOf _ (a .f)) (next ∙ after-within n k h)), listed-turn g _ _ _ (i .7) (listed-as (side-added _ _ _ _ _ _ _ _ _ (i .6 t) (b .0) next (count-vertices (a .case .now) (a .points) (a .s) (a .words .now) (a .f) n e)) added))
 
 returns : tie.Need-returns Inv-loop μ-loop
 returns c =
-    let a = c .before .before .before .before .before .before .before .before .args in
+    let a = c .before .before .before .before .before .before .before .before .before .args in
     let i = c .before .loop .inv in
-    let few = few-vertices (a .case .now) (a .points) (a .s) (a .words .now) (a .f) (c .before .before .vertex-count .result) (c .before .before .vertex-count .ensures .0 []) (c .before .before .before .before .before .before .before .before .pre .1) in
-    record { list = fold-done (sides-past (a .case .now) (a .points) (a .s) (a .words .now) (a .f) (c .before .before .vertex-count .result) (c .before .before .vertex-count .ensures .0 []) (c .before .loop .k) (c .loop-test .left)) _ _ (i .5); few = omega arith }
+    let few = few-vertices (a .case .now) (a .points) (a .s) (a .words .now) (a .f) (c .before .before .before .vertex-count .result) (c .before .before .before .vertex-count .ensures .0 []) (c .before .before .before .before .before .before .before .before .before .pre .1) in
+    record { list = fold-done (sides-past (a .case .now) (a .points) (a .s) (a .words .now) (a .f) (c .before .before .before .vertex-count .result) (c .before .before .before .vertex-count .ensures .0 []) (c .before .loop .k) (c .loop-test .left)) _ _ (i .7); few = omega arith }
 
 pub add-face-spec : {M : Type 1} → statement M
 add-face-spec =
@@ -53,8 +61,11 @@ add-face-spec =
     Inv-loop
     μ-loop
     (λ c κs. search needs)
+    (λ c κs. search needs)
     loop-holds
-    add-side-requires
+    (λ c κs. search needs)
+    (λ c κs. search needs)
+    add-meeting-requires
     (λ c. search needs)
     (λ c. search needs)
     loop-again

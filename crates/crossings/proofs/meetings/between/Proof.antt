@@ -1,3 +1,4 @@
+use mathlib.Core.Path.{sym}
 use Rattle.crossings.specs.Crossings.{between}
 use borrow.Author.Needs.{needs}
 use Rattle.crossings.proofs.meetings.between.Statement.{statement}
@@ -5,14 +6,14 @@ use Rattle.crossings.proofs.meetings.between.Tie as tie
 
 returns : tie.Need-returns
 unfolding between
-returns c = rw (c .add .ensures, c .before .scale .ensures, c .before .before .sub .ensures, c .before .before .before .height2 .ensures, c .before .before .before .before .height .ensures)
+returns c =
+    let p = c .before .before .before .before .before .before .pre in
+    rw (c .add .ensures, c .before .scale .ensures, c .before .before .before .before .before .sub .ensures, p .0 .level, p .1 .level)
 
 pub between-spec : {M : Type 1} → statement M
 between-spec =
     tie.close
     (tie.spec
-    (λ c κs. search needs)
-    (λ c κs. search needs)
     (λ c κs. search needs)
     (λ c κs. search needs)
     (λ c κs. search needs)

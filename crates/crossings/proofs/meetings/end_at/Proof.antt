@@ -1,0 +1,15 @@
+use Rattle.crossings.specs.Work.{Level}
+use borrow.Author.Needs.{needs}
+use Rattle.crossings.proofs.meetings.end_at.Statement.{statement}
+use Rattle.crossings.proofs.meetings.end_at.Tie as tie
+
+returns : tie.Need-returns
+returns c = (c .before .corner .ensures, record { level = c .height .ensures })
+
+pub end-at-spec : {M : Type 1} → statement M
+end-at-spec =
+    tie.close
+    (tie.spec
+    (λ c κs. search needs)
+    (λ c κs. search needs)
+    returns)
