@@ -97,8 +97,8 @@ mayMeet g = g .near || (g .below && g .above)
 -- ---- where one side meets the plane: at one point at most
 
 -- an end's height is that of its point
-pub record Level (c : Cut) (a : End) : Type 0 where
-  pub level : a .height ≡ height c (a .point)
+pub record TrueHeight (c : Cut) (a : End) : Type 0 where
+  pub same : a .height ≡ height c (a .point)
 
 unfoldable pub meetingOf : Cut → Vec3 → Vec3 → Meeting
 meetingOf c a b = cond (near c a) (Point a) (cond (parted c a b) (Point (between c a b)) None)

@@ -15,11 +15,11 @@ ghost use Rattle.arith.specs.Lists.{any, all, after};
 ghost use Rattle.area.specs.Tables.{cellAt, faceAt};
 ghost use Rattle.crossings.specs.Crossings as Crossings;
 ghost use Rattle.crossings.specs.Crossings.{onPlane, foreign, addMeeting, addFace, meetings};
-ghost use Rattle.crossings.specs.Work.{heldIn, Holds, Listed, bare, Lent, Bounded, Level, cornerOf, meetingOf};
+ghost use Rattle.crossings.specs.Work.{heldIn, Holds, Listed, bare, Lent, Bounded, TrueHeight, cornerOf, meetingOf};
 
 // a lies in the plane, within the tolerance.
-fn is_level(cut: Cut, a: End) -> bool
-    requires { ⌜ Level cut a ⌝ }
+fn is_near_end(cut: Cut, a: End) -> bool
+    requires { ⌜ TrueHeight cut a ⌝ }
     ensures { λ r. ⌜ r ≡ Crossings.near cut (a .point) ⌝ }
 {
     (a.height <= cut.tolerance) & (a.height >= -cut.tolerance)
@@ -27,7 +27,7 @@ fn is_level(cut: Cut, a: End) -> bool
 
 // a lies below the plane and b above it.
 fn rises(cut: Cut, a: End, b: End) -> bool
-    requires { ⌜ Level cut a × Level cut b ⌝ }
+    requires { ⌜ TrueHeight cut a × TrueHeight cut b ⌝ }
     ensures { λ r. ⌜ r ≡ Crossings.rises cut (a .point) (b .point) ⌝ }
 {
     if a.height < -cut.tolerance {
@@ -39,7 +39,7 @@ fn rises(cut: Cut, a: End, b: End) -> bool
 
 // The ends of a side lie on both sides of the plane.
 fn parted(cut: Cut, a: End, b: End) -> bool
-    requires { ⌜ Level cut a × Level cut b ⌝ }
+    requires { ⌜ TrueHeight cut a × TrueHeight cut b ⌝ }
     ensures { λ r. ⌜ r ≡ Crossings.parted cut (a .point) (b .point) ⌝ }
 {
     if rises(cut, a, b) {
@@ -51,7 +51,7 @@ fn parted(cut: Cut, a: End, b: End) -> bool
 
 // The point between a and b at which the side meets the plane.
 fn between(cut: Cut, a: End, b: End) -> Vec3
-    requires { ⌜ Level cut a × Level cut b ⌝ }
+    requires { ⌜ TrueHeight cut a × TrueHeight cut b ⌝ }
     ensures { λ r. ⌜ r ≡ Crossings.between cut (a .point) (b .point) ⌝ }
 {
     a.point.add(b.point.sub(a.point).scale(a.height / (a.height - b.height)))
@@ -59,11 +59,11 @@ fn between(cut: Cut, a: End, b: End) -> Vec3
 
 // Where the side from a to b meets the plane.
 fn meeting(cut: Cut, a: End, b: End) -> Meeting
-    requires { ⌜ Level cut a × Level cut b ⌝ }
+    requires { ⌜ TrueHeight cut a × TrueHeight cut b ⌝ }
     ensures { λ r. ⌜ r ≡ meetingOf cut (a .point) (b .point) ⌝ }
 {
     let p = a.point;
-    if is_level(cut, a) {
+    if is_near_end(cut, a) {
         Meeting::Point(p)
     } else if parted(cut, a, b) {
         Meeting::Point(between(cut, a, b))
@@ -82,7 +82,7 @@ fn add_meeting(
     z: &mut [f64],
     n: usize,
 ) -> usize
-    requires { ⌜ Level cut a × Level cut b × Holds (now x) (now y) (now z) (n + 1) ⌝ }
+    requires { ⌜ TrueHeight cut a × TrueHeight cut b × Holds (now x) (now y) (now z) (n + 1) ⌝ }
     ensures { λ r. ⌜ Listed (addMeeting cut (heldIn (now (x .entry)) (now (y .entry)) (now (z .entry)) n) (a .point) (b .point)) (now (x .exit)) (now (y .exit)) (now (z .exit)) r (n + 1) ⌝ }
 {
     let m = meeting(cut, a, b);
@@ -104,7 +104,7 @@ fn next_of(i: usize, n: usize) -> usize
 // Corner k of face f with its height.
 fn end_at(case: &[u8], points: usize, words: &[u32], s: Sizes, cut: Cut, f: usize, k: usize) -> End
     requires { ⌜ Lent (now case) points s (now words) ⌝ }
-    ensures { λ r. ⌜ (r .point ≡ cornerOf (bare (now (case .entry)) points s (now (words .entry))) f k) × Level cut r ⌝ }
+    ensures { λ r. ⌜ (r .point ≡ cornerOf (bare (now (case .entry)) points s (now (words .entry))) f k) × TrueHeight cut r ⌝ }
 {
     let point = heights::corner(case, points, words, s, f, k);
     let height = heights::height(cut, point);

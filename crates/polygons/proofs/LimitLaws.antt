@@ -19,7 +19,7 @@ use Rattle.inside.specs.Vertices.{pairFrom, pairsFrom}
 use Rattle.inside.specs.Contains.{contains}
 use Rattle.inside.specs.Extent.{Outside, limitsFrom, misses}
 use Rattle.inside.proofs.LimitLaws.{missed}
-use Rattle.polygons.specs.Layout.{wordsAt, floatsAt, countIn, polygonIn, polygonsIn, Kept, Fenced, Limited}
+use Rattle.polygons.specs.Layout.{wordsAt, floatsAt, countIn, polygonIn, polygonsIn, Kept, LimitStored, Limited}
 
 -- ---- a cell
 
@@ -69,8 +69,8 @@ module _ (s : Sizes) (w : List ℕ) (f : List Float) (i : ℕ) (l : Limits) (roo
       let a : getD stored (floatsAt s i + 48) nan ≡ l .low = subst (λ (m : ℕ). getD stored m nan ≡ l .low) z (at-limit 0 (omega arith)) in
       rw (a, at-limit 1 (omega arith), at-limit 2 (omega arith))
 
-  pub fenced : (at n : ℕ) (f′ : List Float) → at ≡ floatsAt s i → n ≡ countIn s w i → Outside (pairsFrom f at n) l → f′ ≡ puts f (at + 48) vs → Fenced s w f f′ i
-  fenced at n f′ ea en o e =
+  pub limit-stored : (at n : ℕ) (f′ : List Float) → at ≡ floatsAt s i → n ≡ countIn s w i → Outside (pairsFrom f at n) l → f′ ≡ puts f (at + 48) vs → LimitStored s w f f′ i
+  limit-stored at n f′ ea en o e =
       rw (e, ea)
       (record {
         here = rw (limits-here, polygon-kept i) (unfold polygonIn in (rw (ea, en) at o));
@@ -96,7 +96,7 @@ pub limiting-start : (s : Sizes) (w : List ℕ) (f : List Float) → Limiting s 
 limiting-start s w f = record { within = omega arith; long = refl; done = λ j h. absurd (omega arith); polygons = λ j. refl; mesh = refl }
 
 module _ (s : Sizes) (w : List ℕ) (f₀ f : List Float) (i : ℕ) (g : Limiting s w f₀ f i) where
-  pub limiting-turn : (f′ : List Float) → i < s .cells → length f′ ≡ length f → Fenced s w f f′ i → Limiting s w f₀ f′ (i + 1)
+  pub limiting-turn : (f′ : List Float) → i < s .cells → length f′ ≡ length f → LimitStored s w f f′ i → Limiting s w f₀ f′ (i + 1)
   limiting-turn f′ h e t =
       record {
         within = omega arith;

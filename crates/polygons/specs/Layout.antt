@@ -103,7 +103,7 @@ pub record Listed (g : Grid) (s : Sizes) (w w′ : List ℕ) (f : List Float) (i
   pub polygons : polygonsIn s w′ f ≡ polygonsIn s w f
 
 -- cell i has its limits; no polygon, no other cell's limits and nothing of the mesh is changed
-pub record Fenced (s : Sizes) (w : List ℕ) (f f′ : List Float) (i : ℕ) : Type 0 where
+pub record LimitStored (s : Sizes) (w : List ℕ) (f f′ : List Float) (i : ℕ) : Type 0 where
   pub here : Outside (polygonIn s w f′ i) (limitsFrom f′ (floatsAt s i + 48))
   pub polygons : (j : ℕ) → polygonIn s w f′ j ≡ polygonIn s w f j
   pub others : (j : ℕ) → j < i → limitsFrom f′ (floatsAt s j + 48) ≡ limitsFrom f (floatsAt s j + 48)

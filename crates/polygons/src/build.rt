@@ -23,7 +23,7 @@ ghost use Rattle.polygons.specs.Corners.{turnsAbout, cornersOf, polygonO
 ghost use Rattle.polygons.specs.Field.{Few, polygonsOf};
 ghost use Rattle.polygons.specs.Layout as Layout;
 ghost use Rattle.inside.specs.Vertices.{pairsFrom};
-ghost use Rattle.polygons.specs.Layout.{cornerIn, cornersIn, polygonsIn, AnglesAbout, Placed, Stored, Kept, Fenced, Limited, Traceable};
+ghost use Rattle.polygons.specs.Layout.{cornerIn, cornersIn, polygonsIn, AnglesAbout, Placed, Stored, Kept, LimitStored, Limited, Traceable};
 
 // The quarters and slopes of the first n points about a centre.
 fn angles_about(
@@ -176,7 +176,7 @@ fn put_limits(floats: &mut [f64], at: usize, l: Limits)
 // Stores the limits of cell i's polygon with it.
 fn limit_cell(words: &[u32], floats: &mut [f64], s: Sizes, i: usize)
     requires { ⌜ LentWords s (now words) × LentFloats s (now floats) × (i < s .cells) ⌝ }
-    ensures { λ _. ⌜ Fenced s (now (words .entry)) (now (floats .entry)) (now (floats .exit)) i ⌝ }
+    ensures { λ _. ⌜ LimitStored s (now (words .entry)) (now (floats .entry)) (now (floats .exit)) i ⌝ }
 {
     let at = locate::floats_at(s, i);
     let l = extent::limits_of(floats, at, locate::count_in(words, s, i));

@@ -6,7 +6,7 @@ use lib.ListN.{length, drop}
 use Rattle.arith.specs.Lists.{foldl, sides}
 use Rattle.area.specs.Tables.{faceAt}
 use Rattle.crossings.specs.Crossings.{addSide, addFace}
-use Rattle.crossings.specs.Work.{bare, heldIn, cornerOf, Level}
+use Rattle.crossings.specs.Work.{bare, heldIn, cornerOf, TrueHeight}
 use Rattle.crossings.proofs.Turns.{fold-done}
 use Rattle.crossings.proofs.MeshLaws.{sides-left, sides-past, count-vertices, few-vertices, side-added, after-within, listed-as, listed-turn}
 use borrow.Author.Needs.{needs}
@@ -14,7 +14,7 @@ use Rattle.crossings.proofs.meetings.add_face.Statement.{statement}
 use Rattle.crossings.proofs.meetings.add_face.Tie as tie
 
 abbrev Inv-loop : tie.InvT-loop
-Inv-loop case points words s cut f x₀ y₀ z₀ from count n₀ a₀ k₀ x y z n a k = (k ≤ count) × (n ≤ from + k) × (length x ≡ length x₀) × (length y ≡ length y₀) × (length z ≡ length z₀) × Level cut a × ((k < count) → a .point ≡ cornerOf (bare case points s words) f k) × (foldl (addSide (bare case points s words) cut) (heldIn x y z n) (drop k (sides (faceAt (bare case points s words .faces) f .vertices))) ≡ addFace (bare case points s words) cut (heldIn x₀ y₀ z₀ from) f)
+Inv-loop case points words s cut f x₀ y₀ z₀ from count n₀ a₀ k₀ x y z n a k = (k ≤ count) × (n ≤ from + k) × (length x ≡ length x₀) × (length y ≡ length y₀) × (length z ≡ length z₀) × TrueHeight cut a × ((k < count) → a .point ≡ cornerOf (bare case points s words) f k) × (foldl (addSide (bare case points s words) cut) (heldIn x y z n) (drop k (sides (faceAt (bare case points s words .faces) f .vertices))) ≡ addFace (bare case points s words) cut (heldIn x₀ y₀ z₀ from) f)
 
 abbrev μ-loop : tie.MeasureT-loop
 μ-loop case points words s cut f x₀ y₀ z₀ from count n₀ a₀ k₀ x y z n a k = count - k

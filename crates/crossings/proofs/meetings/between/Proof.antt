@@ -8,7 +8,7 @@ returns : tie.Need-returns
 unfolding between
 returns c =
     let p = c .before .before .before .before .before .before .pre in
-    rw (c .add .ensures, c .before .scale .ensures, c .before .before .before .before .before .sub .ensures, p .0 .level, p .1 .level)
+    rw (c .add .ensures, c .before .scale .ensures, c .before .before .before .before .before .sub .ensures, p .0 .same, p .1 .same)
 
 pub between-spec : {M : Type 1} → statement M
 between-spec =

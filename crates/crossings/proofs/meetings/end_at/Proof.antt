@@ -1,10 +1,10 @@
-use Rattle.crossings.specs.Work.{Level}
+use Rattle.crossings.specs.Work.{TrueHeight}
 use borrow.Author.Needs.{needs}
 use Rattle.crossings.proofs.meetings.end_at.Statement.{statement}
 use Rattle.crossings.proofs.meetings.end_at.Tie as tie
 
 returns : tie.Need-returns
-returns c = (c .before .corner .ensures, record { level = c .height .ensures })
+returns c = (c .before .corner .ensures, record { same = c .height .ensures })
 
 pub end-at-spec : {M : Type 1} → statement M
 end-at-spec =

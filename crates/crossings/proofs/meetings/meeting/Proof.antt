@@ -6,15 +6,15 @@ use Rattle.crossings.proofs.meetings.meeting.Tie as tie
 
 returns : tie.Need-returns
 unfolding meetingOf
-returns c = rw (sym (c .before .is-level .ensures) ∙ c .if1 .taken)
+returns c = rw (sym (c .before .is-near-end .ensures) ∙ c .if1 .taken)
 
 returns-2 : tie.Need-returns-2
 unfolding meetingOf
-returns-2 c = rw (sym (c .before .before .before .before .is-level .ensures) ∙ c .before .before .before .if1 .left, sym (c .before .before .parted .ensures) ∙ c .before .if2 .taken, c .between .ensures)
+returns-2 c = rw (sym (c .before .before .before .before .is-near-end .ensures) ∙ c .before .before .before .if1 .left, sym (c .before .before .parted .ensures) ∙ c .before .if2 .taken, c .between .ensures)
 
 returns-3 : tie.Need-returns-3
 unfolding meetingOf
-returns-3 c = rw (sym (c .before .before .before .is-level .ensures) ∙ c .before .before .if1 .left, sym (c .before .parted .ensures) ∙ c .if2 .left)
+returns-3 c = rw (sym (c .before .before .before .is-near-end .ensures) ∙ c .before .before .if1 .left, sym (c .before .parted .ensures) ∙ c .if2 .left)
 
 pub meeting-spec : {M : Type 1} → statement M
 meeting-spec =

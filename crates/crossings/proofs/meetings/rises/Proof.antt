@@ -8,13 +8,13 @@ returns : tie.Need-returns
 unfolding rises below above
 returns c =
     let p = c .before .before .before .before .before .pre in
-    rw (sym (p .0 .level), sym (p .1 .level), c .before .before .if1 .taken)
+    rw (sym (p .0 .same), sym (p .1 .same), c .before .before .if1 .taken)
 
 returns-2 : tie.Need-returns-2
 unfolding rises below above
 returns-2 c =
     let p = c .before .before .before .pre in
-    rw (sym (p .0 .level), c .if1 .left)
+    rw (sym (p .0 .same), c .if1 .left)
 
 pub rises-spec : {M : Type 1} → statement M
 rises-spec = tie.close (tie.spec returns returns-2)

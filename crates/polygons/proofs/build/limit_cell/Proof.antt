@@ -1,5 +1,5 @@
 use native.Mathlib.Omega.{arith}
-use Rattle.polygons.proofs.LimitLaws.{fenced}
+use Rattle.polygons.proofs.LimitLaws.{limit-stored}
 use borrow.Author.Needs.{needs}
 use Rattle.polygons.proofs.build.limit_cell.Statement.{statement}
 use Rattle.polygons.proofs.build.limit_cell.Tie as tie
@@ -32,7 +32,7 @@ returns : tie.Need-returns
 returns c =
     let p = c .before .before .before .before .before .before .before .before .before .before .pre in
     let long = p .1 .long in
-    fenced _ _ _ _ _ (omega arith) _ _ _ (c .before .before .before .before .before .before .before .floats-at .ensures) (c .before .before .before .before .before .count-in .ensures .0) (c .before .before .before .before .limits-of .ensures) (c .before .before .put-limits .ensures)
+    limit-stored _ _ _ _ _ (omega arith) _ _ _ (c .before .before .before .before .before .before .before .floats-at .ensures) (c .before .before .before .before .before .count-in .ensures .0) (c .before .before .before .before .limits-of .ensures) (c .before .before .put-limits .ensures)
 
 pub limit-cell-spec : {M : Type 1} → statement M
 limit-cell-spec =
