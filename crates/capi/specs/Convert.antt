@@ -4,7 +4,7 @@ use Rattle.arith.specs.declared.Vec3.{Vec3}
 use Rattle.velocity.specs.declared.StreamlineOptions.{StreamlineOptions}
 use Rattle.lines.specs.declared.StreamlineDirection.{StreamlineDirection}
 use Rattle.lines.specs.declared.StreamlineDirection.the-variants.{Forward, Backward}
-use Rattle.crossings.specs.declared.Plane.{Plane}
+use Rattle.cutting_plane.specs.declared.Plane.{Plane}
 use Rattle.capi.specs.declared.Vector.{Vector}
 use Rattle.capi.specs.declared.SectionPlane.{SectionPlane}
 use Rattle.capi.specs.declared.LineOptions.{LineOptions}

@@ -3,7 +3,7 @@ use crate::LineOptions;
 use crate::SectionPlane;
 use crate::Vector;
 use arith::Vec3;
-use crossings::Plane;
+use cutting_plane::Plane;
 use job::Outcome;
 use lines::StreamlineDirection;
 use velocity::StreamlineOptions;

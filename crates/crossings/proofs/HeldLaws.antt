@@ -11,7 +11,7 @@ use Rattle.arith.specs.Lists.{foldl, any, addNew, Side, windows}
 use Rattle.arith.specs.Records.{tab}
 use Rattle.arith.specs.Vec.{vec}
 use Rattle.arith.specs.declared.Vec3.{Vec3}
-use Rattle.crossings.proofs.Turns.{Here, Past, window-turn}
+use Rattle.cutting_plane.proofs.Turns.{Here, Past, window-turn}
 use Rattle.arith.proofs.RecordLaws.{length-tab, getD-tab, drop-tab, tab-next, tab-same}
 use Rattle.crossings.specs.Work.{pointIn, heldIn, Holds, Stored, Listed}
 

@@ -1,7 +1,4 @@
-pub mod Turns
 pub mod HeldLaws
 pub mod PlaneLaws
-pub mod MeshLaws
-pub mod ReachLaws
+pub mod SideLaws
 pub mod CloseLaws
-pub mod SignLaws

@@ -10,10 +10,11 @@ use borrow.Author.Tests.{ltb-true, ltb-false, le-ltb, eqb-true}
 use Rattle.arith.specs.F64.{abs}
 use Rattle.arith.specs.Lists.{addNew}
 use Rattle.arith.specs.declared.Vec3.{Vec3}
-use Rattle.crossings.specs.declared.Cut.{Cut}
+use Rattle.cutting_plane.specs.declared.Cut.{Cut}
 use Rattle.crossings.specs.declared.Meeting.{Meeting}
 use Rattle.crossings.specs.declared.Meeting.the-variants.{Point, None}
-use Rattle.crossings.specs.Crossings.{height, near, below, above, rises, parted, close, between, addEnd, addBetween, addMeeting}
+use Rattle.cutting_plane.specs.Cut.{height, near, below, above}
+use Rattle.crossings.specs.Crossings.{rises, parted, close, between, addEnd, addBetween, addMeeting}
 use Rattle.crossings.specs.Work.{meetingOf}
 
 or-cases : (a b : Bool) → (a || b) ≡ true → a ≡ false → b ≡ true

@@ -1,6 +1,6 @@
 // Points held in three slices, one for each coordinate.
-use crate::Cut;
 use arith::Vec3;
+use cutting_plane::Cut;
 ghost use mathlib.Core.Path.{_≡_};
 ghost use Prim.Native.Nat.{_+_};
 ghost use lib.ListN.{length};

@@ -1,26 +1,28 @@
 // Where the sides of a cell's faces meet the plane.
-use crate::Cut;
 use crate::End;
 use crate::Meeting;
-use crate::heights;
 use crate::held;
 use area::Sizes;
 use arith::Found;
 use arith::Vec3;
+use cutting_plane::Cut;
+use cutting_plane::heights;
 ghost use mathlib.Core.Path.{_≡_};
 ghost use mathlib.Core.List.{[]};
 ghost use Prim.Native.Nat.{_+_, _*_, _≤_, _<_};
 ghost use lib.ListN.{length};
 ghost use Rattle.arith.specs.Lists.{any, all, after};
 ghost use Rattle.area.specs.Tables.{cellAt, faceAt};
+ghost use Rattle.cutting_plane.specs.Cut.{near};
 ghost use Rattle.crossings.specs.Crossings as Crossings;
 ghost use Rattle.crossings.specs.Crossings.{onPlane, foreign, addMeeting, addFace, meetings};
-ghost use Rattle.crossings.specs.Work.{heldIn, Holds, Listed, bare, Lent, Bounded, TrueHeight, cornerOf, meetingOf};
+ghost use Rattle.crossings.specs.Work.{heldIn, Holds, Listed, Bounded, TrueHeight, meetingOf};
+ghost use Rattle.cutting_plane.specs.Work.{bare, Lent, cornerOf};
 
 // a lies in the plane, within the tolerance.
 fn is_near_end(cut: Cut, a: End) -> bool
     requires { ⌜ TrueHeight cut a ⌝ }
-    ensures { λ r. ⌜ r ≡ Crossings.near cut (a .point) ⌝ }
+    ensures { λ r. ⌜ r ≡ near cut (a .point) ⌝ }
 {
     (a.height <= cut.tolerance) & (a.height >= -cut.tolerance)
 }

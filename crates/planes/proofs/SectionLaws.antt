@@ -15,8 +15,8 @@ use Rattle.reading.specs.Result.{Result, refused, fine}
 use Rattle.reading.specs.Asks.{run, reads}
 use Rattle.reading.specs.Marks.{markAll}
 use Rattle.area.specs.Tables.{Mesh}
-use Rattle.crossings.specs.declared.Cut.{Cut}
-use Rattle.crossings.specs.declared.Plane.{Plane}
+use Rattle.cutting_plane.specs.declared.Cut.{Cut}
+use Rattle.cutting_plane.specs.declared.Plane.{Plane}
 use Rattle.sections.specs.Intersect.{PlaneCell, intersect}
 use Rattle.planes.specs.declared.Answered.{Answered}
 use Rattle.planes.specs.declared.Answered.the-variants.{Words, Refused}

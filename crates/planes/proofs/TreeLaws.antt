@@ -20,11 +20,11 @@ use Rattle.reading.specs.Asks.{Asks, give, ask, run, reads, _>>=_}
 use Rattle.reading.specs.Marks.{markAll}
 use Rattle.reading.proofs.AsksLaws.{run-bind, reads-bind}
 use Rattle.area.specs.Tables.{Mesh}
-use Rattle.crossings.specs.declared.Cut.{Cut}
-use Rattle.crossings.specs.declared.Plane.{Plane}
-use Rattle.crossings.specs.Crossings.{cutOf}
+use Rattle.cutting_plane.specs.declared.Cut.{Cut}
+use Rattle.cutting_plane.specs.declared.Plane.{Plane}
+use Rattle.cutting_plane.specs.Cut.{cutOf}
 use Rattle.sections.specs.Intersect.{PlaneCell, intersect}
-use Rattle.crossings.specs.Plane.{normalOf}
+use Rattle.cutting_plane.specs.Plane.{normalOf}
 use Rattle.planes.specs.declared.Answered.{Answered}
 use Rattle.planes.specs.declared.Answered.the-variants.{Words, Refused}
 use Rattle.samples.specs.declared.Sums.{Sums}

@@ -8,8 +8,8 @@ use Rattle.reading.specs.Result as result
 use Rattle.reading.specs.Result.{Result, fine}
 use Rattle.reading.specs.Asks.{Asks, give, _>>=_}
 use Rattle.area.specs.Tables.{Mesh}
-use Rattle.crossings.specs.declared.Plane.{Plane}
-use Rattle.crossings.specs.Plane.{normalOf}
+use Rattle.cutting_plane.specs.declared.Plane.{Plane}
+use Rattle.cutting_plane.specs.Plane.{normalOf}
 use Rattle.sections.specs.Intersect.{intersect}
 use Rattle.samples.specs.declared.Probed.{Probed}
 use Rattle.samples.specs.declared.Probed.the-variants.{Hit, Missed}

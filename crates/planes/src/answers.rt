@@ -6,7 +6,7 @@ use arith::Vec3;
 use arith::bytes;
 use arith::float;
 use casefile::Counts;
-use crossings::Plane;
+use cutting_plane::Plane;
 use reading::Values;
 use samples::Integral;
 use samples::Probed;

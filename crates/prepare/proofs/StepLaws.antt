@@ -35,7 +35,7 @@ use Rattle.polygons.specs.declared.Built.the-variants as Traced
 use Rattle.polygons.specs.Field.{polygonsOf, gridOf, fieldOf, builtGrid}
 use Rattle.polygons.specs.Layout.{fieldIn, Traceable}
 use Rattle.polygons.proofs.BuildLaws.{lent-words, lent-floats}
-use Rattle.crossings.specs.Work.{bare}
+use Rattle.cutting_plane.specs.Work.{bare}
 use Rattle.sections.proofs.PieceLaws.{same-bounds}
 use Rattle.prepare.specs.Room.{Room, flat, solid, Lent, roomFrom, roomOf, requestsWrong, shortage, prepared}
 use Rattle.prepare.specs.Stands.{roomIn, countsIn, Servable, Stands, Preparing, standing, barred}

@@ -13,8 +13,8 @@ use Rattle.arith.specs.Lists.{any}
 use Rattle.arith.proofs.ListLaws.{any-here, any-next}
 use Rattle.arith.proofs.RecordLaws.{drop-end}
 use Rattle.casefile.proofs.ReadLaws.{length-readAll, getD-readAll}
-use Rattle.crossings.specs.Plane.{planeRefusal}
-use Rattle.crossings.specs.declared.Plane.{Plane}
+use Rattle.cutting_plane.specs.Plane.{planeRefusal}
+use Rattle.cutting_plane.specs.declared.Plane.{Plane}
 use Rattle.requests.specs.declared.Request.{Request}
 use Rattle.requests.specs.Requests.{wordsAt, requestsIn, number, barring, illFormed, against, options, streamline, rakeOf, rake, planeOf, statistics, overPlane, planar, byCode, requestOf}
 use Rattle.requests.specs.declared.Request.the-variants.{Refused}

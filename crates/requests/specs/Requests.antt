@@ -13,8 +13,8 @@ use Rattle.arith.specs.declared.Vec3.{Vec3}
 use Rattle.velocity.specs.declared.StreamlineOptions.{StreamlineOptions}
 use Rattle.lines.specs.declared.StreamlineDirection.{StreamlineDirection}
 use Rattle.lines.specs.declared.StreamlineDirection.the-variants.{Forward, Backward}
-use Rattle.crossings.specs.declared.Plane.{Plane}
-use Rattle.crossings.specs.Plane.{invalid, remote}
+use Rattle.cutting_plane.specs.declared.Plane.{Plane}
+use Rattle.cutting_plane.specs.Plane.{invalid, remote}
 use Rattle.requests.specs.declared.Request.{Request}
 use Rattle.requests.specs.declared.Request.the-variants.{Refused, Locate, Velocity, Streamline, Rake, Section, Statistics, Integrals, Probe}
 

@@ -3,8 +3,8 @@ pub mod encode;
 
 use arith::Vec3;
 use arith::bytes;
-use crossings::Plane;
-use crossings::axes;
+use cutting_plane::Plane;
+use cutting_plane::axes;
 use lines::StreamlineDirection;
 use velocity::StreamlineOptions;
 ghost use mathlib.Core.Path.{_≡_};

@@ -15,7 +15,7 @@ use Rattle.arith.specs.Records.{tab}
 use Rattle.arith.specs.Polygon.{crosses, evenOdd}
 use Rattle.arith.proofs.ListLaws.{count-next, length-sides, sides-at}
 use Rattle.arith.proofs.RecordLaws.{length-tab, getD-tab, drop-end}
-use Rattle.crossings.specs.declared.Plane.{Plane}
+use Rattle.cutting_plane.specs.declared.Plane.{Plane}
 use Rattle.crossings.specs.Work.{heldIn, pointIn}
 use Rattle.sections.proofs.AngleLaws.{map-tab}
 use Rattle.samples.specs.Probe.{project, covers}

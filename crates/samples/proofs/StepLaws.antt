@@ -14,13 +14,14 @@ use Rattle.casefile.specs.declared.Counts.{Counts}
 use Rattle.area.specs.declared.Sizes.{Sizes}
 use Rattle.area.specs.Tables.{Mesh, Cell, cellAt, noCell}
 use Rattle.area.specs.Layout.{pointsIn, cellsIn, meshIn}
-use Rattle.crossings.specs.declared.Cut.{Cut}
-use Rattle.crossings.specs.declared.Plane.{Plane}
+use Rattle.cutting_plane.specs.declared.Cut.{Cut}
+use Rattle.cutting_plane.specs.declared.Plane.{Plane}
 use Rattle.sections.specs.declared.Piece.{Piece}
 use Rattle.sections.specs.declared.Piece.the-variants.{Of, Empty}
-use Rattle.crossings.specs.Crossings.{cutOf}
+use Rattle.cutting_plane.specs.Cut.{cutOf}
 use Rattle.sections.specs.Intersect.{PlaneCell, pieceOf, piecesFrom, intersect}
-use Rattle.crossings.specs.Work.{heldIn, Holds, bare}
+use Rattle.crossings.specs.Work.{heldIn, Holds}
+use Rattle.cutting_plane.specs.Work.{bare}
 use Rattle.sections.specs.Work.{pieceIn, verticesOf, Full, Pieced}
 use Rattle.crossings.proofs.HeldLaws.{length-held}
 use Rattle.sections.proofs.PieceLaws.{same-piece}

@@ -11,7 +11,7 @@ use Rattle.reading.specs.Result.{Result, refused, fine}
 use Rattle.reading.specs.Asks.{Asks, give, ask, run, reads, _>>=_}
 use Rattle.reading.specs.Marks.{markAll}
 use Rattle.reading.proofs.AsksLaws.{run-bind, reads-bind}
-use Rattle.crossings.specs.declared.Cut.{Cut}
+use Rattle.cutting_plane.specs.declared.Cut.{Cut}
 use Rattle.sections.specs.Intersect.{PlaneCell}
 use Rattle.samples.specs.declared.Tally.{Tally}
 use Rattle.samples.specs.declared.Tallied.{Tallied}

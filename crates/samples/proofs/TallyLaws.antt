@@ -15,7 +15,7 @@ use Rattle.arith.specs.declared.Vec2.{Vec2}
 use Rattle.arith.specs.declared.Vec3.{Vec3}
 use Rattle.reading.specs.declared.Values.{Values}
 use Rattle.reading.specs.Result.{Result, refused, fine}
-use Rattle.crossings.specs.declared.Cut.{Cut}
+use Rattle.cutting_plane.specs.declared.Cut.{Cut}
 use Rattle.crossings.specs.Work.{heldIn}
 use Rattle.crossings.proofs.HeldLaws.{length-held}
 use Rattle.samples.specs.declared.Sums.{Sums}

@@ -7,8 +7,8 @@ use Rattle.arith.specs.Vec.{minus, dot}
 use Rattle.arith.specs.Polygon.{evenOdd}
 use Rattle.arith.specs.declared.Vec2.{Vec2}
 use Rattle.arith.specs.declared.Vec3.{Vec3}
-use Rattle.crossings.specs.declared.Plane.{Plane}
-use Rattle.crossings.specs.Plane.{normalOf, along}
+use Rattle.cutting_plane.specs.declared.Plane.{Plane}
+use Rattle.cutting_plane.specs.Plane.{normalOf, along}
 use Rattle.samples.specs.declared.Probed.{Probed}
 use Rattle.samples.specs.declared.Probed.the-variants.{Hit, Missed}
 use Rattle.samples.specs.Sample.{Sample}

@@ -16,9 +16,10 @@ use Rattle.casefile.specs.declared.Counts.{Counts}
 use Rattle.casefile.specs.declared.Opened.the-variants.{Case}
 use Rattle.casefile.specs.Trailer.{opened}
 use Rattle.area.specs.declared.Sizes.{Sizes}
-use Rattle.crossings.specs.declared.Cut.{Cut}
+use Rattle.cutting_plane.specs.declared.Cut.{Cut}
 use Rattle.sections.specs.Intersect.{PlaneCell}
-use Rattle.crossings.specs.Work.{Lent, Bounded, bare, heldIn}
+use Rattle.cutting_plane.specs.Work.{Lent, bare}
+use Rattle.crossings.specs.Work.{Bounded, heldIn}
 use Rattle.samples.specs.declared.Sums.{Sums}
 use Rattle.samples.specs.declared.Integral.{Integral}
 use Rattle.samples.specs.declared.Summed.{Summed}

@@ -2,8 +2,8 @@
 use arith::Vec2;
 use arith::Vec3;
 use arith::float;
-use crossings::Plane;
 use crossings::held;
+use cutting_plane::Plane;
 use reading::Values;
 ghost use mathlib.Core.Path.{_≡_};
 ghost use Prim.Native.Nat.{_+_, _≤_, _<_};

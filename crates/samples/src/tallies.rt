@@ -10,7 +10,7 @@ use crate::write;
 use arith::Vec2;
 use arith::Vec3;
 use arith::float;
-use crossings::Cut;
+use cutting_plane::Cut;
 use reading::Values;
 ghost use mathlib.Core.Path.{_≡_};
 ghost use Prim.Native.Nat.{ℕ, _≤_, _<_};

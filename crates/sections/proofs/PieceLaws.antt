@@ -17,14 +17,16 @@ use Rattle.area.specs.declared.Sizes.{Sizes}
 use Rattle.area.specs.Tables.{Mesh, Face, Cell, pointAt, faceAt, cellAt}
 use Rattle.area.specs.Layout.{meshIn, facesIn, cellsIn, faceIn, cellIn, meshWords, meshFloats, pointsIn}
 use Rattle.area.proofs.LayoutLaws.{face-in, face-out, cell-in, cell-out}
-use Rattle.crossings.specs.declared.Cut.{Cut}
-use Rattle.crossings.specs.declared.Signs.{Signs}
+use Rattle.cutting_plane.specs.declared.Cut.{Cut}
+use Rattle.cutting_plane.specs.declared.Signs.{Signs}
 use Rattle.crossings.proofs.HeldLaws.{held-left}
 use Rattle.sections.specs.declared.Piece.{Piece}
 use Rattle.sections.specs.declared.Piece.the-variants.{Of, Empty}
-use Rattle.crossings.specs.Crossings.{near, below, above, rises, parted, addEnd, addBetween, addMeeting, shared, onPlane, foreign, addSide, addFace, meetings}
+use Rattle.cutting_plane.specs.Cut.{near, below, above}
+use Rattle.crossings.specs.Crossings.{rises, parted, addEnd, addBetween, addMeeting, shared, onPlane, foreign, addSide, addFace, meetings}
 use Rattle.sections.specs.Intersect.{PlaneCell, earlierOn, addArea, areaOf, middle, wide, pieceAbout, pieceOf}
-use Rattle.crossings.specs.Work.{heldIn, pointIn, signWith, addSign, faceSigns, signsOf, noSigns, mayMeet, bare, Bounded}
+use Rattle.crossings.specs.Work.{heldIn, pointIn, Bounded}
+use Rattle.cutting_plane.specs.Work.{signWith, addSign, faceSigns, signsOf, noSigns, mayMeet, bare}
 use Rattle.sections.specs.Work.{pieceIn, verticesOf, PiecedAbout, Pieced}
 
 -- ---- the area of a polygon, from the first point

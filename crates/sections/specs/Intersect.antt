@@ -11,10 +11,11 @@ use Rattle.arith.specs.Vec.{origin, plus, minus, times, cross, norm}
 use Rattle.arith.specs.Angle.{turnsBefore}
 use Rattle.arith.specs.declared.Vec3.{Vec3}
 use Rattle.area.specs.Tables.{Mesh, Cell}
-use Rattle.crossings.specs.declared.Plane.{Plane}
-use Rattle.crossings.specs.declared.Cut.{Cut}
-use Rattle.crossings.specs.Plane.{along}
-use Rattle.crossings.specs.Crossings.{cutOf, foreign, meetings}
+use Rattle.cutting_plane.specs.declared.Plane.{Plane}
+use Rattle.cutting_plane.specs.declared.Cut.{Cut}
+use Rattle.cutting_plane.specs.Plane.{along}
+use Rattle.cutting_plane.specs.Cut.{cutOf}
+use Rattle.crossings.specs.Crossings.{foreign, meetings}
 
 -- `PlaneCell`
 pub record PlaneCell : Type 0 where

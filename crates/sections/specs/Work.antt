@@ -9,9 +9,9 @@ use Rattle.arith.specs.Angle.{angleOf}
 use Rattle.arith.specs.declared.Angle.{Angle}
 use Rattle.arith.specs.declared.Vec3.{Vec3}
 use Rattle.area.specs.Tables.{Mesh, cellAt}
-use Rattle.crossings.specs.declared.Cut.{Cut}
-use Rattle.crossings.specs.declared.Plane.{Plane}
-use Rattle.crossings.specs.Plane.{along}
+use Rattle.cutting_plane.specs.declared.Cut.{Cut}
+use Rattle.cutting_plane.specs.declared.Plane.{Plane}
+use Rattle.cutting_plane.specs.Plane.{along}
 use Rattle.crossings.specs.Work.{heldIn, Holds}
 use Rattle.sections.specs.declared.Piece.{Piece}
 use Rattle.sections.specs.declared.Piece.the-variants.{Of, Empty}

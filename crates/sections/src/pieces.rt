@@ -3,16 +3,17 @@ use crate::Piece;
 use crate::arrange;
 use crate::middle;
 use area::Sizes;
-use crossings::Cut;
-use crossings::heights;
 use crossings::meetings;
+use cutting_plane::Cut;
+use cutting_plane::heights;
 ghost use mathlib.Core.Path.{_≡_};
 ghost use mathlib.Core.List.{List};
 ghost use Prim.Native.Nat.{_≤_};
 ghost use lib.Ieee.{Float};
 ghost use Rattle.area.specs.Layout.{pointsIn, meshIn};
 ghost use Rattle.sections.specs.Intersect.{wide};
-ghost use Rattle.crossings.specs.Work.{heldIn, Holds, Lent, Bounded, bare};
+ghost use Rattle.crossings.specs.Work.{heldIn, Holds, Bounded};
+ghost use Rattle.cutting_plane.specs.Work.{Lent, bare};
 ghost use Rattle.sections.specs.Work.{PiecedAbout, Pieced};
 
 // The polygon's area is above the square of the tolerance.

@@ -25,7 +25,7 @@ use Rattle.polygons.specs.Field.{StreamlineField}
 use Rattle.polygons.specs.Locate.{locate}
 use Rattle.polygons.specs.Layout.{cellPolygonsIn, fieldIn}
 use Rattle.casefile.specs.declared.Counts.{Counts}
-use Rattle.crossings.specs.declared.Plane.{Plane}
+use Rattle.cutting_plane.specs.declared.Plane.{Plane}
 use Rattle.sections.specs.Intersect.{intersect}
 use Rattle.velocity.specs.declared.Vector.{Vector}
 use Rattle.velocity.specs.declared.Vector.the-variants.{Here, Nowhere}

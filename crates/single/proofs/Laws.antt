@@ -15,7 +15,7 @@ use Rattle.reading.specs.Result.{fine, _>>=_}
 use Rattle.velocity.specs.declared.StreamlineOptions.{StreamlineOptions}
 use Rattle.lines.specs.declared.StreamlineDirection.{StreamlineDirection}
 use Rattle.lines.specs.declared.StreamlineDirection.the-variants.{Forward, Backward}
-use Rattle.crossings.specs.declared.Plane.{Plane}
+use Rattle.cutting_plane.specs.declared.Plane.{Plane}
 use Rattle.samples.specs.Words.{vecWords}
 use Rattle.requests.specs.Requests.{requestsIn}
 use Rattle.requests.specs.Encode.{bytesOf}

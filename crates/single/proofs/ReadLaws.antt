@@ -12,8 +12,8 @@ use Rattle.arith.specs.declared.Vec3.{Vec3}
 use Rattle.velocity.specs.declared.StreamlineOptions.{StreamlineOptions}
 use Rattle.lines.specs.declared.StreamlineDirection.{StreamlineDirection}
 use Rattle.lines.specs.declared.StreamlineDirection.the-variants.{Forward, Backward}
-use Rattle.crossings.specs.declared.Plane.{Plane}
-use Rattle.crossings.specs.Plane.{invalid, remote}
+use Rattle.cutting_plane.specs.declared.Plane.{Plane}
+use Rattle.cutting_plane.specs.Plane.{invalid, remote}
 use Rattle.samples.specs.Words.{vecWords}
 use Rattle.requests.specs.Requests.{number, real, point, barring, usedWords, astray, illFormed, against, direction, options, streamline, rakeOf, rake, planeOf, statistics, overPlane, planar, byCode, requestOf}
 use Rattle.requests.specs.declared.Request.{Request}

@@ -1,7 +1,7 @@
 // Each request alone, as a job of one: it starts from the case bytes too.
 use arith::Vec3;
 use arith::bytes;
-use crossings::Plane;
+use cutting_plane::Plane;
 use job::Outcome;
 use lines::StreamlineDirection;
 use requests::encode;

@@ -11,8 +11,8 @@ use Rattle.reading.specs.Result.{Result}
 use Rattle.reading.specs.Asks.{Asks}
 use Rattle.reading.proofs.Within.{Within, given, asked, within-bind}
 use Rattle.area.specs.Tables.{Mesh, Cell}
-use Rattle.crossings.specs.declared.Plane.{Plane}
-use Rattle.crossings.specs.declared.Cut.{Cut}
+use Rattle.cutting_plane.specs.declared.Plane.{Plane}
+use Rattle.cutting_plane.specs.declared.Cut.{Cut}
 use Rattle.crossings.specs.Crossings.{foreign, meetings}
 use Rattle.sections.specs.Intersect.{PlaneCell, middle, pieceAbout, pieceOf, piecesFrom, intersect}
 use Rattle.samples.specs.Sample.{Sample, onward, sample}

@@ -4,7 +4,7 @@ use lib.ListN.{drop}
 use Rattle.arith.specs.Lists.{any}
 use Rattle.crossings.specs.Crossings.{close}
 use Rattle.crossings.specs.Work.{heldIn}
-use Rattle.crossings.proofs.Turns.{any-turn, any-found, any-done}
+use Rattle.cutting_plane.proofs.Turns.{any-turn, any-found, any-done}
 use Rattle.crossings.proofs.HeldLaws.{held-left, held-past}
 use borrow.Author.Needs.{needs}
 use Rattle.crossings.proofs.held.has.Statement.{statement}

@@ -6,9 +6,10 @@ use lib.ListN.{length, drop}
 use Rattle.arith.specs.Lists.{foldl, sides}
 use Rattle.area.specs.Tables.{faceAt}
 use Rattle.crossings.specs.Crossings.{addSide, addFace}
-use Rattle.crossings.specs.Work.{bare, heldIn, cornerOf, TrueHeight}
-use Rattle.crossings.proofs.Turns.{fold-done}
-use Rattle.crossings.proofs.MeshLaws.{sides-left, sides-past, count-vertices, few-vertices, side-added, after-within, listed-as, listed-turn}
+use Rattle.cutting_plane.specs.Work.{bare, cornerOf}
+use Rattle.crossings.specs.Work.{heldIn, TrueHeight}
+use Rattle.cutting_plane.proofs.Turns.{fold-done}
+use Rattle.crossings.proofs.SideLaws.{sides-left, sides-past, count-vertices, few-vertices, side-added, after-within, listed-as, listed-turn}
 use borrow.Author.Needs.{needs}
 use Rattle.crossings.proofs.meetings.add_face.Statement.{statement}
 use Rattle.crossings.proofs.meetings.add_face.Tie as tie

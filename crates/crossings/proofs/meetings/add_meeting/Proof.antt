@@ -1,6 +1,6 @@
 use mathlib.Core.Path.{sym, _∙_}
 use Rattle.crossings.proofs.PlaneLaws.{meeting-point, meeting-none}
-use Rattle.crossings.proofs.MeshLaws.{listed-as}
+use Rattle.crossings.proofs.SideLaws.{listed-as}
 use borrow.Author.Needs.{needs}
 use Rattle.crossings.proofs.meetings.add_meeting.Statement.{statement}
 use Rattle.crossings.proofs.meetings.add_meeting.Tie as tie

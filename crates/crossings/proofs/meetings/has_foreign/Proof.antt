@@ -5,9 +5,9 @@ use lib.ListN.{drop}
 use Rattle.arith.specs.Lists.{any}
 use Rattle.area.specs.Tables.{cellAt}
 use Rattle.crossings.specs.Crossings.{foreign}
-use Rattle.crossings.specs.Work.{bare}
-use Rattle.crossings.proofs.Turns.{any-turn, any-found, any-done}
-use Rattle.crossings.proofs.MeshLaws.{faces-left, faces-past}
+use Rattle.cutting_plane.specs.Work.{bare}
+use Rattle.cutting_plane.proofs.Turns.{any-turn, any-found, any-done}
+use Rattle.cutting_plane.proofs.MeshLaws.{faces-left, faces-past}
 use borrow.Author.Needs.{needs}
 use Rattle.crossings.proofs.meetings.has_foreign.Statement.{statement}
 use Rattle.crossings.proofs.meetings.has_foreign.Tie as tie

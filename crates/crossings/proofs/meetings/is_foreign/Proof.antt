@@ -2,8 +2,8 @@ use mathlib.Core.Path.{ap, sym, _∙_}
 use mathlib.Core.List.{[]}
 use Rattle.area.specs.Layout.{meshIn}
 use Rattle.crossings.specs.Crossings.{shared}
-use Rattle.crossings.specs.Work.{bare}
-use Rattle.crossings.proofs.MeshLaws.{foreign-alone, foreign-owned, foreign-other}
+use Rattle.cutting_plane.specs.Work.{bare}
+use Rattle.crossings.proofs.SideLaws.{foreign-alone, foreign-owned, foreign-other}
 use borrow.Author.Needs.{needs}
 use Rattle.crossings.proofs.meetings.is_foreign.Statement.{statement}
 use Rattle.crossings.proofs.meetings.is_foreign.Tie as tie

@@ -7,9 +7,11 @@ use Rattle.arith.specs.Lists.{foldl}
 use Rattle.arith.specs.Records.{tab}
 use Rattle.area.specs.Tables.{cellAt}
 use Rattle.crossings.specs.Crossings.{addFace, meetings}
-use Rattle.crossings.specs.Work.{bare, heldIn}
-use Rattle.crossings.proofs.Turns.{fold-done}
-use Rattle.crossings.proofs.MeshLaws.{faces-left, faces-past, few-faces, listed-turn}
+use Rattle.cutting_plane.specs.Work.{bare}
+use Rattle.crossings.specs.Work.{heldIn}
+use Rattle.cutting_plane.proofs.Turns.{fold-done}
+use Rattle.cutting_plane.proofs.MeshLaws.{faces-left, faces-past}
+use Rattle.crossings.proofs.SideLaws.{few-faces, listed-turn}
 use borrow.Author.Needs.{needs}
 use Rattle.crossings.proofs.meetings.meetings.Statement.{statement}
 use Rattle.crossings.proofs.meetings.meetings.Tie as tie

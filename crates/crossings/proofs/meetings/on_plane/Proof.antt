@@ -4,10 +4,11 @@ use mathlib.Core.List.{[]}
 use lib.ListN.{drop}
 use Rattle.arith.specs.Lists.{all}
 use Rattle.area.specs.Tables.{faceAt}
-use Rattle.crossings.specs.Crossings.{near, onPlane}
-use Rattle.crossings.specs.Work.{bare, cornerOf}
-use Rattle.crossings.proofs.Turns.{all-turn, all-failed, all-done}
-use Rattle.crossings.proofs.MeshLaws.{vertices-left, vertices-past}
+use Rattle.cutting_plane.specs.Cut.{near}
+use Rattle.crossings.specs.Crossings.{onPlane}
+use Rattle.cutting_plane.specs.Work.{bare, cornerOf}
+use Rattle.cutting_plane.proofs.Turns.{all-turn, all-failed, all-done}
+use Rattle.cutting_plane.proofs.MeshLaws.{vertices-left, vertices-past}
 use borrow.Author.Needs.{needs}
 use Rattle.crossings.proofs.meetings.on_plane.Statement.{statement}
 use Rattle.crossings.proofs.meetings.on_plane.Tie as tie

@@ -4,7 +4,7 @@ use mathlib.Core.Path.{_≡_}
 use lib.ListN.{drop}
 use Rattle.arith.specs.Lists.{foldl, windows}
 use Rattle.crossings.specs.Work.{heldIn}
-use Rattle.crossings.proofs.Turns.{window-done}
+use Rattle.cutting_plane.proofs.Turns.{window-done}
 use Rattle.crossings.proofs.HeldLaws.{held-window, held-past}
 use Rattle.samples.specs.Sample.{addVector, vectorOf}
 use Rattle.samples.proofs.MeasureLaws.{vector-start}

@@ -1,4 +1,4 @@
-use Rattle.crossings.specs.Plane.{normalOf}
+use Rattle.cutting_plane.specs.Plane.{normalOf}
 use Rattle.samples.specs.Probe.{off}
 use borrow.Author.Needs.{needs}
 use Rattle.samples.proofs.measures.off.Statement.{statement}

@@ -1,4 +1,4 @@
-use Rattle.crossings.specs.Plane.{along}
+use Rattle.cutting_plane.specs.Plane.{along}
 use Rattle.samples.specs.Probe.{project}
 use borrow.Author.Needs.{needs}
 use Rattle.samples.proofs.measures.project.Statement.{statement}

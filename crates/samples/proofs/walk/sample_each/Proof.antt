@@ -4,7 +4,7 @@ use mathlib.Core.Path.{_≡_, refl}
 use lib.ListN.{length, drop}
 use Rattle.casefile.specs.Field.{valuesOf}
 use Rattle.sections.specs.Intersect.{piecesFrom}
-use Rattle.crossings.specs.Work.{bare}
+use Rattle.cutting_plane.specs.Work.{bare}
 use Rattle.samples.specs.Stream.{stream, sizeOf}
 use Rattle.samples.proofs.StepLaws.{ready-same, holds-same, turn, turn-size, stopped, all-done}
 use borrow.Author.Needs.{needs}

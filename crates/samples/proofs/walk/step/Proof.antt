@@ -1,6 +1,6 @@
 use native.Mathlib.Omega.{arith}
 use mathlib.Core.List.{[]}
-use Rattle.crossings.specs.Work.{bare}
+use Rattle.cutting_plane.specs.Work.{bare}
 use Rattle.samples.proofs.StepLaws.{step-of, step-empty, piece-few, piece-full, holds-first}
 use borrow.Author.Needs.{needs}
 use Rattle.samples.proofs.walk.step.Statement.{statement}

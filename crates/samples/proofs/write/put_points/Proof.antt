@@ -7,7 +7,7 @@ use lib.Seq.{sets}
 use Rattle.arith.specs.Lists.{concat}
 use Rattle.arith.specs.Records.{tab}
 use Rattle.crossings.specs.Work.{heldIn}
-use Rattle.crossings.proofs.Turns.{at-end}
+use Rattle.cutting_plane.proofs.Turns.{at-end}
 use Rattle.samples.specs.Words.{vecWords}
 use Rattle.samples.proofs.WriteLaws.{points-more}
 use borrow.Author.Needs.{needs}

@@ -1,4 +1,4 @@
-use Rattle.crossings.specs.Plane.{along}
+use Rattle.cutting_plane.specs.Plane.{along}
 use Rattle.sections.specs.Work.{angleOn}
 use borrow.Author.Needs.{needs}
 use Rattle.sections.proofs.arrange.angle_on.Statement.{statement}

@@ -4,7 +4,7 @@ use mathlib.Core.Path.{_≡_, refl, ap, _∙_}
 use lib.ListN.{length, length-set}
 use Rattle.crossings.specs.Work.{pointIn}
 use Rattle.sections.specs.Work.{angleOn, Angled}
-use Rattle.crossings.proofs.Turns.{at-end}
+use Rattle.cutting_plane.proofs.Turns.{at-end}
 use Rattle.sections.proofs.AngleLaws.{angled-none, angled-more}
 use borrow.Author.Needs.{needs}
 use Rattle.sections.proofs.arrange.angles_of.Statement.{statement}

@@ -4,7 +4,7 @@ use mathlib.Core.Path.{_≡_, refl}
 use lib.ListN.{length, getD}
 use Rattle.arith.specs.Records.{tab}
 use Rattle.crossings.specs.Work.{heldIn, pointIn, Holds}
-use Rattle.crossings.proofs.Turns.{at-end}
+use Rattle.cutting_plane.proofs.Turns.{at-end}
 use Rattle.crossings.proofs.HeldLaws.{gathered-more}
 use borrow.Author.Needs.{needs}
 use Rattle.sections.proofs.arrange.gather.Statement.{statement}

@@ -5,7 +5,7 @@ use lib.ListN.{drop}
 use Rattle.arith.specs.Lists.{foldl, windows}
 use Rattle.sections.specs.Intersect.{addArea, areaOf}
 use Rattle.crossings.specs.Work.{heldIn}
-use Rattle.crossings.proofs.Turns.{window-done}
+use Rattle.cutting_plane.proofs.Turns.{window-done}
 use Rattle.crossings.proofs.HeldLaws.{held-window, held-past}
 use Rattle.sections.proofs.PieceLaws.{area-start}
 use borrow.Author.Needs.{needs}

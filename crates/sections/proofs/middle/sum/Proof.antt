@@ -4,7 +4,7 @@ use lib.ListN.{drop}
 use Rattle.arith.specs.Lists.{foldl}
 use Rattle.arith.specs.Vec.{plus, origin}
 use Rattle.crossings.specs.Work.{heldIn}
-use Rattle.crossings.proofs.Turns.{fold-turn, fold-done}
+use Rattle.cutting_plane.proofs.Turns.{fold-turn, fold-done}
 use Rattle.crossings.proofs.HeldLaws.{held-left, held-past}
 use borrow.Author.Needs.{needs}
 use Rattle.sections.proofs.middle.sum.Statement.{statement}

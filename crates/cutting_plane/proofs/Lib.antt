@@ -1,0 +1,4 @@
+pub mod Turns
+pub mod MeshLaws
+pub mod ReachLaws
+pub mod SignLaws

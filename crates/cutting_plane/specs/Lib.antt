@@ -1,0 +1,3 @@
+pub mod Plane
+pub mod Cut
+pub mod Work
