@@ -5,10 +5,8 @@ use crate::Signs;
 use area::Sizes;
 use arith::Vec3;
 ghost use mathlib.Core.Path.{_≡_};
-ghost use Rattle.area.specs.Tables.{cellAt, faceAt};
-ghost use Rattle.arith.specs.Lists.{foldl};
 ghost use Rattle.cutting_plane.specs.Cut as Cuts;
-ghost use Rattle.cutting_plane.specs.Work.{bare, Lent, cornerOf, addSign, faceSigns, signWith, signsOf, mayMeet};
+ghost use Rattle.cutting_plane.specs.Work.{bare, Lent, cornerOf, faceSigns, signWith, signsOf, mayMeet};
 
 // How far p lies from the plane.
 pub fn height(cut: Cut, p: Vec3) -> f64

@@ -36,7 +36,8 @@ use Rattle.lines.specs.Line.{areGood, isNowhere, nowhere, lineAnswer, in
 use Rattle.lines.specs.Rake.{seedAt, seeds, linesWords}
 use Rattle.lines.specs.Written.{Written}
 use Rattle.lines.specs.Answered.{Answered, tracedOf, readsOf, wordsOf}
-use Rattle.lines.proofs.LineLaws.{give-then, sets-append, sets-set}
+use Rattle.writing.proofs.WordLaws.{sets-append, sets-set}
+use Rattle.lines.proofs.LineLaws.{give-then}
 
 -- ---- a point that locates, or not
 

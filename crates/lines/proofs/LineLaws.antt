@@ -1,14 +1,14 @@
 -- A turn of a line's loop, over plain values: what is left to serve, and what was written. Assumes nothing.
 use Prim.Native.Nat.{ℕ, zero, suc, _+_, _-_, _*_, _≤_, _<_}
-use native.Mathlib.Nat.{add-zero, sub-zero}
-use native.Mathlib.Numerals.{add-one, add-two}
+use native.Mathlib.Nat.{sub-zero}
+use native.Mathlib.Numerals.{add-one}
 use native.Mathlib.Omega.{arith}
 use mathlib.Core.Path.{_≡_, refl, ap, sym, _∙_, subst, fun-ext}
 use mathlib.Core.List.{List, [], _∷_, _++_, append-assoc, append-nil}
 use lib.ListN.{length, set, length-append}
-use lib.Seq.{sets, set-out, set-comm}
+use lib.Seq.{sets}
 use lib.Ieee.{Float}
-use Rattle.arith.specs.F64.{_⊕_, 0·0, word}
+use Rattle.arith.specs.F64.{_⊕_, 0·0}
 use Rattle.arith.specs.declared.Vec3.{Vec3}
 use Rattle.reading.specs.declared.Values.{Values}
 use Rattle.reading.specs.Asks.{Asks, give, run, reads, _>>=_}
@@ -16,13 +16,15 @@ use Rattle.reading.specs.Marks.{markAll}
 use Rattle.reading.specs.Served.{Served, Going}
 use Rattle.reading.proofs.AsksLaws.{bind-assoc, bind-give, run-bind, reads-bind}
 use Rattle.reading.proofs.ServedLaws.{going-start, going-part, going-end, served-then, served-give}
+use Rattle.writing.specs.Words.{vecWords, pointWords}
+use Rattle.writing.proofs.WordLaws.{sets-append, sets-set, length-vec, length-points}
 use Rattle.polygons.specs.Field.{StreamlineField}
 use Rattle.velocity.specs.declared.Step.{Step}
 use Rattle.velocity.specs.declared.Step.the-variants.{Next, Ended}
 use Rattle.velocity.specs.declared.StreamlineOptions.{StreamlineOptions}
 use Rattle.velocity.specs.Step.{step}
 use Rattle.lines.specs.declared.StreamlineDirection.{StreamlineDirection}
-use Rattle.lines.specs.Line.{onward, lineFrom, line, signedStep, pointWords, lineWords, lineAnswer}
+use Rattle.lines.specs.Line.{onward, lineFrom, line, signedStep, lineWords, lineAnswer}
 use Rattle.lines.specs.Written.{Drawn, Written}
 
 pub give-then : {A B : Type 0} (a : A) (k : A → Asks B) → (give a >>= k) ≡ k a
@@ -87,68 +89,33 @@ pub drawn : {w : Asks (List Vec3)} {f : ℕ → Values} {m₀ m o o′ : List �
     Served w f m₀ m done → o′ ≡ sets o at (pointWords done) → n ≡ length done → Drawn w f m₀ m o o′ at n
 drawn {o} {at} s wr e = record { marks = s .marks; words = wr ∙ ap (λ l. sets o at (pointWords l)) (s .answer); count = e ∙ ap length (s .answer) }
 
--- ---- what was written
-
-pub unwritten : (l : List ℕ) (i w : ℕ) → length l ≤ i → l ≡ set l i w
-unwritten l i w h = sym (set-out l i w h)
-
-pub length-points : (l : List Vec3) → length (pointWords l) ≡ 3 * length l
-unfolding pointWords
-length-points [] = refl
-length-points (p ∷ l) = let e = length-points l in omega arith
-
-points-append : (l k : List Vec3) → pointWords (l ++ k) ≡ pointWords l ++ pointWords k
-unfolding pointWords
-points-append [] k = refl
-points-append (p ∷ l) k = ap {B = List ℕ} (λ r. word (p .x) ∷ word (p .y) ∷ word (p .z) ∷ r) (points-append l k)
-
-pub sets-append : (o : List ℕ) (i : ℕ) (a b : List ℕ) → sets o i (a ++ b) ≡ sets (sets o i a) (i + length a) b
-sets-append o i [] b = ap (λ j. sets o j b) (sym (add-zero i))
-sets-append o i (x ∷ a) b =
-    let e : suc i + length a ≡ i + suc (length a) = omega arith in
-    sets-append (set o i x) (suc i) a b ∙ ap (λ j. sets (sets (set o i x) (suc i) a) j b) e
-
--- three more words
-pub written-more : (o o′ o″ : List ℕ) (done : List Vec3) (q : Vec3) (at k : ℕ) → k ≡ length done → o′ ≡ sets o at (pointWords done)
-    → o″ ≡ set (set (set o′ (at + 3 * k) (word (q .x))) (at + 3 * k + 1) (word (q .y))) (at + 3 * k + 2) (word (q .z)) → o″ ≡ sets o at (pointWords (done ++ q ∷ []))
-written-more o o′ o″ done q at k e h w =
-    let l : at + length (pointWords done) ≡ at + 3 * k = omega (arith, length-points done) in
-    w ∙ rw (points-append done (q ∷ []), sets-append o at (pointWords done) (pointWords (q ∷ [])), l, h, add-one, add-two) (unfold pointWords in refl)
-
 -- ---- the words of a whole line
 
-pub sets-set : (vs o : List ℕ) (i j w : ℕ) → i < j → set (sets o j vs) i w ≡ sets (set o i w) j vs
-sets-set [] o i j w h = refl
-sets-set (v ∷ vs) o i j w h =
-    let ne : j ≡ i → ⊥ = λ e. omega arith in
-    sets-set vs (set o j v) i (suc j) w (omega arith) ∙ ap (λ l. sets l (suc j) vs) (set-comm o j i v w ne)
-
-line-words : (p : Vec3) (l : List Vec3) → lineWords (p ∷ l) ≡ suc (length l) ∷ word (p .x) ∷ word (p .y) ∷ word (p .z) ∷ pointWords l
+line-words : (p : Vec3) (l : List Vec3) → lineWords (p ∷ l) ≡ suc (length l) ∷ (vecWords p ++ pointWords l)
 unfolding lineWords pointWords
 line-words p l = refl
 
-front : (b : List ℕ) (at c x y z : ℕ) (l : List ℕ)
-    → sets (set (set (set (set b (suc at) x) (suc (suc at)) y) (suc (suc (suc at))) z) at c) (suc (suc (suc (suc at)))) l ≡ sets b at (c ∷ x ∷ y ∷ z ∷ l)
-front b at c x y z l =
-    ap (λ k. sets k (suc (suc (suc (suc at)))) l) (sets-set (x ∷ y ∷ z ∷ []) b at (suc at) c (omega arith))
+-- the count is written last, before the points
+front : (b : List ℕ) (at c : ℕ) (p : Vec3) (l : List Vec3)
+    → sets (set (sets b (suc at) (vecWords p)) at c) (suc at + 3) (pointWords l) ≡ sets b at (c ∷ (vecWords p ++ pointWords l))
+front b at c p l =
+    rw (sets-set (vecWords p) b at (suc at) c (omega arith), sets-append (set b at c) (suc at) (vecWords p) (pointWords l), length-vec p)
 
 pub traced : (F : StreamlineField) (o : StreamlineOptions) (d : StreamlineDirection) (f : ℕ → Values) (m m′ b b₁ b₂ b₃ : List ℕ) (at count : ℕ) (seed : Vec3) (h : Float)
-    → h ≡ signedStep o d → b₁ ≡ set (set (set b (at + 1) (word (seed .x))) (at + 1 + 1) (word (seed .y))) (at + 1 + 2) (word (seed .z))
+    → h ≡ signedStep o d → b₁ ≡ sets b (at + 1) (vecWords seed)
     → Drawn (lineFrom F o h (o .«max_steps») seed 0·0) f m m′ b₁ b₂ (at + 4) count → b₃ ≡ set b₂ at (count + 1) → Written (lineAnswer F o d seed) f m m′ b b₃ at (3 * count + 4)
 traced F o d f m m′ b b₁ b₂ b₃ at count seed h eh e₁ t e₃ =
     let pts = run (lineFrom F o (signedStep o d) (o .«max_steps») seed 0·0) f in
     let t′ = rw eh at t in
     let answer : run (lineAnswer F o d seed) f ≡ lineWords (seed ∷ pts) = unfold lineAnswer line in run-bind (lineFrom F o (signedStep o d) (o .«max_steps») seed 0·0 >>= λ l. give (seed ∷ l)) (λ l. give (lineWords l)) f ∙ ap lineWords (run-bind (lineFrom F o (signedStep o d) (o .«max_steps») seed 0·0) (λ l. give (seed ∷ l)) f) in
     let asked : reads (lineAnswer F o d seed) f ≡ reads (lineFrom F o (signedStep o d) (o .«max_steps») seed 0·0) f = unfold lineAnswer line in reads-bind (lineFrom F o (signedStep o d) (o .«max_steps») seed 0·0 >>= λ l. give (seed ∷ l)) (λ l. give (lineWords l)) f ∙ append-nil _ ∙ reads-bind (lineFrom F o (signedStep o d) (o .«max_steps») seed 0·0) (λ l. give (seed ∷ l)) f ∙ append-nil _ in
-    let n₁ : at + 1 + 1 ≡ suc (suc at) = omega arith in
-    let n₂ : at + 1 + 2 ≡ suc (suc (suc at)) = omega arith in
-    let n₃ : at + 4 ≡ suc (suc (suc (suc at))) = omega arith in
-    let n₄ : count + 1 ≡ suc (length pts) = add-one count ∙ ap suc (t′ .count) in
+    let n₁ : at + 4 ≡ suc at + 3 = omega arith in
+    let n₂ : count + 1 ≡ suc (length pts) = add-one count ∙ ap suc (t′ .count) in
     let inside : at < at + 4 = omega arith in
     record {
       marks = t′ .marks ∙ ap (markAll m) (sym asked);
       words =
           e₃ ∙ ap (λ l. set l at (count + 1)) (t′ .words) ∙ sets-set (pointWords pts) b₁ at (at + 4) (count + 1) inside
-          ∙ rw (answer, line-words seed pts, e₁, n₁, n₂, n₃, n₄, add-one at) (front b at (suc (length pts)) (word (seed .x)) (word (seed .y)) (word (seed .z)) (pointWords pts));
-      count = rw (answer, line-words seed pts) (omega (arith, length-points pts, t′ .count));
+          ∙ rw (answer, line-words seed pts, e₁, n₁, n₂, add-one at) (front b at (suc (length pts)) seed pts);
+      count = rw (answer, line-words seed pts, length-append (vecWords seed) (pointWords pts), length-vec seed) (omega (arith, length-points pts, t′ .count));
     }

@@ -6,13 +6,14 @@ use mathlib.Core.List.{List, [], _∷_, _++_}
 use lib.Dec.{ltb}
 use lib.ListN.{length}
 use lib.Ieee.{Float}
-use Rattle.arith.specs.F64.{_⊕_, _⊗_, _≺_, _≼_, 0·0, 1·0, -1·0, finite, word}
+use Rattle.arith.specs.F64.{_⊕_, _⊗_, _≺_, _≼_, 0·0, 1·0, -1·0, finite}
 use Rattle.arith.specs.declared.Vec3.{Vec3}
 use Rattle.arith.specs.declared.Found.{Found}
 use Rattle.arith.specs.declared.Found.the-variants.{At, Nothing}
 use Rattle.reading.specs.Asks.{Asks, give, _>>=_}
 use Rattle.reading.specs.Result as result
 use Rattle.reading.specs.Result.{Result, fine, refuse}
+use Rattle.writing.specs.Words.{pointWords}
 use Rattle.polygons.specs.Field.{StreamlineField}
 use Rattle.velocity.specs.declared.Step.{Step}
 use Rattle.velocity.specs.declared.Step.the-variants.{Next, Ended}
@@ -65,10 +66,6 @@ unfoldable pub nowhere : StreamlineField → Vec3 → Bool
 nowhere f p = isNowhere (locateIn f p)
 
 -- "3: point count, points"
-unfoldable pub pointWords : List Vec3 → List ℕ
-pointWords [] = []
-pointWords (p ∷ l) = word (p .x) ∷ word (p .y) ∷ word (p .z) ∷ pointWords l
-
 unfoldable pub lineWords : List Vec3 → List ℕ
 lineWords l = length l ∷ pointWords l
 

@@ -2,42 +2,19 @@
 use crate::StreamlineDirection;
 use area::Sizes;
 use arith::Vec3;
-use arith::bytes;
 use casefile::Counts;
 use polygons::Grid;
 use velocity::Step;
 use velocity::StreamlineOptions;
 use velocity::rk4;
 ghost use mathlib.Core.Path.{_≡_};
-ghost use mathlib.Core.List.{[], _∷_};
 ghost use Prim.Native.Nat.{_+_, _*_, _<_, _≤_};
-ghost use lib.ListN.{length, set};
-ghost use lib.Seq.{sets};
-ghost use Rattle.arith.specs.F64.{0·0, word};
+ghost use Rattle.arith.specs.F64.{0·0};
 ghost use Rattle.casefile.specs.Field.{valuesOf};
 ghost use Rattle.polygons.specs.Layout.{fieldIn};
 ghost use Rattle.velocity.specs.Ready.{Ready};
 ghost use Rattle.lines.specs.Line as Line;
 ghost use Rattle.lines.specs.Written.{Drawn, Written};
-
-// Stores an answer word, where there is room for it.
-pub fn put(out: &mut [u64], at: usize, w: u64)
-    ensures { λ _. ⌜ now (out .exit) ≡ set (now (out .entry)) at w ⌝ }
-{
-    if at < out.len() {
-        out[at] = w;
-    }
-}
-
-// Stores the three words of a point.
-fn put_point(out: &mut [u64], at: usize, p: Vec3)
-    requires { ⌜ at < 4294967296 ⌝ }
-    ensures { λ _. ⌜ now (out .exit) ≡ set (set (set (now (out .entry)) at (word (p .x))) (at + 1) (word (p .y))) (at + 2) (word (p .z)) ⌝ }
-{
-    put(out, at, bytes::bits_of(p.x));
-    put(out, at + 1, bytes::bits_of(p.y));
-    put(out, at + 2, bytes::bits_of(p.z));
-}
 
 // The points after the seed go to the words from `at` on; how many there are.
 fn points_after(
@@ -69,7 +46,7 @@ fn points_after(
                 return k;
             }
             Step::Next(q, segment) => {
-                put_point(out, at + 3 * k, q);
+                writing::put_vec(out, at + 3 * k, q);
                 p = q;
                 total = total + segment;
             }
@@ -109,7 +86,7 @@ pub fn trace(
     ensures { λ r. ⌜ Written (Line.lineAnswer (fieldIn g s (now (words .entry)) (now (floats .entry))) options d seed) (valuesOf (now (case .entry))) (now (marks .entry)) (now (marks .exit)) (now (out .entry)) (now (out .exit)) at r × (r ≤ 196612) ⌝ }
 {
     let h = options.step_size * sign(d);
-    put_point(out, at + 1, seed);
+    writing::put_vec(out, at + 1, seed);
     let count = points_after(
         case,
         n,
@@ -124,6 +101,6 @@ pub fn trace(
         h,
         options,
     );
-    put(out, at, (count + 1) as u64);
+    writing::put(out, at, (count + 1) as u64);
     3 * count + 4
 }

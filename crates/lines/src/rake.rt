@@ -136,7 +136,7 @@ pub fn integrate_rake(
             d,
             options,
         );
-        line::put(out, 0, count as u64);
+        writing::put(out, 0, count as u64);
         return Traced::Words(written + 1);
     }
     Traced::Refused(34)

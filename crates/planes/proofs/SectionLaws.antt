@@ -1,12 +1,12 @@
 -- Code 5 writes its polygons while it reads them. Assumes nothing.
-use Prim.Native.Nat.{ℕ, zero, suc, _+_, _<_}
+use Prim.Native.Nat.{ℕ, zero, suc, _+_}
 use native.Mathlib.Omega.{arith}
 use mathlib.Core.Path.{_≡_, refl, ap, ap₂, sym, _∙_}
 use mathlib.Core.Logic.{_⊎_, inl, inr}
 use mathlib.Core.Bool.{Bool, true, false}
 use mathlib.Core.List.{List, [], _∷_, _++_, map}
 use lib.ListN.{length, set, length-append}
-use lib.Seq.{sets, set-comm}
+use lib.Seq.{sets}
 use Rattle.arith.specs.Lists.{foldl, concat}
 use Rattle.arith.specs.declared.Vec3.{Vec3}
 use Rattle.reading.specs.declared.Values.{Values}
@@ -29,7 +29,7 @@ use Rattle.planes.specs.Answers.{sampled, sectionWords, sectionOf}
 use Rattle.samples.specs.Words.{sampleWords}
 use Rattle.samples.specs.Stream.{Stream, stream, Streamed, addTo, written}
 use Rattle.planes.specs.Reply.{answeredOf, replied, goods, leftBy, ended, lastWords, Closed, Replied}
-use Rattle.samples.proofs.WriteLaws.{sets-append}
+use Rattle.writing.proofs.WordLaws.{sets-append, sets-set}
 use Rattle.samples.proofs.StreamLaws.{at, stream-nil, stream-sound, stream-bad, stream-marks}
 use Rattle.planes.proofs.TreeLaws.{BadRun, GoodRun, goods-sound, goods-bad, stream-run, run-sampled, reads-sampled}
 
@@ -89,13 +89,6 @@ fold-section c n i (s ∷ ss) =
     ∙ fold-section c (suc n) (i + length (sampleWords s)) ss
     ∙ ap₂ Section (omega arith) (let e = length-append (sampleWords s) (wordsFor ss) in omega arith)
 
--- a word before those that were written
-set-before : (ws o : List ℕ) (i j w : ℕ) → i < j → set (sets o j ws) i w ≡ sets (set o i w) j ws
-set-before [] o i j w h = refl
-set-before (v ∷ ws) o i j w h =
-    let ne : j ≡ i → ⊥ = λ e. omega arith in
-    set-before ws (set o j v) i (suc j) w (omega arith) ∙ ap (λ l. sets l (suc j) ws) (set-comm o j i v w ne)
-
 bad-result : (t : Tallied) (e : Result (List ℕ)) → t ≡ Bad → e ≡ refused 39 → ended t ≡ answeredOf e
 unfolding ended answeredOf
 bad-result t e a b = rw (a, b)
@@ -111,7 +104,7 @@ good-result t e ss a b = rw (a, b)
 good-answers : (t : Tallied) (e : Result (List ℕ)) (ss : List Sample) (o o₁ left : List ℕ) → t ≡ Done (Section (length ss) (suc (length (wordsFor ss)))) →
     e ≡ fine (sectionWords ss) → o₁ ≡ sets o 1 (wordsFor ss) → sets o₁ 0 (lastWords t) ≡ replied o left e
 unfolding lastWords replied sectionWords
-good-answers t e ss o o₁ left a b h = rw (a, b, h) (set-before (wordsFor ss) o 0 1 (length ss) (omega arith))
+good-answers t e ss o o₁ left a b h = rw (a, b, h) (sets-set (wordsFor ss) o 0 1 (length ss) (omega arith))
 
 pub section-reply : (mesh : Mesh) (plane : Plane) (f : ℕ → Values) (c : Cut) (o o₁ o₂ m m₁ : List ℕ) (r : Tallied) (a : Answered) →
     Streamed (stream c f (intersect mesh plane) (Section 0 1) o m) r o₁ m₁ → Closed r a o₁ o₂ →

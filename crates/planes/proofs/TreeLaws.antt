@@ -43,7 +43,7 @@ use Rattle.samples.specs.Sample.{Sample, sound, before, onward, sample, measure
 use Rattle.samples.specs.Statistics.{noSums, summing, counted, including, scalarOf, addSample, statistics, empty, statisticsWords}
 use Rattle.samples.specs.Integrals.{fit, weighing, addIntegral, noIntegral, integrals, vacant, integralWords}
 use Rattle.planes.specs.Answers.{sampled, integralsOf, statisticsOf, probeOf, probeWords}
-use Rattle.samples.specs.Words.{valuesWords, vecWords}
+use Rattle.writing.specs.Words.{valuesWords, vecWords}
 use Rattle.samples.specs.Stream.{Stream, stream, Streamed, addTo, written, addSummed, addWeighed, addProbed, summedOf, weighedOf}
 use Rattle.planes.specs.Reply.{answeredOf, wordsOf, replied, goods, missing, statisticsEnd, integralsEnd, ended, lastWords, Closed, Replied}
 use Rattle.samples.specs.Probe.{project, covers, firstOver, off, probe}

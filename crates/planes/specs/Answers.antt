@@ -17,7 +17,8 @@ use Rattle.samples.specs.Sample.{Sample, sample}
 use Rattle.samples.specs.Statistics.{statistics}
 use Rattle.samples.specs.Integrals.{integrals}
 use Rattle.samples.specs.Probe.{probe}
-use Rattle.samples.specs.Words.{valuesWords, sampleWords}
+use Rattle.writing.specs.Words.{valuesWords}
+use Rattle.samples.specs.Words.{sampleWords}
 
 -- "polygon count; each: .."
 unfoldable pub sectionWords : List Sample → List ℕ

@@ -17,7 +17,6 @@ use samples::Tally;
 use samples::Weighed;
 use samples::measures;
 use samples::walk;
-use samples::write;
 ghost use mathlib.Core.Path.{_≡_};
 ghost use mathlib.Core.Bool.{_&&_};
 ghost use mathlib.Core.List.{List};
@@ -69,8 +68,8 @@ fn put_integrals(answers: &mut [u64], t: Integral)
         y: t.pressure / t.area,
         z: t.speed / t.area,
     };
-    write::put_vec(answers, 0, means);
-    write::put(answers, 3, bytes::bits_of(t.flux));
+    writing::put_vec(answers, 0, means);
+    writing::put(answers, 3, bytes::bits_of(t.flux));
 }
 
 // The answer by the integrals.
@@ -117,13 +116,13 @@ fn put_fractions(answers: &mut [u64], t: Sums, absolute: f64)
     ensures { λ _. ⌜ now (answers .exit) ≡ sets (now (answers .entry)) 10 (Statistics.fractionWords t absolute) ⌝ }
 {
     if absolute > 0.0 {
-        write::put(answers, 10, 1);
-        write::put(answers, 11, bytes::bits_of(t.weighted / absolute));
-        write::put(answers, 12, bytes::bits_of(-t.negative / absolute));
+        writing::put(answers, 10, 1);
+        writing::put(answers, 11, bytes::bits_of(t.weighted / absolute));
+        writing::put(answers, 12, bytes::bits_of(-t.negative / absolute));
     } else {
-        write::put(answers, 10, 0);
-        write::put(answers, 11, 0);
-        write::put(answers, 12, 0);
+        writing::put(answers, 10, 0);
+        writing::put(answers, 11, 0);
+        writing::put(answers, 12, 0);
     }
 }
 
@@ -147,10 +146,10 @@ fn put_statistics(answers: &mut [u64], t: Sums)
         y: t.negative,
         z: absolute,
     };
-    write::put(answers, 0, t.used);
-    write::put_vec(answers, 1, range);
-    write::put_vec(answers, 4, means);
-    write::put_vec(answers, 7, fluxes);
+    writing::put(answers, 0, t.used);
+    writing::put_vec(answers, 1, range);
+    writing::put_vec(answers, 4, means);
+    writing::put_vec(answers, 7, fluxes);
     put_fractions(answers, t, absolute);
 }
 
@@ -177,8 +176,8 @@ fn put_probed(r: Probed, answers: &mut [u64])
 {
     match r {
         Probed::Hit(i, v) => {
-            write::put(answers, 0, i as u64);
-            write::put_values(answers, 1, v);
+            writing::put(answers, 0, i as u64);
+            writing::put_values(answers, 1, v);
         }
         Probed::Missed => {
             let nothing = Vec3 {
@@ -186,8 +185,8 @@ fn put_probed(r: Probed, answers: &mut [u64])
                 y: 0.0,
                 z: 0.0,
             };
-            write::put(answers, 0, 0xffff_ffff_ffff_ffff);
-            write::put_values(
+            writing::put(answers, 0, 0xffff_ffff_ffff_ffff);
+            writing::put_values(
                 answers,
                 1,
                 Values {
@@ -206,7 +205,7 @@ fn finish(r: Tallied, answers: &mut [u64]) -> Answered
     match r {
         Tallied::Done(t) => match t {
             Tally::Section(polygons, at) => {
-                write::put(answers, 0, polygons as u64);
+                writing::put(answers, 0, polygons as u64);
                 Answered::Words(at)
             }
             Tally::Statistics(_, sums) => end_statistics(sums, answers),

@@ -4,12 +4,11 @@ use native.Mathlib.Numerals.{add-one}
 use native.Mathlib.Omega.{arith}
 use mathlib.Core.Path.{_≡_, refl, ap, sym, _∙_}
 use mathlib.Core.Bool.{Bool, true, false, cond}
-use mathlib.Core.List.{List, [], _∷_, _++_, map}
+use mathlib.Core.List.{List, [], _∷_, _++_}
 use lib.ListN.{length, length-append}
 use lib.Seq.{sets}
 use lib.Ieee.{Float}
 use Rattle.arith.specs.F64.{finite, _⊗_}
-use Rattle.arith.specs.Lists.{concat}
 use Rattle.arith.specs.Vec.{dot}
 use Rattle.arith.specs.declared.Vec2.{Vec2}
 use Rattle.arith.specs.declared.Vec3.{Vec3}
@@ -32,9 +31,10 @@ use Rattle.samples.specs.Sample.{Sample, measureOf}
 use Rattle.samples.specs.Statistics.{summing, counted, including, scalarOf, addSample}
 use Rattle.samples.specs.Integrals.{addIntegral}
 use Rattle.samples.specs.Probe.{covers}
-use Rattle.samples.specs.Words.{vecWords, valuesWords, sampleWords}
+use Rattle.writing.specs.Words.{vecWords, pointWords, valuesWords}
+use Rattle.writing.proofs.WordLaws.{length-points}
+use Rattle.samples.specs.Words.{sampleWords}
 use Rattle.samples.specs.Stream.{summedOf, summingOf, addSummed, weighedOf, weighingOf, addWeighed, addProbed, addTo, written, sampleIn, usedOf, sizeOf, Added}
-use Rattle.samples.proofs.WriteLaws.{length-vecs}
 
 module _ (normal : Vec3) (field n : ℕ) (v : Values) (x y z : List Float) where
   pub summed-total : (t : Summed) (sums : Sums) (area : Float) (r : Summed) → t ≡ Total sums → area ≡ measureOf normal (heldIn x y z n) →
@@ -85,8 +85,8 @@ statistics-size t field r e h = rw e at h
 pub length-sample : (s : Sample) → length (sampleWords s) ≡ 9 + 3 * length (s .geometry .polygon)
 unfolding sampleWords vecWords valuesWords
 length-sample s =
-    let e = length-vecs (s .geometry .polygon) in
-    rw (length-append (concat (map vecWords (s .geometry .polygon)))) (omega arith)
+    let e = length-points (s .geometry .polygon) in
+    rw (length-append (pointWords (s .geometry .polygon))) (omega arith)
 
 summed-grows : (b g : Bool) (t : Sums) (a u w : Float) → usedOf (summedOf (summing b t a u w)) ≤ t .used + 1
 unfolding usedOf summedOf summing including

@@ -13,7 +13,6 @@ use polygons::Grid;
 use polygons::locate;
 use prepare::Place;
 use requests::Request;
-use samples::write;
 use velocity::StreamlineOptions;
 use velocity::Vector;
 use velocity::interpolate;
@@ -45,8 +44,8 @@ fn put_found(r: Found, out: &mut [u64])
     ensures { λ _. ⌜ now (out .exit) ≡ sets (now (out .entry)) 0 (Serve.foundWords r) ⌝ }
 {
     match r {
-        Found::At(i) => write::put(out, 0, i as u64),
-        Found::Nothing => write::put(out, 0, 0xffff_ffff_ffff_ffff),
+        Found::At(i) => writing::put(out, 0, i as u64),
+        Found::Nothing => writing::put(out, 0, 0xffff_ffff_ffff_ffff),
     }
 }
 
@@ -56,12 +55,12 @@ fn put_velocity(r: Vector, out: &mut [u64])
 {
     match r {
         Vector::Here(v) => {
-            write::put(out, 0, 1);
-            write::put_vec(out, 1, v);
+            writing::put(out, 0, 1);
+            writing::put_vec(out, 1, v);
         }
         Vector::Nowhere => {
-            write::put(out, 0, 0);
-            write::put_vec(out, 1, Vec3::new(0.0, 0.0, 0.0));
+            writing::put(out, 0, 0);
+            writing::put_vec(out, 1, Vec3::new(0.0, 0.0, 0.0));
         }
     }
 }

@@ -16,7 +16,7 @@ use Rattle.velocity.specs.declared.StreamlineOptions.{StreamlineOptions}
 use Rattle.lines.specs.declared.StreamlineDirection.{StreamlineDirection}
 use Rattle.lines.specs.declared.StreamlineDirection.the-variants.{Forward, Backward}
 use Rattle.cutting_plane.specs.declared.Plane.{Plane}
-use Rattle.samples.specs.Words.{vecWords}
+use Rattle.writing.specs.Words.{vecWords}
 use Rattle.requests.specs.Requests.{requestsIn}
 use Rattle.requests.specs.Encode.{bytesOf}
 use Rattle.requests.proofs.EncodeLaws.{Word, length-bytesOf, one-request}

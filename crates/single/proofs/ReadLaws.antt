@@ -14,7 +14,7 @@ use Rattle.lines.specs.declared.StreamlineDirection.{StreamlineDirection}
 use Rattle.lines.specs.declared.StreamlineDirection.the-variants.{Forward, Backward}
 use Rattle.cutting_plane.specs.declared.Plane.{Plane}
 use Rattle.cutting_plane.specs.Plane.{invalid, remote}
-use Rattle.samples.specs.Words.{vecWords}
+use Rattle.writing.specs.Words.{vecWords}
 use Rattle.requests.specs.Requests.{number, real, point, barring, usedWords, astray, illFormed, against, direction, options, streamline, rakeOf, rake, planeOf, statistics, overPlane, planar, byCode, requestOf}
 use Rattle.requests.specs.declared.Request.{Request}
 use Rattle.requests.specs.declared.Request.the-variants.{Locate, Velocity, Streamline, Rake, Section, Statistics, Integrals, Probe}

@@ -8,7 +8,7 @@ use Rattle.velocity.specs.declared.StreamlineOptions.{StreamlineOptions}
 use Rattle.lines.specs.declared.StreamlineDirection.{StreamlineDirection}
 use Rattle.lines.specs.declared.StreamlineDirection.the-variants.{Forward, Backward}
 use Rattle.cutting_plane.specs.declared.Plane.{Plane}
-use Rattle.samples.specs.Words.{vecWords}
+use Rattle.writing.specs.Words.{vecWords}
 
 unfoldable pub padded : List ℕ → List ℕ
 padded ws = ws ++ replicate (16 - length ws) 0

@@ -5,7 +5,6 @@ use cutting_plane::Plane;
 use job::Outcome;
 use lines::StreamlineDirection;
 use requests::encode;
-use samples::write;
 use velocity::StreamlineOptions;
 ghost use mathlib.Core.Path.{_≡_};
 ghost use Prim.Native.Nat.{_<_};
@@ -31,20 +30,20 @@ fn put_line(request: &mut [u64], at: usize, d: StreamlineDirection, options: Str
     requires { ⌜ at < 16 ⌝ }
     ensures { λ _. ⌜ now (request .exit) ≡ sets (now (request .entry)) at (lineWords d options) ⌝ }
 {
-    write::put(request, at, direction_word(d));
-    write::put(request, at + 1, bytes::bits_of(options.step_size));
-    write::put(request, at + 2, options.max_steps as u64);
-    write::put(request, at + 3, bytes::bits_of(options.max_length));
-    write::put(request, at + 4, bytes::bits_of(options.stagnation_speed));
+    writing::put(request, at, direction_word(d));
+    writing::put(request, at + 1, bytes::bits_of(options.step_size));
+    writing::put(request, at + 2, options.max_steps as u64);
+    writing::put(request, at + 3, bytes::bits_of(options.max_length));
+    writing::put(request, at + 4, bytes::bits_of(options.stagnation_speed));
 }
 
 // Origin, u and v.
 fn put_plane(request: &mut [u64], plane: Plane)
     ensures { λ _. ⌜ now (request .exit) ≡ sets (now (request .entry)) 1 (planeWords plane) ⌝ }
 {
-    write::put_vec(request, 1, plane.origin);
-    write::put_vec(request, 4, plane.u);
-    write::put_vec(request, 7, plane.v);
+    writing::put_vec(request, 1, plane.origin);
+    writing::put_vec(request, 4, plane.u);
+    writing::put_vec(request, 7, plane.v);
 }
 
 // The job of one request.
@@ -76,7 +75,7 @@ pub fn locate(
 {
     let mut request = [0; 16];
     request[0] = 1;
-    write::put_vec(&mut request, 1, p);
+    writing::put_vec(&mut request, 1, p);
     alone(case, &request, words, floats, marks, answers)
 }
 
@@ -93,7 +92,7 @@ pub fn velocity(
 {
     let mut request = [0; 16];
     request[0] = 2;
-    write::put_vec(&mut request, 1, p);
+    writing::put_vec(&mut request, 1, p);
     alone(case, &request, words, floats, marks, answers)
 }
 
@@ -112,7 +111,7 @@ pub fn streamline(
 {
     let mut request = [0; 16];
     request[0] = 3;
-    write::put_vec(&mut request, 1, seed);
+    writing::put_vec(&mut request, 1, seed);
     put_line(&mut request, 4, d, options);
     alone(case, &request, words, floats, marks, answers)
 }
@@ -134,8 +133,8 @@ pub fn rake(
 {
     let mut request = [0; 16];
     request[0] = 4;
-    write::put_vec(&mut request, 1, start);
-    write::put_vec(&mut request, 4, end);
+    writing::put_vec(&mut request, 1, start);
+    writing::put_vec(&mut request, 4, end);
     request[7] = count as u64;
     put_line(&mut request, 8, d, options);
     alone(case, &request, words, floats, marks, answers)
@@ -209,6 +208,6 @@ pub fn probe(
     let mut request = [0; 16];
     request[0] = 8;
     put_plane(&mut request, plane);
-    write::put_vec(&mut request, 10, p);
+    writing::put_vec(&mut request, 10, p);
     alone(case, &request, words, floats, marks, answers)
 }

@@ -1,5 +1,5 @@
 use Rattle.planes.proofs.ReplyLaws.{no-word}
-use Rattle.samples.specs.Words.{vecWords}
+use Rattle.writing.specs.Words.{vecWords}
 use Rattle.serve.specs.Serve.{velocityWords}
 use borrow.Author.Needs.{needs}
 use Rattle.serve.proofs.put_velocity.Statement.{statement}

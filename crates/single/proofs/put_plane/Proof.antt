@@ -1,4 +1,4 @@
-use Rattle.samples.specs.Words.{vecWords}
+use Rattle.writing.specs.Words.{vecWords}
 use Rattle.single.specs.Single.{planeWords}
 use borrow.Author.Needs.{needs}
 use Rattle.single.proofs.put_plane.Statement.{statement}

@@ -1,5 +1,7 @@
-use Rattle.lines.proofs.LineLaws.{left, begun, turned, ended, finished, drawn, written-more}
-use Rattle.lines.specs.Line.{lineFrom, pointWords}
+use Rattle.lines.proofs.LineLaws.{left, begun, turned, ended, finished, drawn}
+use Rattle.writing.specs.Words.{pointWords}
+use Rattle.writing.proofs.WordLaws.{points-more}
+use Rattle.lines.specs.Line.{lineFrom}
 use Rattle.polygons.specs.Layout.{fieldIn}
 use Rattle.casefile.specs.Field.{valuesOf}
 use Rattle.reading.specs.Served.{Going}
@@ -16,7 +18,6 @@ use Rattle.lines.proofs.line.points_after.Statement.{statement}
 use Rattle.lines.proofs.line.points_after.Tie as tie
 use Rattle.lines.proofs.line.points_after.Reads as reads
 use Rattle.lines.proofs.line.points_after.Lts as lts
-use Rattle.lines.proofs.line.put_point.Reads as put-point-reads
 use Rattle.velocity.proofs.rk4.step.Reads as step-reads
 
 abbrev Inv-loop : tie.InvT-loop
@@ -55,16 +56,16 @@ enum-known-next : tie.Need-enum-known-next Inv-loop μ-loop
 enum-known-next c = search needs
 
 -- src/line.rt:58:37
-mul-put-point : tie.Need-mul-put-point Inv-loop μ-loop
-mul-put-point c = search needs
+mul-put-vec : tie.Need-mul-put-vec Inv-loop μ-loop
+mul-put-vec c = search needs
 
 -- src/line.rt:58:32
-add-put-point : tie.Need-add-put-point Inv-loop μ-loop
-add-put-point c = search needs
+add-put-vec : tie.Need-add-put-vec Inv-loop μ-loop
+add-put-vec c = search needs
 
 -- src/line.rt:58:17
-put-point-requires : tie.Need-put-point-requires Inv-loop μ-loop
-put-point-requires c κs = search needs
+put-vec-requires : tie.Need-put-vec-requires Inv-loop μ-loop
+put-vec-requires c κs = search needs
 
 -- src/line.rt:63:13
 add-k : tie.Need-add-k Inv-loop μ-loop
@@ -76,7 +77,7 @@ loop-less c = search needs
 
 -- src/line.rt:51:5
 loop-again : tie.Need-loop-again Inv-loop μ-loop
-loop-again c = let i = c .before .before .before .before .before .before .before .before .before .before .before .before .loop .inv in let x = c .before .before .before .before .before .next .given in record { done = i .done ++ x .0 .0 ∷ []; count = rw length-append (omega arith); below = omega arith; kept = omega arith; as-long = omega arith; written = written-more _ _ _ (i .done) (x .0 .0) _ _ (i .count) (i .written) (c .before .before .put-point .ensures); going = rw (x .1) at (turned _ _ _ (i .done) _ _ _ _ (c .before .before .before .before .before .before .before .before .before .before .before .loop-test .taken) (i .going) (c .before .before .before .before .before .before .before .before .before .step .ensures)) }
+loop-again c = let i = c .before .before .before .before .before .before .before .before .before .before .before .before .loop .inv in let x = c .before .before .before .before .before .next .given in record { done = i .done ++ x .0 .0 ∷ []; count = rw length-append (omega arith); below = omega arith; kept = omega arith; as-long = omega arith; written = points-more _ _ _ (i .done) (x .0 .0) _ _ (i .count) (i .written) (c .before .before .put-vec .ensures); going = rw (x .1) at (turned _ _ _ (i .done) _ _ _ _ (c .before .before .before .before .before .before .before .before .before .before .before .loop-test .taken) (i .going) (c .before .before .before .before .before .before .before .before .before .step .ensures)) }
 
 -- src/line.rt:42:1
 same-length-3 : tie.Need-same-length-3 Inv-loop μ-loop
@@ -103,9 +104,9 @@ points-after-spec =
     same-length-2
     returns
     enum-known-next
-    mul-put-point
-    add-put-point
-    put-point-requires
+    mul-put-vec
+    add-put-vec
+    put-vec-requires
     add-k
     loop-less
     loop-again

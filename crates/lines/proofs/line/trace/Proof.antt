@@ -7,8 +7,6 @@ use Rattle.lines.proofs.line.trace.Tie as tie
 use Rattle.lines.proofs.line.trace.Reads as reads
 use Rattle.lines.proofs.line.trace.Lts as lts
 use Rattle.lines.proofs.line.points_after.Reads as points-after-reads
-use Rattle.lines.proofs.line.put.Reads as put-reads
-use Rattle.lines.proofs.line.put_point.Reads as put-point-reads
 use Rattle.lines.proofs.line.sign.Reads as sign-reads
 
 -- src/line.rt:84:33
@@ -16,12 +14,12 @@ sign-requires : tie.Need-sign-requires
 sign-requires c κs = search needs
 
 -- src/line.rt:85:20
-add-put-point : tie.Need-add-put-point
-add-put-point c = search needs
+add-put-vec : tie.Need-add-put-vec
+add-put-vec c = search needs
 
 -- src/line.rt:85:5
-put-point-requires : tie.Need-put-point-requires
-put-point-requires c κs = search needs
+put-vec-requires : tie.Need-put-vec-requires
+put-vec-requires c κs = search needs
 
 -- src/line.rt:86:72
 add-points-after : tie.Need-add-points-after
@@ -58,15 +56,15 @@ same-length-2 c = search needs
 -- src/line.rt:79:1
 returns : tie.Need-returns
 unfolding signedStep
-returns c = (traced _ _ _ _ _ _ _ _ _ _ _ _ _ _ (rw (c .before .before .before .before .before .before .before .before .before .before .before .before .before .before .before .before .sign .ensures)) (c .before .before .before .before .before .before .before .before .before .before .before .before .before .put-point .ensures) (c .before .before .before .before .before .before .before .before .points-after .ensures .0) (c .before .before .put .ensures), omega (arith, c .before .before .before .before .before .before .before .before .points-after .ensures .1, c .before .before .before .before .before .before .before .before .before .before .before .before .before .before .before .before .before .before .before .before .before .before .pre .1))
+returns c = (traced _ _ _ _ _ _ _ _ _ _ _ _ _ _ (rw (c .before .before .before .before .before .before .before .before .before .before .before .before .before .before .before .before .sign .ensures)) (c .before .before .before .before .before .before .before .before .before .before .before .before .before .put-vec .ensures) (c .before .before .before .before .before .before .before .before .points-after .ensures .0) (c .before .before .put .ensures), omega (arith, c .before .before .before .before .before .before .before .before .points-after .ensures .1, c .before .before .before .before .before .before .before .before .before .before .before .before .before .before .before .before .before .before .before .before .before .before .pre .1))
 
 pub trace-spec : {M : Type 1} → statement M
 trace-spec =
     tie.close
     (tie.spec
     sign-requires
-    add-put-point
-    put-point-requires
+    add-put-vec
+    put-vec-requires
     add-points-after
     points-after-requires
     add-put

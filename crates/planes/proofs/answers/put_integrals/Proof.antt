@@ -1,5 +1,5 @@
 use Rattle.samples.specs.Integrals.{integralWords}
-use Rattle.samples.specs.Words.{vecWords}
+use Rattle.writing.specs.Words.{vecWords}
 use borrow.Author.Needs.{needs}
 use Rattle.planes.proofs.answers.put_integrals.Statement.{statement}
 use Rattle.planes.proofs.answers.put_integrals.Tie as tie

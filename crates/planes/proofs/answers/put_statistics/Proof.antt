@@ -1,5 +1,5 @@
 use Rattle.samples.specs.Statistics.{statisticsWords}
-use Rattle.samples.specs.Words.{vecWords}
+use Rattle.writing.specs.Words.{vecWords}
 use borrow.Author.Needs.{needs}
 use Rattle.planes.proofs.answers.put_statistics.Statement.{statement}
 use Rattle.planes.proofs.answers.put_statistics.Tie as tie

@@ -1,11 +1,11 @@
 use mathlib.Core.Path.{sym}
 use lib.Seq.{set-out}
 use borrow.Author.Needs.{needs}
-use Rattle.samples.proofs.write.put.Statement.{statement}
-use Rattle.samples.proofs.write.put.Tie as tie
+use Rattle.writing.proofs.put.Statement.{statement}
+use Rattle.writing.proofs.put.Tie as tie
 
 returns-2 : tie.Need-returns-2
-returns-2 c = sym (set-out (c .before .args .answers .now) (c .before .args .at) (c .before .args .w) (c .if1 .left))
+returns-2 c = sym (set-out (c .before .args .out .now) (c .before .args .at) (c .before .args .w) (c .if1 .left))
 
 pub put-spec : {M : Type 1} → statement M
 put-spec =

@@ -1,8 +1,8 @@
 use native.Mathlib.Numerals.{add-one, add-two}
-use Rattle.samples.specs.Words.{vecWords}
+use Rattle.writing.specs.Words.{vecWords}
 use borrow.Author.Needs.{needs}
-use Rattle.samples.proofs.write.put_vec.Statement.{statement}
-use Rattle.samples.proofs.write.put_vec.Tie as tie
+use Rattle.writing.proofs.put_vec.Statement.{statement}
+use Rattle.writing.proofs.put_vec.Tie as tie
 
 returns : tie.Need-returns
 unfolding vecWords

@@ -1,8 +1,8 @@
 use native.Mathlib.Numerals.{add-three}
-use Rattle.samples.specs.Words.{vecWords, valuesWords}
+use Rattle.writing.specs.Words.{vecWords, valuesWords}
 use borrow.Author.Needs.{needs}
-use Rattle.samples.proofs.write.put_values.Statement.{statement}
-use Rattle.samples.proofs.write.put_values.Tie as tie
+use Rattle.writing.proofs.put_values.Statement.{statement}
+use Rattle.writing.proofs.put_values.Tie as tie
 
 returns : tie.Need-returns
 unfolding valuesWords vecWords
