@@ -11,19 +11,19 @@ use Rattle.arith.specs.declared.Vec2.{Vec2}
 use Rattle.reading.specs.Result.{Result, refused, fine}
 use Rattle.planes.specs.declared.Answered.{Answered}
 use Rattle.planes.specs.declared.Answered.the-variants.{Words, Refused}
-use Rattle.samples.specs.declared.Sums.{Sums}
-use Rattle.samples.specs.declared.Integral.{Integral}
-use Rattle.samples.specs.declared.Summed.{Summed}
-use Rattle.samples.specs.declared.Summed.the-variants.{Total, Unsummed}
-use Rattle.samples.specs.declared.Weighed.{Weighed}
-use Rattle.samples.specs.declared.Weighed.the-variants.{Whole, Unweighed}
-use Rattle.samples.specs.declared.Probed.{Probed}
-use Rattle.samples.specs.declared.Tally.{Tally}
-use Rattle.samples.specs.declared.Tally.the-variants.{Section, Statistics, Integrals, Probe}
+use Rattle.tallies.specs.declared.Sums.{Sums}
+use Rattle.tallies.specs.declared.Integral.{Integral}
+use Rattle.tallies.specs.declared.Summed.{Summed}
+use Rattle.tallies.specs.declared.Summed.the-variants.{Total, Unsummed}
+use Rattle.tallies.specs.declared.Weighed.{Weighed}
+use Rattle.tallies.specs.declared.Weighed.the-variants.{Whole, Unweighed}
+use Rattle.tallies.specs.declared.Probed.{Probed}
+use Rattle.tallies.specs.declared.Tally.{Tally}
+use Rattle.tallies.specs.declared.Tally.the-variants.{Section, Statistics, Integrals, Probe}
 use Rattle.samples.specs.declared.Tallied.{Tallied}
 use Rattle.samples.specs.declared.Tallied.the-variants.{Done, Bad}
-use Rattle.samples.specs.Statistics.{empty, statisticsWords, fractionWords}
-use Rattle.samples.specs.Integrals.{vacant, integralWords}
+use Rattle.tallies.specs.Statistics.{empty, statisticsWords, fractionWords}
+use Rattle.tallies.specs.Integrals.{vacant, integralWords}
 use Rattle.planes.specs.Answers.{probeWords}
 use Rattle.planes.specs.Reply.{answeredOf, wordsOf, statisticsEnd, integralsEnd, ended, lastWords, Ended, Closed}
 

@@ -20,14 +20,16 @@ use Rattle.cutting_plane.specs.declared.Plane.{Plane}
 use Rattle.sections.specs.Intersect.{PlaneCell, intersect}
 use Rattle.planes.specs.declared.Answered.{Answered}
 use Rattle.planes.specs.declared.Answered.the-variants.{Words, Refused}
-use Rattle.samples.specs.declared.Tally.{Tally}
-use Rattle.samples.specs.declared.Tally.the-variants.{Section}
+use Rattle.tallies.specs.declared.Tally.{Tally}
+use Rattle.tallies.specs.declared.Tally.the-variants.{Section}
 use Rattle.samples.specs.declared.Tallied.{Tallied}
 use Rattle.samples.specs.declared.Tallied.the-variants.{Done, Bad}
-use Rattle.samples.specs.Sample.{Sample, sound, sample}
+use Rattle.tallies.specs.Sample.{Sample, sound}
+use Rattle.samples.specs.Sampling.{sample}
 use Rattle.planes.specs.Answers.{sampled, sectionWords, sectionOf}
-use Rattle.samples.specs.Words.{sampleWords}
-use Rattle.samples.specs.Stream.{Stream, stream, Streamed, addTo, written}
+use Rattle.tallies.specs.Words.{sampleWords}
+use Rattle.samples.specs.Stream.{Stream, stream, Streamed}
+use Rattle.tallies.specs.Kept.{addTo, written}
 use Rattle.planes.specs.Reply.{answeredOf, replied, goods, leftBy, ended, lastWords, Closed, Replied}
 use Rattle.writing.proofs.WordLaws.{sets-append, sets-set}
 use Rattle.samples.proofs.StreamLaws.{at, stream-nil, stream-sound, stream-bad, stream-marks}

@@ -27,26 +27,28 @@ use Rattle.sections.specs.Intersect.{PlaneCell, intersect}
 use Rattle.cutting_plane.specs.Plane.{normalOf}
 use Rattle.planes.specs.declared.Answered.{Answered}
 use Rattle.planes.specs.declared.Answered.the-variants.{Words, Refused}
-use Rattle.samples.specs.declared.Sums.{Sums}
-use Rattle.samples.specs.declared.Integral.{Integral}
-use Rattle.samples.specs.declared.Summed.{Summed}
-use Rattle.samples.specs.declared.Summed.the-variants.{Total, Unsummed}
-use Rattle.samples.specs.declared.Weighed.{Weighed}
-use Rattle.samples.specs.declared.Weighed.the-variants.{Whole, Unweighed}
-use Rattle.samples.specs.declared.Probed.{Probed}
-use Rattle.samples.specs.declared.Probed.the-variants.{Hit, Missed}
-use Rattle.samples.specs.declared.Tally.{Tally}
-use Rattle.samples.specs.declared.Tally.the-variants.{Section, Statistics, Integrals, Probe}
+use Rattle.tallies.specs.declared.Sums.{Sums}
+use Rattle.tallies.specs.declared.Integral.{Integral}
+use Rattle.tallies.specs.declared.Summed.{Summed}
+use Rattle.tallies.specs.declared.Summed.the-variants.{Total, Unsummed}
+use Rattle.tallies.specs.declared.Weighed.{Weighed}
+use Rattle.tallies.specs.declared.Weighed.the-variants.{Whole, Unweighed}
+use Rattle.tallies.specs.declared.Probed.{Probed}
+use Rattle.tallies.specs.declared.Probed.the-variants.{Hit, Missed}
+use Rattle.tallies.specs.declared.Tally.{Tally}
+use Rattle.tallies.specs.declared.Tally.the-variants.{Section, Statistics, Integrals, Probe}
 use Rattle.samples.specs.declared.Tallied.{Tallied}
 use Rattle.samples.specs.declared.Tallied.the-variants.{Done, Bad}
-use Rattle.samples.specs.Sample.{Sample, sound, before, onward, sample, measureOf}
-use Rattle.samples.specs.Statistics.{noSums, summing, counted, including, scalarOf, addSample, statistics, empty, statisticsWords}
-use Rattle.samples.specs.Integrals.{fit, weighing, addIntegral, noIntegral, integrals, vacant, integralWords}
+use Rattle.tallies.specs.Sample.{Sample, sound, measureOf}
+use Rattle.samples.specs.Sampling.{before, onward, sample}
+use Rattle.tallies.specs.Statistics.{noSums, summing, counted, including, scalarOf, addSample, statistics, empty, statisticsWords}
+use Rattle.tallies.specs.Integrals.{fit, weighing, addIntegral, noIntegral, integrals, vacant, integralWords}
 use Rattle.planes.specs.Answers.{sampled, integralsOf, statisticsOf, probeOf, probeWords}
 use Rattle.writing.specs.Words.{valuesWords, vecWords}
-use Rattle.samples.specs.Stream.{Stream, stream, Streamed, addTo, written, addSummed, addWeighed, addProbed, summedOf, weighedOf}
+use Rattle.samples.specs.Stream.{Stream, stream, Streamed}
+use Rattle.tallies.specs.Kept.{addTo, written, addSummed, addWeighed, addProbed, summedOf, weighedOf}
 use Rattle.planes.specs.Reply.{answeredOf, wordsOf, replied, goods, missing, statisticsEnd, integralsEnd, ended, lastWords, Closed, Replied}
-use Rattle.samples.specs.Probe.{project, covers, firstOver, off, probe}
+use Rattle.tallies.specs.Probe.{project, covers, firstOver, off, probe}
 use Rattle.samples.proofs.StreamLaws.{at, stream-nil, stream-sound, stream-bad, stream-marks}
 
 -- ---- the outcome: a bad sample, or all samples kept

@@ -11,14 +11,15 @@ use Rattle.area.specs.Tables.{Mesh}
 use Rattle.cutting_plane.specs.declared.Plane.{Plane}
 use Rattle.cutting_plane.specs.Plane.{normalOf}
 use Rattle.sections.specs.Intersect.{intersect}
-use Rattle.samples.specs.declared.Probed.{Probed}
-use Rattle.samples.specs.declared.Probed.the-variants.{Hit, Missed}
-use Rattle.samples.specs.Sample.{Sample, sample}
-use Rattle.samples.specs.Statistics.{statistics}
-use Rattle.samples.specs.Integrals.{integrals}
-use Rattle.samples.specs.Probe.{probe}
+use Rattle.tallies.specs.declared.Probed.{Probed}
+use Rattle.tallies.specs.declared.Probed.the-variants.{Hit, Missed}
+use Rattle.tallies.specs.Sample.{Sample}
+use Rattle.samples.specs.Sampling.{sample}
+use Rattle.tallies.specs.Statistics.{statistics}
+use Rattle.tallies.specs.Integrals.{integrals}
+use Rattle.tallies.specs.Probe.{probe}
 use Rattle.writing.specs.Words.{valuesWords}
-use Rattle.samples.specs.Words.{sampleWords}
+use Rattle.tallies.specs.Words.{sampleWords}
 
 -- "polygon count; each: .."
 unfoldable pub sectionWords : List Sample → List ℕ

@@ -14,20 +14,20 @@ use Rattle.reading.specs.Marks.{markAll}
 use Rattle.sections.specs.Intersect.{PlaneCell}
 use Rattle.planes.specs.declared.Answered.{Answered}
 use Rattle.planes.specs.declared.Answered.the-variants.{Words, Refused}
-use Rattle.samples.specs.declared.Summed.{Summed}
-use Rattle.samples.specs.declared.Summed.the-variants.{Total, Unsummed}
-use Rattle.samples.specs.declared.Weighed.{Weighed}
-use Rattle.samples.specs.declared.Weighed.the-variants.{Whole, Unweighed}
-use Rattle.samples.specs.declared.Probed.{Probed}
-use Rattle.samples.specs.declared.Probed.the-variants.{Missed}
-use Rattle.samples.specs.declared.Tally.{Tally}
-use Rattle.samples.specs.declared.Tally.the-variants.{Section, Statistics, Integrals, Probe}
+use Rattle.tallies.specs.declared.Summed.{Summed}
+use Rattle.tallies.specs.declared.Summed.the-variants.{Total, Unsummed}
+use Rattle.tallies.specs.declared.Weighed.{Weighed}
+use Rattle.tallies.specs.declared.Weighed.the-variants.{Whole, Unweighed}
+use Rattle.tallies.specs.declared.Probed.{Probed}
+use Rattle.tallies.specs.declared.Probed.the-variants.{Missed}
+use Rattle.tallies.specs.declared.Tally.{Tally}
+use Rattle.tallies.specs.declared.Tally.the-variants.{Section, Statistics, Integrals, Probe}
 use Rattle.samples.specs.declared.Tallied.{Tallied}
 use Rattle.samples.specs.declared.Tallied.the-variants.{Done, Bad}
-use Rattle.samples.specs.Sample.{Sample, sound}
-use Rattle.samples.specs.Statistics.{empty, statisticsWords}
-use Rattle.samples.specs.Integrals.{vacant, integralWords}
-use Rattle.samples.specs.Words.{sampleWords}
+use Rattle.tallies.specs.Sample.{Sample, sound}
+use Rattle.tallies.specs.Statistics.{empty, statisticsWords}
+use Rattle.tallies.specs.Integrals.{vacant, integralWords}
+use Rattle.tallies.specs.Words.{sampleWords}
 use Rattle.planes.specs.Answers.{probeWords}
 
 unfoldable pub answeredOf : Result (List ℕ) → Answered

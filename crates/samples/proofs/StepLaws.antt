@@ -25,13 +25,14 @@ use Rattle.cutting_plane.specs.Work.{bare}
 use Rattle.sections.specs.Work.{pieceIn, verticesOf, Full, Pieced}
 use Rattle.crossings.proofs.HeldLaws.{length-held}
 use Rattle.sections.proofs.PieceLaws.{same-piece}
-use Rattle.samples.specs.declared.Tally.{Tally}
+use Rattle.tallies.specs.declared.Tally.{Tally}
 use Rattle.samples.specs.declared.Tallied.{Tallied}
 use Rattle.samples.specs.declared.Tallied.the-variants.{Done, Bad}
-use Rattle.samples.specs.Sample.{Sample, sound}
-use Rattle.samples.specs.Stream.{Stream, stream, addTo, written, cellIn, sampleIn, sizeOf, Grown, Added, Streamed, Stepped, Ready}
+use Rattle.tallies.specs.Sample.{Sample, sound}
+use Rattle.samples.specs.Stream.{Stream, stream, Grown, Streamed, Stepped, Ready}
+use Rattle.tallies.specs.Kept.{addTo, written, cellIn, sampleIn, sizeOf, Added}
 use Rattle.samples.proofs.StreamLaws.{stream-nil, stream-sound, stream-bad, stream-then, stream-stop}
-use Rattle.samples.proofs.TallyLaws.{added-grows}
+use Rattle.tallies.proofs.TallyLaws.{added-grows}
 
 pub as-record : (s : Stream) (r : Tallied) (o m : List ℕ) → Streamed s r o m → s ≡ record { outcome = r; answers = o; marks = m }
 as-record s r o m h = rw (h .outcome, h .answers, h .marks)

@@ -13,11 +13,13 @@ use Rattle.reading.specs.Marks.{markAll}
 use Rattle.reading.proofs.AsksLaws.{run-bind, reads-bind}
 use Rattle.cutting_plane.specs.declared.Cut.{Cut}
 use Rattle.sections.specs.Intersect.{PlaneCell}
-use Rattle.samples.specs.declared.Tally.{Tally}
+use Rattle.tallies.specs.declared.Tally.{Tally}
 use Rattle.samples.specs.declared.Tallied.{Tallied}
 use Rattle.samples.specs.declared.Tallied.the-variants.{Done, Bad}
-use Rattle.samples.specs.Sample.{Sample, sound, before, onward, sample}
-use Rattle.samples.specs.Stream.{Stream, stream, addTo, written}
+use Rattle.tallies.specs.Sample.{Sample, sound}
+use Rattle.samples.specs.Sampling.{before, onward, sample}
+use Rattle.samples.specs.Stream.{Stream, stream}
+use Rattle.tallies.specs.Kept.{addTo, written}
 
 module _ (c : Cut) (f : ℕ → Values) where
   abbrev pub at : PlaneCell → Sample

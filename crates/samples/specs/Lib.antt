@@ -1,6 +1,2 @@
-pub mod Sample
-pub mod Statistics
-pub mod Integrals
-pub mod Probe
-pub mod Words
+pub mod Sampling
 pub mod Stream

@@ -1,8 +1,5 @@
 // The samples of the cells, one after another.
 use crate::Tallied;
-use crate::Tally;
-use crate::measures;
-use crate::tallies;
 use area::Sizes;
 use arith::Vec3;
 use casefile::Counts;
@@ -14,6 +11,9 @@ use cutting_plane::axes;
 use reading::Values;
 use sections::Piece;
 use sections::pieces;
+use tallies::Tally;
+use tallies::keep;
+use tallies::measures;
 ghost use mathlib.Core.Path.{_≡_};
 ghost use mathlib.Core.List.{List, [], _∷_};
 ghost use Prim.Native.Nat.{_+_, _*_, _<_, _≤_};
@@ -24,7 +24,8 @@ ghost use Rattle.cutting_plane.specs.Cut.{cutOf};
 ghost use Rattle.sections.specs.Intersect.{pieceOf, piecesFrom, intersect};
 ghost use Rattle.crossings.specs.Work.{Holds};
 ghost use Rattle.cutting_plane.specs.Work.{bare};
-ghost use Rattle.samples.specs.Stream.{stream, Streamed, Stepped, Ready, cellIn, sizeOf};
+ghost use Rattle.samples.specs.Stream.{stream, Streamed, Stepped, Ready};
+ghost use Rattle.tallies.specs.Kept.{cellIn, sizeOf};
 ghost use lib.ListN.{length, set};
 ghost use Rattle.casefile.specs.Trailer.{opened};
 ghost use Rattle.casefile.specs.Field.{valuesOf};
@@ -59,7 +60,7 @@ fn take_sample(
 {
     let v = read(case, n, marks, cell);
     if measures::sound(v) {
-        Tallied::Done(tallies::add(cut, t, cell, centre, k, v, x, y, z, answers))
+        Tallied::Done(keep::add(cut, t, cell, centre, k, v, x, y, z, answers))
     } else {
         Tallied::Bad
     }

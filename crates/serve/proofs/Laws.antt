@@ -44,7 +44,7 @@ use Rattle.planes.specs.declared.Answered.{Answered}
 use Rattle.planes.specs.declared.Answered.the-variants as Answered
 use Rattle.planes.specs.Answers.{sectionOf, statisticsOf, integralsOf, probeOf}
 use Rattle.writing.specs.Words.{vecWords}
-use Rattle.samples.specs.Words.{sampleWords}
+use Rattle.tallies.specs.Words.{sampleWords}
 use Rattle.samples.specs.Stream as Planes
 use Rattle.planes.specs.Reply.{answeredOf, replied, goods, leftBy, Replied}
 use Rattle.requests.specs.declared.Request.{Request}

@@ -15,7 +15,8 @@ use Rattle.cutting_plane.specs.declared.Plane.{Plane}
 use Rattle.cutting_plane.specs.declared.Cut.{Cut}
 use Rattle.crossings.specs.Crossings.{foreign, meetings}
 use Rattle.sections.specs.Intersect.{PlaneCell, middle, pieceAbout, pieceOf, piecesFrom, intersect}
-use Rattle.samples.specs.Sample.{Sample, onward, sample}
+use Rattle.tallies.specs.Sample.{Sample}
+use Rattle.samples.specs.Sampling.{onward, sample}
 use Rattle.planes.specs.Answers.{sampled, sectionOf, statisticsOf, integralsOf, probeOf}
 
 all-only : {A : Type 0} (P : A → Type 0) (b : Bool) (a : A) → P a → All P (only b a)

@@ -1,6 +1,6 @@
 use native.Mathlib.Omega.{arith}
-use Rattle.samples.specs.Integrals.{noIntegral}
-use Rattle.samples.specs.Stream.{sizeOf}
+use Rattle.tallies.specs.Integrals.{noIntegral}
+use Rattle.tallies.specs.Kept.{sizeOf}
 use Rattle.planes.proofs.TreeLaws.{integrals-reply}
 use borrow.Author.Needs.{needs}
 use Rattle.planes.proofs.answers.integrals.Statement.{statement}

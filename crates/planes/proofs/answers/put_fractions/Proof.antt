@@ -1,4 +1,4 @@
-use Rattle.samples.specs.Statistics.{fractionWords}
+use Rattle.tallies.specs.Statistics.{fractionWords}
 use borrow.Author.Needs.{needs}
 use Rattle.planes.proofs.answers.put_fractions.Statement.{statement}
 use Rattle.planes.proofs.answers.put_fractions.Tie as tie

@@ -1,4 +1,4 @@
-use Rattle.samples.specs.Integrals.{integralWords}
+use Rattle.tallies.specs.Integrals.{integralWords}
 use Rattle.writing.specs.Words.{vecWords}
 use borrow.Author.Needs.{needs}
 use Rattle.planes.proofs.answers.put_integrals.Statement.{statement}

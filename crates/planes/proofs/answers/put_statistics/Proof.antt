@@ -1,4 +1,4 @@
-use Rattle.samples.specs.Statistics.{statisticsWords}
+use Rattle.tallies.specs.Statistics.{statisticsWords}
 use Rattle.writing.specs.Words.{vecWords}
 use borrow.Author.Needs.{needs}
 use Rattle.planes.proofs.answers.put_statistics.Statement.{statement}

@@ -1,5 +1,5 @@
 use native.Mathlib.Omega.{arith}
-use Rattle.samples.specs.Stream.{sizeOf}
+use Rattle.tallies.specs.Kept.{sizeOf}
 use Rattle.planes.proofs.SectionLaws.{section-reply}
 use borrow.Author.Needs.{needs}
 use Rattle.planes.proofs.answers.section.Statement.{statement}

@@ -5,7 +5,8 @@ use lib.ListN.{length, drop}
 use Rattle.casefile.specs.Field.{valuesOf}
 use Rattle.sections.specs.Intersect.{piecesFrom}
 use Rattle.cutting_plane.specs.Work.{bare}
-use Rattle.samples.specs.Stream.{stream, sizeOf}
+use Rattle.samples.specs.Stream.{stream}
+use Rattle.tallies.specs.Kept.{sizeOf}
 use Rattle.samples.proofs.StepLaws.{ready-same, holds-same, turn, turn-size, stopped, all-done}
 use borrow.Author.Needs.{needs}
 use Rattle.samples.proofs.walk.sample_each.Statement.{statement}

@@ -1,0 +1,97 @@
+-- One turn of the loop over a polygon's sides. Assumes nothing.
+use Prim.Native.Nat.{ℕ, zero, suc, _+_, _%_, _≤_, _<_}
+use native.Mathlib.Nat.{zero-add}
+use native.Mathlib.Omega.{arith}
+use mathlib.Core.Path.{_≡_, refl, ap, sym, _∙_}
+use mathlib.Core.Bool.{Bool, true, false, not, cond}
+use mathlib.Core.List.{List, [], _∷_, map}
+use lib.Dec.{eqb}
+use lib.ListN.{length, getD, drop}
+use lib.Ieee.{Float}
+use borrow.Author.Tests.{eqb-false, eq-eqb, ne-eqb}
+use Rattle.arith.specs.declared.Vec2.{Vec2}
+use Rattle.arith.specs.Lists.{Side, sides, after, count}
+use Rattle.arith.specs.Records.{tab}
+use Rattle.arith.specs.Polygon.{crosses, evenOdd}
+use Rattle.arith.proofs.ListLaws.{count-next, length-sides, sides-at}
+use Rattle.arith.proofs.RecordLaws.{length-tab, getD-tab, drop-end}
+use Rattle.cutting_plane.specs.declared.Plane.{Plane}
+use Rattle.crossings.specs.Work.{heldIn, pointIn}
+use Rattle.sections.proofs.AngleLaws.{map-tab}
+use Rattle.tallies.specs.Probe.{project, covers}
+
+-- ---- the number after i
+
+after-less : (n i : ℕ) → i < n → after n i < n
+after-less n i h = by (eqb (i + 1) n) refl
+  where
+    by : (b : Bool) → eqb (i + 1) n ≡ b → cond b 0 (i + 1) < n
+    by true e = omega arith
+    by false e = omega (arith, eqb-false (i + 1) n e)
+
+pub after-last : (n i : ℕ) → i + 1 ≡ n → 0 ≡ after n i
+after-last n i e = rw (eq-eqb (i + 1) n e)
+
+pub after-not : (n i : ℕ) → (i + 1 ≡ n → ⊥) → i + 1 ≡ after n i
+after-not n i e = rw (ne-eqb (i + 1) n e)
+
+-- ---- an odd number of crossings, those so far and those to come
+
+unfoldable pub odd : Bool → ℕ → Bool
+odd inside k = eqb ((cond inside 1 0 + k) % 2) 1
+
+odd-here : (inside : Bool) (k : ℕ) → odd inside (1 + k) ≡ odd (not inside) k
+unfolding odd
+odd-here false k = let e : (0 + (1 + k)) % 2 ≡ (1 + k) % 2 = omega arith in ap (λ m. eqb m 1) e
+odd-here true k = let e : (1 + (1 + k)) % 2 ≡ (0 + k) % 2 = omega arith in ap (λ m. eqb m 1) e
+
+odd-past : (inside : Bool) (k : ℕ) → odd inside (0 + k) ≡ odd inside k
+odd-past inside k = rw (zero-add k)
+
+module _ (s : Plane) (q : Vec2) (x y z : List Float) (n : ℕ) where
+  abbrev pub corner : ℕ → Vec2
+  corner i = project s (pointIn x y z i)
+
+  abbrev pub sidesIn : List (Side Vec2)
+  sidesIn = sides (tab corner n)
+
+  abbrev pub sideIn : ℕ → Side Vec2
+  sideIn i = record { from = project s (pointIn x y z i); to = project s (pointIn x y z (after n i)) }
+
+  unfoldable pub rest : Bool → ℕ → Bool
+  rest inside i = odd inside (count (crosses q) (drop i sidesIn))
+
+  long : length sidesIn ≡ n
+  long = length-sides (tab corner n) ∙ length-tab corner n
+
+  pub rest-start : rest false 0 ≡ covers s q (heldIn x y z n)
+  unfolding rest odd covers evenOdd heldIn
+  rest-start = rw (map-tab (project s) (pointIn x y z) n, zero-add (count (crosses q) sidesIn))
+
+  pub rest-end : (i : ℕ) (inside r : Bool) → n ≤ i → rest inside i ≡ r → inside ≡ r
+  unfolding rest odd count
+  rest-end i inside r h e =
+      let none : drop i sidesIn ≡ [] = drop-end sidesIn i (omega (arith, long)) in
+      by inside ∙ (rw none at e)
+    where
+      by : (b : Bool) → b ≡ eqb ((cond b 1 0 + 0) % 2) 1
+      by true = refl
+      by false = refl
+
+  module _ (i : ℕ) (more : i < n) (inside r : Bool) (inv : rest inside i ≡ r) (c : Bool) (hc : c ≡ crosses q (sideIn i)) where
+    here : getD sidesIn i (sideIn 0) ≡ sideIn i
+    here =
+        sides-at (tab corner n) i (corner 0) (sideIn 0) (rw (length-tab corner n) more)
+        ∙ rw (length-tab corner n, getD-tab corner n i (corner 0) more, getD-tab corner n (after n i) (corner 0) (after-less n i more))
+
+    next : odd inside (cond c 1 0 + count (crosses q) (drop (i + 1) sidesIn)) ≡ r
+    unfolding rest
+    next = let w : i < length sidesIn = rw long more in rw (hc, ← here) (rw (count-next sidesIn i (sideIn 0) w (crosses q)) at inv)
+
+    pub rest-toggled : (inside′ : Bool) → c ≡ true → inside′ ≡ not inside → rest inside′ (i + 1) ≡ r
+    unfolding rest
+    rest-toggled inside′ t e = rw (e, ← (odd-here inside (count (crosses q) (drop (i + 1) sidesIn)))) (rw t at next)
+
+    pub rest-kept : (inside′ : Bool) → c ≡ false → inside′ ≡ inside → rest inside′ (i + 1) ≡ r
+    unfolding rest
+    rest-kept inside′ t e = rw (e, ← (odd-past inside (count (crosses q) (drop (i + 1) sidesIn)))) (rw t at next)
