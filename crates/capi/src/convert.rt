@@ -6,7 +6,7 @@ use arith::Vec3;
 use cutting_plane::Plane;
 use job::Outcome;
 use lines::StreamlineDirection;
-use velocity::StreamlineOptions;
+use rk4::StreamlineOptions;
 ghost use mathlib.Core.Path.{_≡_};
 ghost use Rattle.job.specs.Job.{numberOf};
 ghost use Rattle.capi.specs.Convert.{vectorOf, planeOf, directionOf, optionsOf};

@@ -27,8 +27,8 @@ use Rattle.polygons.specs.declared.Grid.{Grid}
 use Rattle.polygons.specs.Locate.{locate}
 use Rattle.polygons.specs.Field.{StreamlineField}
 use Rattle.polygons.specs.Layout.{cellPolygonsIn, fieldIn}
-use Rattle.velocity.specs.declared.StreamlineOptions.{StreamlineOptions}
 use Rattle.velocity.proofs.VelocityLaws.{locate-in}
+use Rattle.rk4.specs.declared.StreamlineOptions.{StreamlineOptions}
 use Rattle.lines.specs.declared.Traced.{Traced}
 use Rattle.lines.specs.declared.Traced.the-variants.{Words, Refused}
 use Rattle.lines.specs.declared.StreamlineDirection.{StreamlineDirection}

@@ -19,10 +19,10 @@ use Rattle.reading.proofs.ServedLaws.{going-start, going-part, going-end, serve
 use Rattle.writing.specs.Words.{vecWords, pointWords}
 use Rattle.writing.proofs.WordLaws.{sets-append, sets-set, length-vec, length-points}
 use Rattle.polygons.specs.Field.{StreamlineField}
-use Rattle.velocity.specs.declared.Step.{Step}
-use Rattle.velocity.specs.declared.Step.the-variants.{Next, Ended}
-use Rattle.velocity.specs.declared.StreamlineOptions.{StreamlineOptions}
-use Rattle.velocity.specs.Step.{step}
+use Rattle.rk4.specs.declared.Step.{Step}
+use Rattle.rk4.specs.declared.Step.the-variants.{Next, Ended}
+use Rattle.rk4.specs.declared.StreamlineOptions.{StreamlineOptions}
+use Rattle.rk4.specs.Step.{step}
 use Rattle.lines.specs.declared.StreamlineDirection.{StreamlineDirection}
 use Rattle.lines.specs.Line.{onward, lineFrom, line, signedStep, lineWords, lineAnswer}
 use Rattle.lines.specs.Written.{Drawn, Written}

@@ -15,11 +15,11 @@ use Rattle.reading.specs.Result as result
 use Rattle.reading.specs.Result.{Result, fine, refuse}
 use Rattle.writing.specs.Words.{pointWords}
 use Rattle.polygons.specs.Field.{StreamlineField}
-use Rattle.velocity.specs.declared.Step.{Step}
-use Rattle.velocity.specs.declared.Step.the-variants.{Next, Ended}
-use Rattle.velocity.specs.declared.StreamlineOptions.{StreamlineOptions}
 use Rattle.velocity.specs.Velocity.{locateIn}
-use Rattle.velocity.specs.Step.{step}
+use Rattle.rk4.specs.declared.Step.{Step}
+use Rattle.rk4.specs.declared.Step.the-variants.{Next, Ended}
+use Rattle.rk4.specs.declared.StreamlineOptions.{StreamlineOptions}
+use Rattle.rk4.specs.Step.{step}
 use Rattle.lines.specs.declared.StreamlineDirection.{StreamlineDirection}
 use Rattle.lines.specs.declared.StreamlineDirection.the-variants.{Forward, Backward}
 

@@ -9,7 +9,7 @@ use arith::float;
 use casefile::Counts;
 use polygons::Grid;
 use polygons::locate;
-use velocity::StreamlineOptions;
+use rk4::StreamlineOptions;
 ghost use mathlib.Core.Path.{_≡_};
 ghost use Prim.Native.Nat.{_≤_};
 ghost use Rattle.casefile.specs.Field.{valuesOf};

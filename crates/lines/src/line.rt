@@ -4,9 +4,8 @@ use area::Sizes;
 use arith::Vec3;
 use casefile::Counts;
 use polygons::Grid;
-use velocity::Step;
-use velocity::StreamlineOptions;
-use velocity::rk4;
+use rk4::Step;
+use rk4::StreamlineOptions;
 ghost use mathlib.Core.Path.{_≡_};
 ghost use Prim.Native.Nat.{_+_, _*_, _<_, _≤_};
 ghost use Rattle.arith.specs.F64.{0·0};
@@ -40,7 +39,7 @@ fn points_after(
     let mut p = seed;
     let mut k: usize = 0;
     while k < most {
-        let next = rk4::step(case, n, words, floats, s, g, marks, options, h, p, total);
+        let next = rk4::line_step(case, n, words, floats, s, g, marks, options, h, p, total);
         match next {
             Step::Ended => {
                 return k;

@@ -7,7 +7,7 @@ use area::Sizes;
 use arith::Vec3;
 use casefile::Counts;
 use polygons::Grid;
-use velocity::StreamlineOptions;
+use rk4::StreamlineOptions;
 ghost use mathlib.Core.Path.{_≡_};
 ghost use Prim.Native.Nat.{_≤_, _<_, _*_, _+_};
 ghost use Rattle.arith.specs.Lists.{any};

@@ -6,7 +6,7 @@ use arith::bytes;
 use cutting_plane::Plane;
 use cutting_plane::axes;
 use lines::StreamlineDirection;
-use velocity::StreamlineOptions;
+use rk4::StreamlineOptions;
 ghost use mathlib.Core.Path.{_≡_};
 ghost use mathlib.Core.Bool.{true, false};
 ghost use Prim.Native.Nat.{_+_, _*_, _≤_, _<_};

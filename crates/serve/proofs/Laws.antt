@@ -29,10 +29,10 @@ use Rattle.cutting_plane.specs.declared.Plane.{Plane}
 use Rattle.sections.specs.Intersect.{intersect}
 use Rattle.velocity.specs.declared.Vector.{Vector}
 use Rattle.velocity.specs.declared.Vector.the-variants.{Here, Nowhere}
-use Rattle.velocity.specs.declared.StreamlineOptions.{StreamlineOptions}
 use Rattle.velocity.specs.Velocity.{velocityAt}
 use Rattle.velocity.specs.Ready as Tracer
 use Rattle.velocity.proofs.VelocityLaws.{locate-in}
+use Rattle.rk4.specs.declared.StreamlineOptions.{StreamlineOptions}
 use Rattle.lines.specs.declared.Traced.{Traced}
 use Rattle.lines.specs.declared.Traced.the-variants as Traced
 use Rattle.lines.specs.declared.StreamlineDirection.{StreamlineDirection}

@@ -13,7 +13,7 @@ use polygons::Grid;
 use polygons::locate;
 use prepare::Place;
 use requests::Request;
-use velocity::StreamlineOptions;
+use rk4::StreamlineOptions;
 use velocity::Vector;
 use velocity::interpolate;
 ghost use mathlib.Core.Path.{_≡_};

@@ -12,7 +12,7 @@ use Rattle.arith.specs.F64.{word}
 use Rattle.arith.specs.declared.Vec3.{Vec3}
 use Rattle.arith.proofs.All.{All, all-append}
 use Rattle.reading.specs.Result.{fine, _>>=_}
-use Rattle.velocity.specs.declared.StreamlineOptions.{StreamlineOptions}
+use Rattle.rk4.specs.declared.StreamlineOptions.{StreamlineOptions}
 use Rattle.lines.specs.declared.StreamlineDirection.{StreamlineDirection}
 use Rattle.lines.specs.declared.StreamlineDirection.the-variants.{Forward, Backward}
 use Rattle.cutting_plane.specs.declared.Plane.{Plane}

@@ -9,7 +9,7 @@ use Rattle.arith.specs.F64.{float, word}
 use Rattle.arith.specs.Lists.{any}
 use Rattle.arith.specs.Vec.{vec}
 use Rattle.arith.specs.declared.Vec3.{Vec3}
-use Rattle.velocity.specs.declared.StreamlineOptions.{StreamlineOptions}
+use Rattle.rk4.specs.declared.StreamlineOptions.{StreamlineOptions}
 use Rattle.lines.specs.declared.StreamlineDirection.{StreamlineDirection}
 use Rattle.lines.specs.declared.StreamlineDirection.the-variants.{Forward, Backward}
 use Rattle.cutting_plane.specs.declared.Plane.{Plane}

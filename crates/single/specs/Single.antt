@@ -4,7 +4,7 @@ use mathlib.Core.List.{List, [], _∷_, _++_}
 use lib.ListN.{length, replicate}
 use Rattle.arith.specs.F64.{word}
 use Rattle.arith.specs.declared.Vec3.{Vec3}
-use Rattle.velocity.specs.declared.StreamlineOptions.{StreamlineOptions}
+use Rattle.rk4.specs.declared.StreamlineOptions.{StreamlineOptions}
 use Rattle.lines.specs.declared.StreamlineDirection.{StreamlineDirection}
 use Rattle.lines.specs.declared.StreamlineDirection.the-variants.{Forward, Backward}
 use Rattle.cutting_plane.specs.declared.Plane.{Plane}

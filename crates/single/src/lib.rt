@@ -5,7 +5,7 @@ use cutting_plane::Plane;
 use job::Outcome;
 use lines::StreamlineDirection;
 use requests::encode;
-use velocity::StreamlineOptions;
+use rk4::StreamlineOptions;
 ghost use mathlib.Core.Path.{_≡_};
 ghost use Prim.Native.Nat.{_<_};
 ghost use lib.ListN.{length};

@@ -1,2 +1,1 @@
 pub mod VelocityLaws
-pub mod StepLaws

@@ -1,4 +1,2 @@
 pub mod Velocity
-pub mod RungeKutta
-pub mod Step
 pub mod Ready

@@ -1,6 +1,5 @@
-// The velocity at a point of a 2D case, its direction, and one step of a streamline.
+// The velocity at a point of a 2D case, and its direction.
 pub mod interpolate;
-pub mod rk4;
 
 use arith::Vec3;
 
@@ -14,17 +13,4 @@ pub enum Vector {
 pub struct Near {
     pub cell: usize,
     pub distance: f64,
-}
-
-// The next point with its segment length, or that the line ends.
-pub enum Step {
-    Next(Vec3, f64),
-    Ended,
-}
-
-pub struct StreamlineOptions {
-    pub step_size: f64,
-    pub max_steps: usize,
-    pub max_length: f64,
-    pub stagnation_speed: f64,
 }

@@ -21,12 +21,12 @@ use Rattle.polygons.specs.Locate.{locateWhere, locate}
 use Rattle.polygons.specs.Field.{StreamlineField}
 use Rattle.velocity.specs.declared.Vector.{Vector}
 use Rattle.velocity.specs.declared.Vector.the-variants.{Here, Nowhere}
-use Rattle.velocity.specs.declared.Step.{Step}
-use Rattle.velocity.specs.declared.Step.the-variants.{Next, Ended}
-use Rattle.velocity.specs.declared.StreamlineOptions.{StreamlineOptions}
 use Rattle.velocity.specs.Velocity.{locateIn, neighboursOf, distance, nearerOf, beside, toward, velocityIn, velocityWhere, velocityAt, from, directionAt}
-use Rattle.velocity.specs.RungeKutta.{fourth, third, second, rungeKutta}
-use Rattle.velocity.specs.Step.{rk4Step, step}
+use Rattle.rk4.specs.declared.Step.{Step}
+use Rattle.rk4.specs.declared.Step.the-variants.{Next, Ended}
+use Rattle.rk4.specs.declared.StreamlineOptions.{StreamlineOptions}
+use Rattle.rk4.specs.RungeKutta.{fourth, third, second, rungeKutta}
+use Rattle.rk4.specs.Step.{rk4Step, step}
 use Rattle.lines.specs.declared.StreamlineDirection.{StreamlineDirection}
 use Rattle.lines.specs.Line.{signedStep, onward, lineFrom, line, lineAnswer, integrate}
 use Rattle.lines.specs.Rake.{linesWords, integrateRake}

@@ -18,7 +18,7 @@ use Rattle.lines.proofs.line.points_after.Statement.{statement}
 use Rattle.lines.proofs.line.points_after.Tie as tie
 use Rattle.lines.proofs.line.points_after.Reads as reads
 use Rattle.lines.proofs.line.points_after.Lts as lts
-use Rattle.velocity.proofs.rk4.step.Reads as step-reads
+use Rattle.rk4.proofs.line_step.Reads as line-step-reads
 
 abbrev Inv-loop : tie.InvT-loop
 Inv-loop case n words floats s g marks₀ out₀ at h options most total₀ p₀ k₀ marks out total p k = record { done : List Vec3; count : k ≡ length done; below : k ≤ most; kept : length marks ≡ length marks₀; as-long : length out ≡ length out₀; written : out ≡ sets out₀ at (pointWords done); going : Going (lineFrom (fieldIn g s words floats) options h most p₀ 0·0) (valuesOf case) marks₀ (left (fieldIn g s words floats) options h done (most - k) p total) marks }
@@ -32,8 +32,8 @@ unfolding pointWords
 loop-holds c = record { done = []; count = refl; below = omega arith; kept = refl; as-long = refl; written = refl; going = begun _ _ _ _ _ _ }
 
 -- src/line.rt:52:13
-step-requires : tie.Need-step-requires Inv-loop μ-loop
-step-requires c κs = search needs
+line-step-requires : tie.Need-line-step-requires Inv-loop μ-loop
+line-step-requires c κs = search needs
 
 -- src/line.rt:55:17
 enum-told : tie.Need-enum-told Inv-loop μ-loop
@@ -49,7 +49,7 @@ same-length-2 c = search needs
 
 -- src/line.rt:55:17
 returns : tie.Need-returns Inv-loop μ-loop
-returns c = let i = c .before .before .before .before .before .before .before .loop .inv in (drawn (ended (i .done) (rw (c .enum-told .given .1) at (turned _ _ _ (i .done) _ _ _ _ (c .before .before .before .before .before .before .loop-test .taken) (i .going) (c .before .before .before .before .step .ensures)))) (i .written) (i .count), i .below)
+returns c = let i = c .before .before .before .before .before .before .before .loop .inv in (drawn (ended (i .done) (rw (c .enum-told .given .1) at (turned _ _ _ (i .done) _ _ _ _ (c .before .before .before .before .before .before .loop-test .taken) (i .going) (c .before .before .before .before .line-step .ensures)))) (i .written) (i .count), i .below)
 
 -- src/line.rt:57:24
 enum-known-next : tie.Need-enum-known-next Inv-loop μ-loop
@@ -77,7 +77,7 @@ loop-less c = search needs
 
 -- src/line.rt:51:5
 loop-again : tie.Need-loop-again Inv-loop μ-loop
-loop-again c = let i = c .before .before .before .before .before .before .before .before .before .before .before .before .loop .inv in let x = c .before .before .before .before .before .next .given in record { done = i .done ++ x .0 .0 ∷ []; count = rw length-append (omega arith); below = omega arith; kept = omega arith; as-long = omega arith; written = points-more _ _ _ (i .done) (x .0 .0) _ _ (i .count) (i .written) (c .before .before .put-vec .ensures); going = rw (x .1) at (turned _ _ _ (i .done) _ _ _ _ (c .before .before .before .before .before .before .before .before .before .before .before .loop-test .taken) (i .going) (c .before .before .before .before .before .before .before .before .before .step .ensures)) }
+loop-again c = let i = c .before .before .before .before .before .before .before .before .before .before .before .before .loop .inv in let x = c .before .before .before .before .before .next .given in record { done = i .done ++ x .0 .0 ∷ []; count = rw length-append (omega arith); below = omega arith; kept = omega arith; as-long = omega arith; written = points-more _ _ _ (i .done) (x .0 .0) _ _ (i .count) (i .written) (c .before .before .put-vec .ensures); going = rw (x .1) at (turned _ _ _ (i .done) _ _ _ _ (c .before .before .before .before .before .before .before .before .before .before .before .loop-test .taken) (i .going) (c .before .before .before .before .before .before .before .before .before .line-step .ensures)) }
 
 -- src/line.rt:42:1
 same-length-3 : tie.Need-same-length-3 Inv-loop μ-loop
@@ -98,7 +98,7 @@ points-after-spec =
     Inv-loop
     μ-loop
     loop-holds
-    step-requires
+    line-step-requires
     enum-told
     same-length
     same-length-2

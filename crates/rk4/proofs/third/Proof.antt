@@ -1,53 +1,43 @@
 use Rattle.velocity.proofs.VelocityLaws.{served-lost, served-found}
-use Rattle.velocity.specs.RungeKutta.{third, fourth}
+use Rattle.rk4.specs.RungeKutta.{third, fourth}
 use borrow.Author.Needs.{needs}
-use Rattle.velocity.proofs.rk4.third.Statement.{statement}
-use Rattle.velocity.proofs.rk4.third.Tie as tie
-use Rattle.velocity.proofs.rk4.third.Reads as reads
-use Rattle.velocity.proofs.rk4.third.Lts as lts
+use Rattle.rk4.proofs.third.Statement.{statement}
+use Rattle.rk4.proofs.third.Tie as tie
+use Rattle.rk4.proofs.third.Reads as reads
+use Rattle.rk4.proofs.third.Lts as lts
 use Rattle.arith.proofs.Vec3.add.Reads as add-reads
 use Rattle.arith.proofs.Vec3.scale.Reads as scale-reads
-use Rattle.velocity.proofs.rk4.fourth.Reads as fourth-reads
+use Rattle.rk4.proofs.fourth.Reads as fourth-reads
 use Rattle.velocity.proofs.interpolate.direction_at.Reads as direction-at-reads
 
--- src/rk4.rt:47:19
 scale-requires : tie.Need-scale-requires
 scale-requires c κs = search needs
 
--- src/rk4.rt:47:9
 add-requires : tie.Need-add-requires
 add-requires c κs = search needs
 
--- src/rk4.rt:48:28
 direction-at-requires : tie.Need-direction-at-requires
 direction-at-requires c κs = search needs
 
--- src/rk4.rt:48:22
 enum-known-k3 : tie.Need-enum-known-k3
 enum-known-k3 c = search needs
 
--- src/rk4.rt:49:9
 enum-told : tie.Need-enum-told
 enum-told c = search needs
 
--- src/rk4.rt:49:9
 same-length : tie.Need-same-length
 same-length c = search needs
 
--- src/rk4.rt:49:9
 returns : tie.Need-returns
 unfolding third
 returns c = served-lost (fourth _ _ _ _ _) (rw (c .before .before .before .before .before .before .add .ensures, c .before .before .before .before .before .before .before .scale .ensures) at (c .before .before .before .before .direction-at .ensures)) (c .enum-told .given .1)
 
--- src/rk4.rt:51:5
 fourth-requires : tie.Need-fourth-requires
 fourth-requires c κs = search needs
 
--- src/rk4.rt:43:1
 same-length-2 : tie.Need-same-length-2
 same-length-2 c = search needs
 
--- src/rk4.rt:43:1
 returns-2 : tie.Need-returns-2
 unfolding third
 returns-2 c = served-found (fourth _ _ _ _ _) (rw (c .before .before .before .before .before .before .before .before .before .before .before .add .ensures, c .before .before .before .before .before .before .before .before .before .before .before .before .scale .ensures) at (c .before .before .before .before .before .before .before .before .before .direction-at .ensures)) (c .before .before .before .before .before .k3 .given .1) (c .before .before .fourth .ensures)

@@ -1,8 +1,4 @@
 // A Runge-Kutta step, a function for each of its four directions, and one step of a line.
-use crate::Step;
-use crate::StreamlineOptions;
-use crate::Vector;
-use crate::interpolate::direction_at;
 use area::Sizes;
 use arith::Found;
 use arith::Vec3;
@@ -10,14 +6,29 @@ use arith::float;
 use casefile::Counts;
 use polygons::Grid;
 use polygons::locate;
+use velocity::Vector;
+use velocity::interpolate::direction_at;
 ghost use mathlib.Core.Path.{_≡_};
 ghost use Rattle.reading.specs.Served.{Served};
 ghost use Rattle.casefile.specs.Field.{valuesOf};
 ghost use Rattle.polygons.specs.Layout.{fieldIn};
 ghost use Rattle.velocity.specs.Velocity.{directionAt};
-ghost use Rattle.velocity.specs.RungeKutta as RungeKutta;
-ghost use Rattle.velocity.specs.Step as Steps;
 ghost use Rattle.velocity.specs.Ready.{Ready};
+ghost use Rattle.rk4.specs.RungeKutta as RungeKutta;
+ghost use Rattle.rk4.specs.Step as Steps;
+
+// The next point with its segment length, or that the line ends.
+pub enum Step {
+    Next(Vec3, f64),
+    Ended,
+}
+
+pub struct StreamlineOptions {
+    pub step_size: f64,
+    pub max_steps: usize,
+    pub max_length: f64,
+    pub stagnation_speed: f64,
+}
 
 // The four directions, weighed 1, 2, 2, 1.
 fn weighed(h: f64, p: Vec3, k1: Vec3, k2: Vec3, k3: Vec3, k4: Vec3) -> Vec3
@@ -164,7 +175,7 @@ fn kept(longest: f64, p: Vec3, total: f64, q: Vec3) -> Step
 }
 
 // One step of a line that is `total` long at p.
-pub fn step(
+pub fn line_step(
     case: &[u8],
     n: Counts,
     words: &[u32],

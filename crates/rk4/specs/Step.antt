@@ -8,13 +8,13 @@ use Rattle.arith.specs.declared.Found.{Found}
 use Rattle.arith.specs.declared.Found.the-variants.{At, Nothing}
 use Rattle.reading.specs.Asks.{Asks, give, _>>=_}
 use Rattle.polygons.specs.Field.{StreamlineField}
 use Rattle.velocity.specs.declared.Vector.{Vector}
 use Rattle.velocity.specs.declared.Vector.the-variants.{Here, Nowhere}
-use Rattle.velocity.specs.declared.Step.{Step}
-use Rattle.velocity.specs.declared.Step.the-variants.{Next, Ended}
-use Rattle.velocity.specs.declared.StreamlineOptions.{StreamlineOptions}
 use Rattle.velocity.specs.Velocity.{locateIn, from, directionAt}
-use Rattle.velocity.specs.RungeKutta.{rungeKutta}
+use Rattle.rk4.specs.declared.Step.{Step}
+use Rattle.rk4.specs.declared.Step.the-variants.{Next, Ended}
+use Rattle.rk4.specs.declared.StreamlineOptions.{StreamlineOptions}
+use Rattle.rk4.specs.RungeKutta.{rungeKutta}
 
 -- the point itself, where it locates
 unfoldable pub hereIf : Found → Vec3 → Vector

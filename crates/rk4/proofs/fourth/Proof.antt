@@ -1,56 +1,46 @@
 use Rattle.velocity.proofs.VelocityLaws.{served-lost, served-found}
-use Rattle.velocity.specs.RungeKutta.{weighed, fourth}
+use Rattle.rk4.specs.RungeKutta.{weighed, fourth}
 use Rattle.velocity.specs.declared.Vector.the-variants.{Here}
 use Rattle.reading.proofs.ServedLaws.{served-give}
 use Rattle.reading.specs.Asks.{give}
 use borrow.Author.Needs.{needs}
-use Rattle.velocity.proofs.rk4.fourth.Statement.{statement}
-use Rattle.velocity.proofs.rk4.fourth.Tie as tie
-use Rattle.velocity.proofs.rk4.fourth.Reads as reads
-use Rattle.velocity.proofs.rk4.fourth.Lts as lts
+use Rattle.rk4.proofs.fourth.Statement.{statement}
+use Rattle.rk4.proofs.fourth.Tie as tie
+use Rattle.rk4.proofs.fourth.Reads as reads
+use Rattle.rk4.proofs.fourth.Lts as lts
 use Rattle.arith.proofs.Vec3.add.Reads as add-reads
 use Rattle.arith.proofs.Vec3.scale.Reads as scale-reads
-use Rattle.velocity.proofs.rk4.weighed.Reads as weighed-reads
+use Rattle.rk4.proofs.weighed.Reads as weighed-reads
 use Rattle.velocity.proofs.interpolate.direction_at.Reads as direction-at-reads
 
--- src/rk4.rt:35:19
 scale-requires : tie.Need-scale-requires
 scale-requires c κs = search needs
 
--- src/rk4.rt:35:9
 add-requires : tie.Need-add-requires
 add-requires c κs = search needs
 
--- src/rk4.rt:36:28
 direction-at-requires : tie.Need-direction-at-requires
 direction-at-requires c κs = search needs
 
--- src/rk4.rt:36:22
 enum-known-k4 : tie.Need-enum-known-k4
 enum-known-k4 c = search needs
 
--- src/rk4.rt:37:9
 enum-told : tie.Need-enum-told
 enum-told c = search needs
 
--- src/rk4.rt:37:9
 same-length : tie.Need-same-length
 same-length c = search needs
 
--- src/rk4.rt:37:9
 returns : tie.Need-returns
 unfolding fourth
 returns c = served-lost (λ k4. give (Here (weighed _ _ _ _ _ k4))) (rw (c .before .before .before .before .before .before .add .ensures, c .before .before .before .before .before .before .before .scale .ensures) at (c .before .before .before .before .direction-at .ensures)) (c .enum-told .given .1)
 
--- src/rk4.rt:39:18
 weighed-requires : tie.Need-weighed-requires
 weighed-requires c κs = search needs
 
--- src/rk4.rt:31:1
 same-length-2 : tie.Need-same-length-2
 same-length-2 c = search needs
 
--- src/rk4.rt:31:1
 returns-2 : tie.Need-returns-2
 unfolding fourth
 returns-2 c = rw (c .weighed .ensures) (served-found (λ k4. give (Here (weighed _ _ _ _ _ k4))) (rw (c .before .before .before .before .before .before .before .before .add .ensures, c .before .before .before .before .before .before .before .before .before .scale .ensures) at (c .before .before .before .before .before .before .direction-at .ensures)) (c .before .before .k4 .given .1) served-give)

@@ -18,15 +18,15 @@ use Rattle.polygons.specs.declared.Grid.{Grid}
 use Rattle.polygons.specs.Locate.{locate}
 use Rattle.polygons.specs.Field.{StreamlineField}
 use Rattle.polygons.specs.Layout.{cellPolygonsIn, fieldIn}
 use Rattle.velocity.specs.declared.Vector.{Vector}
 use Rattle.velocity.specs.declared.Vector.the-variants.{Here, Nowhere}
-use Rattle.velocity.specs.declared.Step.{Step}
-use Rattle.velocity.specs.declared.Step.the-variants.{Next, Ended}
-use Rattle.velocity.specs.declared.StreamlineOptions.{StreamlineOptions}
 use Rattle.velocity.specs.Velocity.{locateIn, directionAt}
-use Rattle.velocity.specs.RungeKutta.{rungeKutta}
-use Rattle.velocity.specs.Step.{hereIf, rk4Step, kept, step}
 use Rattle.velocity.proofs.VelocityLaws.{served-lost, served-found, locate-in}
+use Rattle.rk4.specs.declared.Step.{Step}
+use Rattle.rk4.specs.declared.Step.the-variants.{Next, Ended}
+use Rattle.rk4.specs.declared.StreamlineOptions.{StreamlineOptions}
+use Rattle.rk4.specs.RungeKutta.{rungeKutta}
+use Rattle.rk4.specs.Step.{hereIf, rk4Step, kept, step}
 
 module _ (g : Grid) (s : Sizes) (w : List ℕ) (f : List Float) (v : ℕ → Values) (m m′ : List ℕ) (still h : Float) (p : Vec3) (r : Vector)
     (d : Served (rungeKutta (directionAt (fieldIn g s w f) still) h p) v m m′ r) where

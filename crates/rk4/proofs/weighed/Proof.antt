@@ -1,41 +1,33 @@
-use Rattle.velocity.specs.RungeKutta.{weighed}
+use Rattle.rk4.specs.RungeKutta.{weighed}
 use borrow.Author.Needs.{needs}
-use Rattle.velocity.proofs.rk4.weighed.Statement.{statement}
-use Rattle.velocity.proofs.rk4.weighed.Tie as tie
-use Rattle.velocity.proofs.rk4.weighed.Reads as reads
-use Rattle.velocity.proofs.rk4.weighed.Lts as lts
+use Rattle.rk4.proofs.weighed.Statement.{statement}
+use Rattle.rk4.proofs.weighed.Tie as tie
+use Rattle.rk4.proofs.weighed.Reads as reads
+use Rattle.rk4.proofs.weighed.Lts as lts
 use Rattle.arith.proofs.Vec3.add.Reads as add-reads
 use Rattle.arith.proofs.Vec3.scale.Reads as scale-reads
 
--- src/rk4.rt:26:22
 scale-requires : tie.Need-scale-requires
 scale-requires c κs = search needs
 
--- src/rk4.rt:26:15
 add-requires : tie.Need-add-requires
 add-requires c κs = search needs
 
--- src/rk4.rt:26:41
 scale-requires-2 : tie.Need-scale-requires-2
 scale-requires-2 c κs = search needs
 
--- src/rk4.rt:26:15
 add-requires-2 : tie.Need-add-requires-2
 add-requires-2 c κs = search needs
 
--- src/rk4.rt:26:9
 add-requires-3 : tie.Need-add-requires-3
 add-requires-3 c κs = search needs
 
--- src/rk4.rt:27:11
 scale-requires-3 : tie.Need-scale-requires-3
 scale-requires-3 c κs = search needs
 
--- src/rk4.rt:27:5
 add-requires-4 : tie.Need-add-requires-4
 add-requires-4 c κs = search needs
 
--- src/rk4.rt:23:1
 returns : tie.Need-returns
 unfolding weighed
 returns c = rw (c .add4 .ensures, c .before .scale3 .ensures, c .before .before .add3 .ensures, c .before .before .before .add2 .ensures, c .before .before .before .before .scale2 .ensures, c .before .before .before .before .before .add .ensures, c .before .before .before .before .before .before .scale .ensures)

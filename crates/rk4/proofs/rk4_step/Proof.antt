@@ -1,56 +1,45 @@
-use Rattle.velocity.proofs.StepLaws.{rk4-lost, rk4-outside, rk4-inside}
+use Rattle.rk4.proofs.StepLaws.{rk4-lost, rk4-outside, rk4-inside}
 use borrow.Author.Needs.{needs}
-use Rattle.velocity.proofs.rk4.rk4_step.Statement.{statement}
-use Rattle.velocity.proofs.rk4.rk4_step.Tie as tie
-use Rattle.velocity.proofs.rk4.rk4_step.Reads as reads
-use Rattle.velocity.proofs.rk4.rk4_step.Lts as lts
-use Rattle.velocity.proofs.rk4.runge_kutta.Reads as runge-kutta-reads
+use Rattle.rk4.proofs.rk4_step.Statement.{statement}
+use Rattle.rk4.proofs.rk4_step.Tie as tie
+use Rattle.rk4.proofs.rk4_step.Reads as reads
+use Rattle.rk4.proofs.rk4_step.Lts as lts
+use Rattle.rk4.proofs.runge_kutta.Reads as runge-kutta-reads
 use Rattle.polygons.proofs.locate.locate_cell.Reads as locate-cell-reads
 
--- src/rk4.rt:82:27
 runge-kutta-requires : tie.Need-runge-kutta-requires
 runge-kutta-requires c κs = search needs
 
--- src/rk4.rt:82:22
 enum-known-q : tie.Need-enum-known-q
 enum-known-q c = search needs
 
--- src/rk4.rt:83:9
 enum-told : tie.Need-enum-told
 enum-told c = search needs
 
--- src/rk4.rt:83:9
 same-length : tie.Need-same-length
 same-length c = search needs
 
--- src/rk4.rt:83:9
 returns : tie.Need-returns
 returns c = rk4-lost _ _ _ _ _ _ _ _ _ _ _ (c .before .before .before .before .runge-kutta .ensures) (c .enum-told .given .1)
 
--- src/rk4.rt:85:24
 locate-cell-requires : tie.Need-locate-cell-requires
 locate-cell-requires c κs = search needs
 
 enum-told-2 : tie.Need-enum-told-2
 enum-told-2 c = search needs
 
--- src/rk4.rt:86:9
 enum-told-3 : tie.Need-enum-told-3
 enum-told-3 c = search needs
 
--- src/rk4.rt:86:9
 same-length-2 : tie.Need-same-length-2
 same-length-2 c = search needs
 
--- src/rk4.rt:86:9
 returns-2 : tie.Need-returns-2
 returns-2 c = rk4-outside _ _ _ _ _ _ _ _ _ _ _ (c .before .before .before .before .before .before .before .before .runge-kutta .ensures) _ _ (c .before .before .before .before .q .given .1) (c .before .before .locate-cell .ensures) (c .enum-told3 .given .1)
 
--- src/rk4.rt:78:1
 same-length-3 : tie.Need-same-length-3
 same-length-3 c = search needs
 
--- src/rk4.rt:78:1
 returns-3 : tie.Need-returns-3
 returns-3 c = rk4-inside _ _ _ _ _ _ _ _ _ _ _ (c .before .before .before .before .before .before .before .before .runge-kutta .ensures) _ _ (c .before .before .before .before .q .given .1) (c .before .before .locate-cell .ensures) _ (c .enum-told2 .given .1)
 

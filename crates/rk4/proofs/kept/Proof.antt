@@ -1,34 +1,28 @@
-use Rattle.velocity.proofs.StepLaws.{kept-too-long, kept-on, kept-endless}
+use Rattle.rk4.proofs.StepLaws.{kept-too-long, kept-on, kept-endless}
 use borrow.Author.Needs.{needs}
-use Rattle.velocity.proofs.rk4.kept.Statement.{statement}
-use Rattle.velocity.proofs.rk4.kept.Tie as tie
-use Rattle.velocity.proofs.rk4.kept.Reads as reads
-use Rattle.velocity.proofs.rk4.kept.Lts as lts
+use Rattle.rk4.proofs.kept.Statement.{statement}
+use Rattle.rk4.proofs.kept.Tie as tie
+use Rattle.rk4.proofs.kept.Reads as reads
+use Rattle.rk4.proofs.kept.Lts as lts
 use Rattle.arith.proofs.Vec3.norm.Reads as norm-reads
 use Rattle.arith.proofs.Vec3.sub.Reads as sub-reads
 use Rattle.arith.proofs.float.is_finite.Reads as is-finite-reads
 
--- src/rk4.rt:95:19
 sub-requires : tie.Need-sub-requires
 sub-requires c κs = search needs
 
--- src/rk4.rt:95:9
 norm-requires : tie.Need-norm-requires
 norm-requires c κs = search needs
 
--- src/rk4.rt:96:8
 is-finite-requires : tie.Need-is-finite-requires
 is-finite-requires c κs = search needs
 
--- src/rk4.rt:98:13
 returns : tie.Need-returns
 returns c = kept-too-long _ _ _ _ _ _ _ (c .before .before .before .before .sub .ensures) (c .before .before .before .norm .ensures) (c .before .before .is-finite .ensures) (c .before .if1 .taken) (c .if2 .taken)
 
--- src/rk4.rt:100:9
 returns-2 : tie.Need-returns-2
 returns-2 c = kept-on _ _ _ _ _ _ _ (c .before .before .before .before .sub .ensures) (c .before .before .before .norm .ensures) (c .before .before .is-finite .ensures) (c .before .if1 .taken) (c .if2 .left)
 
--- src/rk4.rt:92:1
 returns-3 : tie.Need-returns-3
 returns-3 c = kept-endless _ _ _ _ _ _ _ (c .before .before .before .sub .ensures) (c .before .before .norm .ensures) (c .before .is-finite .ensures) (c .if1 .left)
 

@@ -1,0 +1,2 @@
+pub mod RungeKutta
+pub mod Step
