@@ -7,7 +7,7 @@ use mathlib.Core.List.{List, [], _∷_}
 use lib.ListN.{length, getD, drop, set}
 use lib.Seq.{set-out}
 use lib.Ieee.{Float}
-use Rattle.arith.specs.F64.{_≺_, finite}
+use Rattle.arith.specs.F64.{_≺_, finite, nearer}
 use Rattle.arith.specs.Lists.{foldl}
 use Rattle.arith.specs.Vec.{minus, over, norm}
 use Rattle.arith.specs.declared.Vec3.{Vec3}
@@ -28,7 +28,7 @@ use Rattle.polygons.specs.Field.{StreamlineField}
 use Rattle.polygons.specs.Layout.{cellPolygonsIn, fieldIn}
 use Rattle.velocity.specs.declared.Vector.{Vector}
 use Rattle.velocity.specs.declared.Vector.the-variants.{Here, Nowhere}
-use Rattle.velocity.specs.Velocity.{locateIn, centreOf, neighboursOf, nearerOf, blended, apart, beside, toward, velocityIn, velocityWhere, velocityAt, from, unit, directionAt}
+use Rattle.velocity.specs.Velocity.{locateIn, centreOf, neighboursOf, distance, nearerOf, blended, apart, beside, toward, velocityIn, velocityWhere, velocityAt, from, unit, directionAt}
 
 -- ---- what was found, and what was not
 
@@ -63,6 +63,15 @@ module _ (g : Grid) (s : Sizes) (w : List ℕ) (f : List Float) where
   locate-in p r e = e
 
   -- ---- the nearest neighbour
+
+  module _ (p : Vec3) (best i : ℕ) (d e : Float) (t : Bool) (ed : d ≡ distance field p i) (ee : e ≡ distance field p best) (et : t ≡ nearer d e) where
+    pub nearer-taken : t ≡ true → i ≡ nearerOf field p best i
+    unfolding nearerOf
+    nearer-taken h = rw (← ed, ← ee, ← et, h)
+
+    pub nearer-left : t ≡ false → best ≡ nearerOf field p best i
+    unfolding nearerOf
+    nearer-left h = rw (← ed, ← ee, ← et, h)
 
   module _ (p : Vec3) (i k count best : ℕ) (r : ℕ) (long : count ≡ length (cellAt (cellsIn s w f) i .neighbours))
       (inv : foldl (nearerOf field p) best (drop k (neighboursOf field i)) ≡ r) where

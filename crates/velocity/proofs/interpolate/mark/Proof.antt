@@ -1,4 +1,5 @@
 use Rattle.velocity.proofs.VelocityLaws.{unmarked}
+use mathlib.Core.Path.{refl}
 use borrow.Author.Needs.{needs}
 use Rattle.velocity.proofs.interpolate.mark.Statement.{statement}
 use Rattle.velocity.proofs.interpolate.mark.Tie as tie
@@ -15,7 +16,7 @@ same-length c = search needs
 
 -- src/interpolate.rt:28:1
 returns : tie.Need-returns
-returns c = search needs
+returns c = refl
 
 -- src/interpolate.rt:28:1
 returns-2 : tie.Need-returns-2

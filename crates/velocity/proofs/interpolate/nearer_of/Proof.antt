@@ -1,5 +1,4 @@
-use Rattle.velocity.specs.Velocity.{nearerOf}
-use mathlib.Core.Path.{sym, _∙_}
+use Rattle.velocity.proofs.VelocityLaws.{nearer-taken, nearer-left}
 use borrow.Author.Needs.{needs}
 use Rattle.velocity.proofs.interpolate.nearer_of.Statement.{statement}
 use Rattle.velocity.proofs.interpolate.nearer_of.Tie as tie
@@ -15,12 +14,14 @@ nearer-requires : tie.Need-nearer-requires
 nearer-requires c κs = search needs
 
 returns : tie.Need-returns
-unfolding nearerOf
-returns c = (λ g words. rw (← c .before .before .distance .ensures g words, ← c .before .before .before .before .pre .1 g words, sym (c .before .nearer .ensures) ∙ c .if1 .taken), λ g words. c .before .before .distance .ensures g words)
+returns c =
+    let b = c .before .before in
+    (λ g words. nearer-taken g _ words _ _ _ _ _ _ _ (b .distance .ensures g words) (b .before .before .pre .1 g words) (c .before .nearer .ensures) (c .if1 .taken), b .distance .ensures)
 
 returns-2 : tie.Need-returns-2
-unfolding nearerOf
-returns-2 c = (λ g words. rw (← c .before .before .distance .ensures g words, ← c .before .before .before .before .pre .1 g words, sym (c .before .nearer .ensures) ∙ c .if1 .left), λ g words. c .before .before .before .before .pre .1 g words)
+returns-2 c =
+    let b = c .before .before in
+    (λ g words. nearer-left g _ words _ _ _ _ _ _ _ (b .distance .ensures g words) (b .before .before .pre .1 g words) (c .before .nearer .ensures) (c .if1 .left), b .before .before .pre .1)
 
 pub nearer-of-spec : {M : Type 1} → statement M
 nearer-of-spec = tie.close (tie.spec distance-requires nearer-requires returns returns-2)
