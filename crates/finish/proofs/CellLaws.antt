@@ -12,7 +12,7 @@ use Rattle.arith.specs.Records.{tab, puts}
 use Rattle.arith.proofs.RecordLaws.{tab-same, lt-or-ge, getD-puts-out, getD-puts-at, getD-puts-first}
 use Rattle.area.specs.declared.Sizes.{Sizes}
 use Rattle.area.specs.Layout.{listAt, vecFrom, cellIn, meshWords, meshFloats, wordsEnd, floatsEnd}
-use Rattle.geometry.specs.declared.CellGeometry.{CellGeometry}
+use Rattle.volumes.specs.declared.CellGeometry.{CellGeometry}
 use Rattle.cells.specs.Drafting.{cellWord, draftIn, Lists}
 use Rattle.finish.specs.Steps.{cellFrom, floatsOf, firstCells}
 

@@ -24,11 +24,10 @@ use Rattle.casefile.proofs.RecordLaws.{StepsTo, steps-to, steps-wrong}
 use Rattle.area.specs.declared.Sizes.{Sizes}
 use Rattle.area.specs.Tables.{Cell}
 use Rattle.area.specs.Layout.{vecFrom, cellsIn, LentFloats}
-use Rattle.geometry.specs.declared.CellGeometry.{CellGeometry}
-use Rattle.geometry.specs.declared.CellMeasure.{CellMeasure}
-use Rattle.geometry.specs.declared.CellMeasure.the-variants as Measure
-use Rattle.geometry.specs.Geometry.{cellGeometry}
-use Rattle.geometry.specs.Answers.{cellOf}
+use Rattle.volumes.specs.declared.CellGeometry.{CellGeometry}
+use Rattle.volumes.specs.declared.CellMeasure.{CellMeasure}
+use Rattle.volumes.specs.declared.CellMeasure.the-variants as Measure
+use Rattle.volumes.specs.Geometry.{cellGeometry, cellOf}
 use Rattle.measure.specs.Records.{facesAt}
 use Rattle.cells.specs.Cells.{Draft}
 use Rattle.cells.specs.Drafting.{draftIn, draftsIn}

@@ -11,7 +11,7 @@ use Rattle.casefile.specs.Definitions.{definitions}
 use Rattle.area.specs.declared.Sizes.{Sizes}
 use Rattle.area.specs.Tables.{Cell}
 use Rattle.area.specs.Layout.{cellsIn, LentWords, LentFloats}
-use Rattle.geometry.specs.Geometry.{cellGeometry}
+use Rattle.volumes.specs.Geometry.{cellGeometry}
 use Rattle.measure.specs.Records.{Points}
 use Rattle.cells.specs.Cells.{Draft}
 use Rattle.cells.specs.Drafting.{draftsIn, Lists}

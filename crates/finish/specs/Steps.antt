@@ -15,8 +15,8 @@ use Rattle.casefile.specs.declared.Head.{Head}
 use Rattle.area.specs.declared.Sizes.{Sizes}
 use Rattle.area.specs.Tables.{Cell}
 use Rattle.area.specs.Layout.{vecFrom, cellIn, meshWords, meshFloats, LentFloats}
-use Rattle.geometry.specs.declared.CellGeometry.{CellGeometry}
-use Rattle.geometry.specs.Geometry.{cellGeometry}
+use Rattle.volumes.specs.declared.CellGeometry.{CellGeometry}
+use Rattle.volumes.specs.Geometry.{cellGeometry}
 use Rattle.measure.specs.Records.{Points}
 use Rattle.cells.specs.Drafting.{draftsIn}
 use Rattle.finish.specs.Finish.{finished, definitionsOf}

@@ -13,9 +13,7 @@ use Rattle.geometry.specs.declared.FaceVector.the-variants as Of
 use Rattle.geometry.specs.declared.FaceGeometry.{FaceGeometry}
 use Rattle.geometry.specs.declared.TurnedFace.{TurnedFace}
 use Rattle.geometry.specs.declared.TurnedFace.the-variants as Turned
-use Rattle.geometry.specs.declared.Weight.{Weight}
 use Rattle.geometry.specs.Faces.{average, faceAreaVector, faceWith, measured, inward, turnedIf, orientedFace, leftOrder}
-use Rattle.geometry.specs.Geometry.{addFan, fanOf, addFace3D}
 use Rattle.geometry.specs.Answers.{vectorOf, faceOf, Turning}
 
 -- what `face_of` answers
@@ -61,14 +59,3 @@ module _ (d : ℕ) (ps : List Vec3) (l : List ℕ) (r : FaceVector) (h : vectorO
       pub turn-made : (t ≺ 0·0) ≡ true → (l′ : List ℕ) (r′ : TurnedFace) → l′ ≡ reverse l → faceOf l′ r′ ≡ measured d ps l′ → Turning d ps reference l l′ r′
       unfolding orientedFace leftOrder _>>=_ turnedIf faceWith
       turn-made k l′ r′ el h′ = record { face = rw (is, test, k, turnedIf, ← el) h′; order = rw (is, test, k) el }
-
--- ---- a face of a cell in 3D, from what `oriented_face` promises
-
-module _ (ps : List Vec3) (reference : Vec3) (l l′ : List ℕ) (r : TurnedFace) (w : Weight) (h : Turning 3 ps reference l l′ r) where
-  pub face-added : (g : FaceGeometry) → r ≡ Turned.Face g → addFace3D ps reference w l ≡ fine (addFan ps reference w l′)
-  unfolding addFace3D fanOf faceOf
-  face-added g e = let m : orientedFace 3 ps reference l ≡ faceOf l′ (Turned.Face g) = sym (h .face) ∙ ap (faceOf l′) e in rw m
-
-  pub face-refused : r ≡ Turned.Degenerate → addFace3D ps reference w l ≡ refused 15
-  unfolding addFace3D fanOf faceOf
-  face-refused e = let m : orientedFace 3 ps reference l ≡ faceOf l′ Turned.Degenerate = sym (h .face) ∙ ap (faceOf l′) e in rw m

@@ -9,9 +9,6 @@ use Rattle.geometry.specs.declared.FaceVector.{FaceVector}
 use Rattle.geometry.specs.declared.FaceVector.the-variants as Of
 use Rattle.geometry.specs.declared.TurnedFace.{TurnedFace}
 use Rattle.geometry.specs.declared.TurnedFace.the-variants as Turned
-use Rattle.geometry.specs.declared.CellMeasure.{CellMeasure}
-use Rattle.geometry.specs.declared.CellMeasure.the-variants as Measure
-use Rattle.geometry.specs.declared.CellGeometry.{CellGeometry}
 use Rattle.geometry.specs.Faces.{Oriented, insertNew, measured, orientedFace, leftOrder}
 
 -- 13 "degenerate face"
@@ -24,11 +21,6 @@ unfoldable pub faceOf : List ℕ → TurnedFace → Result Oriented
 faceOf l (Turned.Face g) =
     fine (record { vertices = l; centre = g .centre; area = g .area; normal = g .normal; areaVector = g .«area_vector» })
 faceOf l Turned.Degenerate = refused 13
-
--- 15 "zero volume"
-unfoldable pub cellOf : CellMeasure → Result CellGeometry
-cellOf (Measure.Cell g) = fine g
-cellOf Measure.ZeroVolume = refused 15
 
 -- `insert_new`: a slice before and after, whose first n and then first r numbers are rising
 pub record Inserted (before after : List ℕ) (n x r : ℕ) : Type 0 where

@@ -23,8 +23,8 @@ use Rattle.area.specs.Tables.{pointAt, Face, faceAt as tableAt, noFace}
 use Rattle.area.specs.Layout.{pointsIn, facesIn}
 use Rattle.area.specs.declared.Sizes.{Sizes}
 use Rattle.area.proofs.LayoutLaws.{length-points, length-facesIn}
-use Rattle.geometry.specs.declared.Weight.{Weight}
-use Rattle.geometry.specs.Geometry.{addTriangle, addFace3D, weightless, centre2D, centre3D, geometryIn, cellGeometry}
+use Rattle.volumes.specs.declared.Weight.{Weight}
+use Rattle.volumes.specs.Geometry.{addTriangle, addFace3D, weightless, centre2D, centre3D, geometryIn, cellGeometry}
 use Rattle.area.specs.Tables.{Cell, cellAt}
 use Rattle.arith.specs.declared.Found.{Found}
 use Rattle.arith.specs.declared.Found.the-variants.{At, Nothing}

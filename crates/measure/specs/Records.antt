@@ -9,8 +9,8 @@ use Rattle.casefile.specs.Faces.{facesOf}
 use Rattle.casefile.specs.Walker.{definitionAt, faceAt, AtFace}
 use Rattle.casefile.specs.declared.Head.{Head}
 use Rattle.casefile.specs.declared.FaceCursor.{FaceCursor}
-use Rattle.geometry.specs.declared.Weight.{Weight}
-use Rattle.geometry.specs.Geometry.{addTriangle, addFace3D}
+use Rattle.volumes.specs.declared.Weight.{Weight}
+use Rattle.volumes.specs.Geometry.{addTriangle, addFace3D}
 use Rattle.measure.specs.declared.Weighed.{Weighed}
 use Rattle.measure.specs.declared.Fanned.{Fanned}
 use Rattle.measure.specs.declared.Fanned.the-variants as Fan

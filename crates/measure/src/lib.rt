@@ -6,9 +6,9 @@ use arith::Vec3;
 use casefile::FaceCursor;
 use casefile::Head;
 use casefile::faces;
-use geometry::CellMeasure;
 use geometry::TurnedFace;
-use geometry::Weight;
+use volumes::CellMeasure;
+use volumes::Weight;
 ghost use mathlib.Core.Path.{_≡_};
 ghost use mathlib.Core.Bool.{false};
 ghost use Prim.Native.Nat.{_+_, _*_, _≤_, _<_};
@@ -21,8 +21,7 @@ ghost use Rattle.casefile.specs.Trailer.{wordsIn};
 ghost use Rattle.casefile.specs.Walker.{Headed};
 ghost use Rattle.area.specs.Tables.{faceAt};
 ghost use Rattle.area.specs.Layout.{pointsIn, facesIn, cellsIn, LentWords, LentFloats};
-ghost use Rattle.geometry.specs.Geometry.{weightless, addTriangle, addFace3D, cellGeometry};
-ghost use Rattle.geometry.specs.Answers.{cellOf};
+ghost use Rattle.volumes.specs.Geometry.{weightless, addTriangle, addFace3D, cellGeometry, cellOf};
 ghost use Rattle.measure.specs.Orientation as Orientation;
 ghost use Rattle.measure.specs.Records.{Points, facesAt, FaceTaken, EdgeAdded, FanAdded, fansOf};
 
@@ -104,7 +103,7 @@ fn add_edge(
     let count = copied.count;
     let a = number(&face[..count], 0);
     let b = number(&face[..count], 1);
-    let sum = geometry::add_triangle(case, points, reference, weight, a, b);
+    let sum = volumes::add_triangle(case, points, reference, weight, a, b);
     let next = copied.next;
     Weighed { weight: sum, next }
 }
@@ -115,7 +114,7 @@ fn add_edges(case: &[u8], points: usize, words: &[u8], h: Head, reference: Vec3)
     requires { ⌜ Headed (wordsIn (now words)) h ⌝ }
     ensures { λ r. ⌜ r ≡ foldl (addTriangle (pointsIn (now (case .entry)) points) reference) weightless (facesAt (wordsIn (now (words .entry))) h) ⌝ }
 {
-    let mut sum = geometry::weightless();
+    let mut sum = volumes::weightless();
     let mut c = faces::first_face(h);
     while c.face < h.faces {
         let t = add_edge(case, points, words, h, c, reference, sum);
@@ -139,7 +138,7 @@ fn add_turned(
 {
     match geometry::oriented_face(3, case, points, vertices, reference) {
         TurnedFace::Degenerate => Fans::Degenerate,
-        TurnedFace::Face(_) => Fans::Sum(geometry::add_fan(
+        TurnedFace::Face(_) => Fans::Sum(volumes::add_fan(
             case,
             points,
             reference,
@@ -179,7 +178,7 @@ fn add_faces_3d(case: &[u8], points: usize, words: &[u8], h: Head, reference: Ve
     requires { ⌜ Headed (wordsIn (now words)) h ⌝ }
     ensures { λ r. ⌜ fansOf r ≡ steps (addFace3D (pointsIn (now (case .entry)) points) reference) weightless (facesAt (wordsIn (now (words .entry))) h) ⌝ }
 {
-    let mut sum = geometry::weightless();
+    let mut sum = volumes::weightless();
     let mut c = faces::first_face(h);
     while c.face < h.faces {
         let Fanned::Added(t) = add_face_3d(case, points, words, h, c, reference, sum) else {
@@ -205,10 +204,10 @@ pub fn cell_geometry(
     ensures { λ r. ⌜ cellOf r ≡ cellGeometry dimension (pointsIn (now (case .entry)) points) reference (facesAt (wordsIn (now (words .entry))) h) ⌝ }
 {
     if dimension == 2 {
-        return geometry::centre_2d(reference, add_edges(case, points, words, h, reference));
+        return volumes::centre_2d(reference, add_edges(case, points, words, h, reference));
     }
     match add_faces_3d(case, points, words, h, reference) {
-        Fans::Sum(w) => geometry::centre_3d(w),
+        Fans::Sum(w) => volumes::centre_3d(w),
         Fans::Degenerate => CellMeasure::ZeroVolume,
     }
 }

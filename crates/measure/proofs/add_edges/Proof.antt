@@ -7,7 +7,7 @@ use Rattle.casefile.proofs.FaceLaws.{at-first}
 use Rattle.area.specs.Layout.{pointsIn}
 use Rattle.measure.specs.Records.{facesAt}
 use Rattle.arith.specs.Lists.{foldl}
-use Rattle.geometry.specs.Geometry.{weightless, addTriangle}
+use Rattle.volumes.specs.Geometry.{weightless, addTriangle}
 use Rattle.measure.proofs.Laws.{sum-next, facesAt-end}
 use borrow.Author.Needs.{needs}
 use native.Mathlib.Omega.{arith}

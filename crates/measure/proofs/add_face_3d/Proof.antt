@@ -1,7 +1,7 @@
 use Rattle.casefile.proofs.FaceLaws.{next-number}
 use mathlib.Core.Path.{sym, _∙_, ap}
 use lib.ListN.{length-take}
-use Rattle.geometry.specs.Geometry.{addFace3D}
+use Rattle.volumes.specs.Geometry.{addFace3D}
 use Rattle.measure.specs.Records.{fansOf, added, degenerate}
 use native.Mathlib.Omega.{arith}
 use borrow.Author.Needs.{needs}

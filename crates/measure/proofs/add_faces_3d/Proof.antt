@@ -8,7 +8,7 @@ use Rattle.casefile.proofs.FaceLaws.{at-first}
 use Rattle.area.specs.Layout.{pointsIn}
 use Rattle.measure.specs.Records.{facesAt}
 use Rattle.reading.specs.Result.{steps}
-use Rattle.geometry.specs.Geometry.{weightless, addFace3D}
+use Rattle.volumes.specs.Geometry.{weightless, addFace3D}
 use Rattle.measure.specs.Records.{fansOf}
 use Rattle.measure.proofs.Laws.{steps-on, steps-stop, facesAt-end, fan-degenerate, fan-sum, fan-next}
 use borrow.Author.Needs.{needs}

@@ -1,6 +1,6 @@
 use mathlib.Core.Path.{sym, _∙_, ap}
 use Rattle.reading.specs.Result.{fine}
-use Rattle.geometry.proofs.AnswerLaws.{face-added, face-refused}
+use Rattle.volumes.proofs.FanLaws.{face-added, face-refused}
 use Rattle.measure.specs.Records.{fansOf}
 use borrow.Author.Needs.{needs}
 use Rattle.measure.proofs.add_turned.Statement.{statement}

@@ -1,5 +1,4 @@
-use Rattle.geometry.specs.Geometry.{centre2D}
-use Rattle.geometry.specs.Answers.{cellOf}
+use Rattle.volumes.specs.Geometry.{centre2D, cellOf}
 use Rattle.measure.specs.Records.{fansOf}
 use Rattle.measure.proofs.Laws.{flat-cell, solid-cell, no-cell}
 use mathlib.Core.Path.{sym, _∙_, ap}

@@ -4,11 +4,11 @@ use lib.ListN.{length, drop, getD}
 use Rattle.arith.specs.Lists.{foldl, windows}
 use Rattle.area.specs.Tables.{pointAt}
 use Rattle.area.specs.Layout.{pointsIn}
-use Rattle.geometry.specs.Geometry.{addTetrahedron, addFan}
-use Rattle.geometry.proofs.FaceLaws.{fan-start, fan-turn, fan-done}
+use Rattle.volumes.specs.Geometry.{addTetrahedron, addFan}
+use Rattle.volumes.proofs.FanLaws.{fan-start, fan-turn, fan-done}
 use borrow.Author.Needs.{needs}
-use Rattle.geometry.proofs.add_fan.Statement.{statement}
-use Rattle.geometry.proofs.add_fan.Tie as tie
+use Rattle.volumes.proofs.add_fan.Statement.{statement}
+use Rattle.volumes.proofs.add_fan.Tie as tie
 
 abbrev Inv-loop : tie.InvT-loop
 Inv-loop case points reference vertices sum₀ j₀ sum j =

@@ -11,9 +11,11 @@ use Rattle.arith.specs.Vec.{origin, plus, minus, times, over, dot, cross}
 use Rattle.arith.specs.declared.Vec3.{Vec3}
 use Rattle.reading.specs.Result.{Result, refused, fine, _>>=_, steps}
 use Rattle.area.specs.Tables.{pointAt}
 use Rattle.geometry.specs.Faces.{Oriented, orientedFace}
-use Rattle.geometry.specs.declared.Weight.{Weight}
-use Rattle.geometry.specs.declared.CellGeometry.{CellGeometry}
+use Rattle.volumes.specs.declared.Weight.{Weight}
+use Rattle.volumes.specs.declared.CellGeometry.{CellGeometry}
+use Rattle.volumes.specs.declared.CellMeasure.{CellMeasure}
+use Rattle.volumes.specs.declared.CellMeasure.the-variants as Measure
 
 -- ---- sums of measures, and of centres weighted with them
 
@@ -84,3 +86,9 @@ geometryIn false ps reference faces = steps (addFace3D ps reference) weightless 
 
 unfoldable pub cellGeometry : ℕ → List Vec3 → Vec3 → List (List ℕ) → Result CellGeometry
 cellGeometry d ps reference faces = geometryIn (eqb d 2) ps reference faces
+
+-- ---- what an answer means: 15 "zero volume"
+
+unfoldable pub cellOf : CellMeasure → Result CellGeometry
+cellOf (Measure.Cell g) = fine g
+cellOf Measure.ZeroVolume = refused 15

@@ -1,7 +1,7 @@
-use Rattle.geometry.specs.Geometry.{addTriangle, doubled}
+use Rattle.volumes.specs.Geometry.{addTriangle, doubled}
 use borrow.Author.Needs.{needs}
-use Rattle.geometry.proofs.add_triangle.Statement.{statement}
-use Rattle.geometry.proofs.add_triangle.Tie as tie
+use Rattle.volumes.proofs.add_triangle.Statement.{statement}
+use Rattle.volumes.proofs.add_triangle.Tie as tie
 
 returns : tie.Need-returns
 unfolding addTriangle doubled

@@ -1,7 +1,7 @@
-use Rattle.geometry.specs.Geometry.{addTetrahedron}
+use Rattle.volumes.specs.Geometry.{addTetrahedron}
 use borrow.Author.Needs.{needs}
-use Rattle.geometry.proofs.add_tetrahedron.Statement.{statement}
-use Rattle.geometry.proofs.add_tetrahedron.Tie as tie
+use Rattle.volumes.proofs.add_tetrahedron.Statement.{statement}
+use Rattle.volumes.proofs.add_tetrahedron.Tie as tie
 
 returns : tie.Need-returns
 unfolding addTetrahedron

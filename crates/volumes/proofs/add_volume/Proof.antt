@@ -1,7 +1,7 @@
-use Rattle.geometry.specs.Geometry.{addVolume}
+use Rattle.volumes.specs.Geometry.{addVolume}
 use borrow.Author.Needs.{needs}
-use Rattle.geometry.proofs.add_volume.Statement.{statement}
-use Rattle.geometry.proofs.add_volume.Tie as tie
+use Rattle.volumes.proofs.add_volume.Statement.{statement}
+use Rattle.volumes.proofs.add_volume.Tie as tie
 
 returns : tie.Need-returns
 unfolding addVolume

@@ -1,7 +1,7 @@
-use Rattle.geometry.specs.Geometry.{weightless}
+use Rattle.volumes.specs.Geometry.{weightless}
 use borrow.Author.Needs.{needs}
-use Rattle.geometry.proofs.weightless.Statement.{statement}
-use Rattle.geometry.proofs.weightless.Tie as tie
+use Rattle.volumes.proofs.weightless.Statement.{statement}
+use Rattle.volumes.proofs.weightless.Tie as tie
 
 returns : tie.Need-returns
 unfolding weightless

@@ -1,8 +1,7 @@
-use Rattle.geometry.specs.Geometry.{centre3D}
-use Rattle.geometry.specs.Answers.{cellOf}
+use Rattle.volumes.specs.Geometry.{centre3D, cellOf}
 use borrow.Author.Needs.{needs}
-use Rattle.geometry.proofs.centre_3d.Statement.{statement}
-use Rattle.geometry.proofs.centre_3d.Tie as tie
+use Rattle.volumes.proofs.centre_3d.Statement.{statement}
+use Rattle.volumes.proofs.centre_3d.Tie as tie
 
 returns : tie.Need-returns
 unfolding centre3D cellOf

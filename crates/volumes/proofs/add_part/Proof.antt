@@ -1,7 +1,7 @@
-use Rattle.geometry.specs.Geometry.{addPart}
+use Rattle.volumes.specs.Geometry.{addPart}
 use borrow.Author.Needs.{needs}
-use Rattle.geometry.proofs.add_part.Statement.{statement}
-use Rattle.geometry.proofs.add_part.Tie as tie
+use Rattle.volumes.proofs.add_part.Statement.{statement}
+use Rattle.volumes.proofs.add_part.Tie as tie
 
 returns : tie.Need-returns
 unfolding addPart
