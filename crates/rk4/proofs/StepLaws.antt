@@ -5,12 +5,12 @@ use mathlib.Core.Bool.{Bool, true, false}
 use mathlib.Core.List.{List}
 use lib.Ieee.{Float}
 use Rattle.arith.specs.F64.{_⊕_, _≺_, finite}
-use Rattle.arith.specs.Vec.{minus, norm}
+use Rattle.arith.specs.Vec.{plus, minus, times, norm}
 use Rattle.arith.specs.declared.Vec3.{Vec3}
 use Rattle.arith.specs.declared.Found.{Found}
 use Rattle.arith.specs.declared.Found.the-variants.{At, Nothing}
 use Rattle.reading.specs.declared.Values.{Values}
-use Rattle.reading.specs.Asks.{give}
+use Rattle.reading.specs.Asks.{Asks, give, _>>=_}
 use Rattle.reading.specs.Served.{Served}
 use Rattle.reading.proofs.ServedLaws.{served-give, served-then}
 use Rattle.area.specs.declared.Sizes.{Sizes}
@@ -20,13 +20,22 @@ use Rattle.polygons.specs.Field.{StreamlineField}
 use Rattle.polygons.specs.Layout.{cellPolygonsIn, fieldIn}
 use Rattle.velocity.specs.declared.Vector.{Vector}
 use Rattle.velocity.specs.declared.Vector.the-variants.{Here, Nowhere}
-use Rattle.velocity.specs.Velocity.{locateIn, directionAt}
+use Rattle.velocity.specs.Velocity.{locateIn, from, directionAt}
 use Rattle.velocity.proofs.VelocityLaws.{served-lost, served-found, locate-in}
 use Rattle.rk4.specs.declared.Step.{Step}
 use Rattle.rk4.specs.declared.Step.the-variants.{Next, Ended}
 use Rattle.rk4.specs.declared.StreamlineOptions.{StreamlineOptions}
 use Rattle.rk4.specs.RungeKutta.{rungeKutta}
 use Rattle.rk4.specs.Step.{hereIf, rk4Step, kept, step}
+
+-- a direction taken a way along another one, k
+module _ (direction next : Vec3 → Asks Vector) (p k : Vec3) (h : Float) {v : ℕ → Values} {m m′ : List ℕ} {r : Vector} {way q : Vec3} (ew : way ≡ times k h) (eq : q ≡ plus p way)
+    (d : Served (direction q) v m m′ r) where
+  pub along-lost : r ≡ Nowhere → Served (direction (plus p (times k h)) >>= from next) v m m′ Nowhere
+  along-lost e = served-lost next (rw (eq, ew) at d) e
+
+  pub along-found : {m″ : List ℕ} {u : Vec3} {a : Vector} → r ≡ Here u → Served (next u) v m′ m″ a → Served (direction (plus p (times k h)) >>= from next) v m m″ a
+  along-found e s = served-found next (rw (eq, ew) at d) e s
 
 module _ (g : Grid) (s : Sizes) (w : List ℕ) (f : List Float) (v : ℕ → Values) (m m′ : List ℕ) (still h : Float) (p : Vec3) (r : Vector)
     (d : Served (rungeKutta (directionAt (fieldIn g s w f) still) h p) v m m′ r) where

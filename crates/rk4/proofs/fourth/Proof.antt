@@ -1,4 +1,5 @@
-use Rattle.velocity.proofs.VelocityLaws.{served-lost, served-found}
+use Rattle.rk4.proofs.StepLaws.{along-lost, along-found}
+use Rattle.velocity.specs.Velocity.{directionAt}
 use Rattle.rk4.specs.RungeKutta.{weighed, fourth}
 use Rattle.velocity.specs.declared.Vector.the-variants.{Here}
 use Rattle.reading.proofs.ServedLaws.{served-give}
@@ -33,7 +34,10 @@ same-length c = search needs
 
 returns : tie.Need-returns
 unfolding fourth
-returns c = served-lost (λ k4. give (Here (weighed _ _ _ _ _ k4))) (rw (c .before .before .before .before .before .before .add .ensures, c .before .before .before .before .before .before .before .scale .ensures) at (c .before .before .before .before .direction-at .ensures)) (c .enum-told .given .1)
+returns c =
+    let b = c .before .before .before .before in
+    let a = b .before .before .before .before .before .before .before .before .args in
+    along-lost (directionAt _ _) (λ k4. give (Here (weighed _ _ _ _ _ k4))) (a .p) (a .k3) (a .h) (b .before .before .before .scale .ensures) (b .before .before .add .ensures) (b .direction-at .ensures) (c .enum-told .given .1)
 
 weighed-requires : tie.Need-weighed-requires
 weighed-requires c κs = search needs
@@ -43,7 +47,11 @@ same-length-2 c = search needs
 
 returns-2 : tie.Need-returns-2
 unfolding fourth
-returns-2 c = rw (c .weighed .ensures) (served-found (λ k4. give (Here (weighed _ _ _ _ _ k4))) (rw (c .before .before .before .before .before .before .before .before .add .ensures, c .before .before .before .before .before .before .before .before .before .scale .ensures) at (c .before .before .before .before .before .before .direction-at .ensures)) (c .before .before .k4 .given .1) served-give)
+returns-2 c =
+    let n = c .before .before in
+    let b = n .before .before .before .before in
+    let a = b .before .before .before .before .before .before .before .before .args in
+    rw (c .weighed .ensures) (along-found (directionAt _ _) (λ k4. give (Here (weighed _ _ _ _ _ k4))) (a .p) (a .k3) (a .h) (b .before .before .before .scale .ensures) (b .before .before .add .ensures) (b .direction-at .ensures) (n .k4 .given .1) served-give)
 
 pub fourth-spec : {M : Type 1} → statement M
 fourth-spec =

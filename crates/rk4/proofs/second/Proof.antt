@@ -1,4 +1,6 @@
-use Rattle.velocity.proofs.VelocityLaws.{served-lost, served-found}
+use Rattle.rk4.proofs.StepLaws.{along-lost, along-found}
+use Rattle.arith.specs.F64.{_⊗_, 0·5}
+use Rattle.velocity.specs.Velocity.{directionAt}
 use Rattle.rk4.specs.RungeKutta.{second, third}
 use borrow.Author.Needs.{needs}
 use Rattle.rk4.proofs.second.Statement.{statement}
@@ -30,7 +32,10 @@ same-length c = search needs
 
 returns : tie.Need-returns
 unfolding second
-returns c = served-lost (third _ _ _ _) (rw (c .before .before .before .before .before .before .add .ensures, c .before .before .before .before .before .before .before .scale .ensures) at (c .before .before .before .before .direction-at .ensures)) (c .enum-told .given .1)
+returns c =
+    let b = c .before .before .before .before in
+    let a = b .before .before .before .before .before .before .before .before .args in
+    along-lost (directionAt _ _) (third _ _ _ _) (a .p) (a .k1) (a .h ⊗ 0·5) (b .before .before .before .scale .ensures) (b .before .before .add .ensures) (b .direction-at .ensures) (c .enum-told .given .1)
 
 third-requires : tie.Need-third-requires
 third-requires c κs = search needs
@@ -40,7 +45,11 @@ same-length-2 c = search needs
 
 returns-2 : tie.Need-returns-2
 unfolding second
-returns-2 c = served-found (third _ _ _ _) (rw (c .before .before .before .before .before .before .before .before .before .before .before .add .ensures, c .before .before .before .before .before .before .before .before .before .before .before .before .scale .ensures) at (c .before .before .before .before .before .before .before .before .before .direction-at .ensures)) (c .before .before .before .before .before .k2 .given .1) (c .before .before .third .ensures)
+returns-2 c =
+    let n = c .before .before .before .before .before in
+    let b = n .before .before .before .before in
+    let a = b .before .before .before .before .before .before .before .before .args in
+    along-found (directionAt _ _) (third _ _ _ _) (a .p) (a .k1) (a .h ⊗ 0·5) (b .before .before .before .scale .ensures) (b .before .before .add .ensures) (b .direction-at .ensures) (n .k2 .given .1) (c .before .before .third .ensures)
 
 pub second-spec : {M : Type 1} → statement M
 second-spec =
