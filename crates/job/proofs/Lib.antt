@@ -1,4 +1,3 @@
-pub mod WordLaws
 pub mod ListLaws
 pub mod AnswerLaws
 pub mod ThroughLaws

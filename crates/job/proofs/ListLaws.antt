@@ -1,20 +1,21 @@
 -- One answer after another. Assumes nothing.
-use Prim.Native.Nat.{ℕ, zero, suc, _+_, _-_, _*_, _/_, _≤_, _<_}
+use Prim.Native.Nat.{ℕ, suc, _+_, _-_, _*_, _≤_, _<_}
 use native.Mathlib.Omega.{arith}
 use mathlib.Core.Path.{_≡_, refl, ap, sym, _∙_}
 use mathlib.Core.List.{List, [], _∷_, _++_, append-assoc, append-nil}
-use lib.ListN.{length, getD, take, drop, replicate, length-append, length-drop}
+use lib.ListN.{length, getD, take, drop, replicate, length-drop, drop-of-length-le}
 use lib.Seq.{drop-cons, length-take-le}
 use Rattle.reading.specs.declared.Values.{Values}
-use Rattle.reading.specs.Result.{Result, fine}
-use Rattle.reading.specs.Asks.{Asks, give, run, reads, _>>=_}
+use Rattle.reading.specs.Result.{fine}
+use Rattle.reading.specs.Asks.{Asks, give, run, reads}
 use Rattle.reading.specs.Marks.{markAll, cleared}
-use Rattle.reading.specs.After.{After, done, Left}
+use Rattle.reading.specs.After.{done, Left}
 use Rattle.reading.proofs.AsksLaws.{run-bind, reads-bind}
 use Rattle.reading.proofs.MarksLaws.{markAll-append, length-markAll}
 use Rattle.prepare.specs.Room.{Room}
-use Rattle.job.specs.List.{fitting, answerWords, replyTo, serveAll}
-use Rattle.job.specs.Serving.{Placed, Told, answerTo}
+use Rattle.buffers.specs.Answer.{fitting, answerWords}
+use Rattle.job.specs.List.{replyTo, serveAll}
+use Rattle.job.specs.Serving.{Told, answerTo}
 
 module _ (room : Room) (f : ℕ → Values) where
   -- the first answer and the rest
@@ -121,7 +122,7 @@ module _ (room : Room) (f : ℕ → Values) (m₀ : List ℕ) (len : ℕ) (reqs 
   pub along-end : {i at : ℕ} {m o o₀ : List ℕ} → Along room f m₀ len reqs i at m o → length reqs ≤ i → length o₀ ≡ len → Told (serveAll room len reqs) f m₀ m o₀ o 0 0 at
   unfolding serveAll
   along-end {i} {at} {m} {o} {o₀} a h e =
-      let none : drop i reqs ≡ [] = drop-past reqs i h in
+      let none : drop i reqs ≡ [] = drop-of-length-le reqs h in
       let over : run (serveAll room len reqs) f ≡ take at o = a .answer ∙ ap (λ s. take at o ++ run (serveAll room (len - at) s) f) none ∙ append-nil (take at o) in
       record {
         marks = ap (λ s. markAll m (reads (serveAll room (len - at) s) f)) (sym none) ∙ a .marks;
@@ -133,12 +134,6 @@ module _ (room : Room) (f : ℕ → Values) (m₀ : List ℕ) (len : ℕ) (reqs 
               long = a .long ∙ sym e;
             };
       }
-    where
-      drop-past : (l : List (List ℕ)) (i : ℕ) → length l ≤ i → drop i l ≡ []
-      drop-past [] zero h = refl
-      drop-past [] (suc i) h = refl
-      drop-past (x ∷ l) zero h = absurd (omega arith)
-      drop-past (x ∷ l) (suc i) h = drop-past l i (omega arith)
 
 -- ---- the whole
 

@@ -1,55 +1,28 @@
 // The job: a case, a list of requests, and the buffers that are lent to it.
-use planes::Answered;
+use buffers::clear_from;
+use buffers::clear_marks;
+use buffers::close;
 use prepare::Place;
 use prepare::Prepared;
 use requests::request_of;
 ghost use mathlib.Core.Path.{_≡_};
-ghost use mathlib.Core.List.{List, _++_};
+ghost use mathlib.Core.List.{List};
 ghost use Prim.Native.Nat.{ℕ, _+_, _-_, _*_, _/_, _≤_};
 ghost use lib.Ieee.{Float};
-ghost use lib.ListN.{length, set, take, replicate};
-ghost use Rattle.reading.specs.Result.{Result, fine};
+ghost use lib.ListN.{length};
+ghost use Rattle.reading.specs.Result.{fine};
 ghost use Rattle.reading.specs.After.{done, Left};
-ghost use Rattle.reading.specs.Marks.{cleared};
-ghost use Rattle.planes.specs.Reply.{answeredOf};
 ghost use Rattle.casefile.specs.Field.{valuesOf};
 ghost use Rattle.requests.specs.Requests.{wordsAt, requestsIn};
 ghost use Rattle.prepare.specs.Stands.{countsIn, roomIn, Stands};
-ghost use Rattle.job.specs.List.{fitting, answerWords, isFlat, serveAll};
+ghost use Rattle.job.specs.List.{isFlat, serveAll};
 ghost use Rattle.job.specs.Job.{outcome, numberOf};
-ghost use Rattle.job.specs.Serving.{Placed, Behind, Told, answerTo};
+ghost use Rattle.job.specs.Serving.{Told, answerTo};
 
 // The job's result.
 pub enum Outcome {
     Done,
     Refused(u64),
-}
-
-// Stores the header at `at`: the refusal, or 0, and the count. Where the next answer goes.
-fn put_header(answers: &mut [u64], at: usize, refusal: u64, count: usize) -> usize
-    requires { ⌜ at + 2 + count ≤ length (now answers) ⌝ }
-    ensures { λ r. ⌜ (r ≡ at + 2 + count) × (now (answers .exit) ≡ set (set (now (answers .entry)) at refusal) (at + 1) count) ⌝ }
-{
-    answers[at] = refusal;
-    answers[at + 1] = count as u64;
-    at + 2 + count
-}
-
-// The header by what was answered; 44 where the words do not fit beside two for each later answer.
-fn close(answers: &mut [u64], at: usize, later: usize, r: Answered) -> usize
-    requires { ⌜ at + 2 + 2 * later ≤ length (now answers) ⌝ }
-    ensures { λ e. ⌜ ((reply : Result (List ℕ)) → r ≡ answeredOf reply → Behind reply (now (answers .entry)) at → Placed (answerWords (fitting (length (now (answers .entry)) - at) later reply)) (now (answers .entry)) (now (answers .exit)) at later e) ⌝ }
-{
-    match r {
-        Answered::Refused(k) => put_header(answers, at, k, 0),
-        Answered::Words(k) => {
-            if k <= answers.len() - at - 2 - 2 * later {
-                put_header(answers, at, 0, k)
-            } else {
-                put_header(answers, at, 44, 0)
-            }
-        }
-    }
 }
 
 fn is_flat(place: Place) -> bool
@@ -58,30 +31,6 @@ fn is_flat(place: Place) -> bool
     match place {
         Place::Flat(_, _, _) => true,
         Place::Solid(_, _) => false,
-    }
-}
-
-// No mark among the first `cells`.
-fn clear_marks(marks: &mut [u8], cells: usize)
-    requires { ⌜ cells ≤ length (now marks) ⌝ }
-    ensures { λ _. ⌜ now (marks .exit) ≡ cleared cells (now (marks .entry)) ⌝ }
-{
-    let mut i = 0;
-    while i < cells {
-        marks[i] = 0;
-        i += 1;
-    }
-}
-
-// Zeros from `at` on.
-fn clear_from(answers: &mut [u64], at: usize)
-    requires { ⌜ at ≤ length (now answers) ⌝ }
-    ensures { λ _. ⌜ now (answers .exit) ≡ take at (now (answers .entry)) ++ replicate (length (now (answers .entry)) - at) 0 ⌝ }
-{
-    let mut i = at;
-    while i < answers.len() {
-        answers[i] = 0;
-        i += 1;
     }
 }
 

@@ -1,8 +1,8 @@
 use Prim.Native.Nat.{_-_, _≤_}
 use borrow.Author.Needs.{needs}
-use Rattle.job.proofs.WordLaws.{Zeroing, zeroing-start, zeroing-next, zeroing-cleared}
-use Rattle.job.proofs.clear_marks.Statement.{statement}
-use Rattle.job.proofs.clear_marks.Tie as tie
+use Rattle.buffers.proofs.WordLaws.{Zeroing, zeroing-start, zeroing-next, zeroing-cleared}
+use Rattle.buffers.proofs.clear_marks.Statement.{statement}
+use Rattle.buffers.proofs.clear_marks.Tie as tie
 
 abbrev Inv-loop : tie.InvT-loop
 Inv-loop marks₀ cells i₀ marks i = Zeroing 0 i marks₀ marks × (i ≤ cells)

@@ -1,11 +1,15 @@
 use native.Mathlib.Omega.{arith}
+use mathlib.Core.Path.{refl}
 use lib.ListN.{length-set}
 use borrow.Author.Needs.{needs}
-use Rattle.job.proofs.put_header.Statement.{statement}
-use Rattle.job.proofs.put_header.Tie as tie
+use Rattle.buffers.proofs.put_header.Statement.{statement}
+use Rattle.buffers.proofs.put_header.Tie as tie
 
 slice-write-answers-2 : tie.Need-slice-write-answers-2
 slice-write-answers-2 c = simp length-set (omega arith)
+
+returns : tie.Need-returns
+returns c = (refl, refl)
 
 pub put-header-spec : {M : Type 1} → statement M
 put-header-spec =
@@ -19,4 +23,4 @@ put-header-spec =
     (λ c. search needs)
     (λ c. search needs)
     (λ c. search needs)
-    (λ c. search needs))
+    returns)

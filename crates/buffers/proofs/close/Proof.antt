@@ -1,9 +1,8 @@
-use Rattle.job.proofs.WordLaws.{close-refused, close-fits, close-44}
-use native.Mathlib.Omega.{arith}
+use Rattle.buffers.proofs.WordLaws.{close-refused, close-fits, close-44}
 use mathlib.Core.Path.{sym, _∙_}
 use borrow.Author.Needs.{needs}
-use Rattle.job.proofs.close.Statement.{statement}
-use Rattle.job.proofs.close.Tie as tie
+use Rattle.buffers.proofs.close.Statement.{statement}
+use Rattle.buffers.proofs.close.Tie as tie
 
 returns : tie.Need-returns
 returns c reply e b =

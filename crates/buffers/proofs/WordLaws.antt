@@ -1,20 +1,17 @@
 -- The words of one answer, and buffers that are cleared. Assumes nothing.
-use Prim.Native.Nat.{ℕ, zero, suc, _+_, _-_, _*_, _≤_, _<_}
+use Prim.Native.Nat.{ℕ, suc, _+_, _-_, _*_, _≤_, _<_}
 use native.Mathlib.Omega.{arith}
 use mathlib.Core.Path.{_≡_, refl, ap, sym, _∙_}
-use mathlib.Core.Bool.{Bool, true, false, cond}
 use mathlib.Core.List.{List, [], _∷_, _++_, append-assoc, append-nil}
-use lib.Dec.{leb}
-use lib.ListN.{length, getD, set, take, drop, replicate, length-append, length-take, length-drop, length-set, length-replicate, replicate-append-replicate}
-use lib.Seq.{length-take-le, drop-cons, drop-length, split-at, set-at, take-at, take-append-add, append-snoc, take-length}
+use lib.ListN.{length, getD, set, take, drop, replicate, length-append, length-drop, length-set, length-replicate, replicate-append-replicate, take-append-drop}
+use lib.Seq.{length-take-le, drop-cons, drop-length, split-at, set-at, take-append-add}
 use borrow.Author.Tests.{le-leb, lt-leb}
 use Rattle.reading.specs.Result.{Result, refused, fine}
 use Rattle.reading.specs.Marks.{cleared}
-use Rattle.planes.specs.declared.Answered.{Answered}
 use Rattle.planes.specs.declared.Answered.the-variants.{Words, Refused}
 use Rattle.planes.specs.Reply.{answeredOf}
-use Rattle.job.specs.List.{fitting, answerWords}
-use Rattle.job.specs.Serving.{Behind, Placed}
+use Rattle.buffers.specs.Answer.{fitting, answerWords}
+use Rattle.buffers.specs.Placed.{Behind, Placed}
 
 -- ---- zeros
 
@@ -23,15 +20,10 @@ abbrev pub zeroed : ℕ → ℕ → List ℕ → List ℕ
 zeroed a i l = take a l ++ replicate (i - a) 0 ++ drop i l
 
 pub zeroed-none : (a : ℕ) (l : List ℕ) → l ≡ zeroed a a l
-zeroed-none a l = sym (ap (λ k. take a l ++ replicate k 0 ++ drop a l) minus ∙ ap (λ t. t ++ drop a l) (append-nil (take a l)) ∙ take-drop a l)
+zeroed-none a l = sym (ap (λ k. take a l ++ replicate k 0 ++ drop a l) minus ∙ ap (λ t. t ++ drop a l) (append-nil (take a l)) ∙ take-append-drop a l)
   where
     minus : a - a ≡ 0
     minus = omega arith
-
-    take-drop : (a : ℕ) (l : List ℕ) → take a l ++ drop a l ≡ l
-    take-drop zero l = refl
-    take-drop (suc a) [] = refl
-    take-drop (suc a) (x ∷ l) = ap (λ t. x ∷ t) (take-drop a l)
 
 pub zeroed-long : (a i : ℕ) (l : List ℕ) → a ≤ i → i ≤ length l → length (zeroed a i l) ≡ length l
 zeroed-long a i l h k = simp (length-append, length-replicate, length-drop) (omega (arith, length-take-le a l (omega arith)))
