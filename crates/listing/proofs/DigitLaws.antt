@@ -1,14 +1,12 @@
--- The text of a number: what `io` ensures determines it, and its length. Assumes nothing.
-use Prim.Native.Nat.{ℕ, zero, suc, _+_, _-_, _*_, _/_, _%_, _^_, _≤_, _<_}
+-- The text of a number: what `io` ensures determines it. Assumes nothing.
+use Prim.Native.Nat.{ℕ, zero, suc, _-_, _*_, _/_, _^_, _≤_, _<_}
 use native.Mathlib.Nat.{le-of-suc-le-suc, lt-of-not-le, pow-le-pow-right, pow-suc, one-le-pow, le-div-iff-mul-le, div-lt-iff-lt-mul}
 use native.Mathlib.Omega.{arith}
 use mathlib.Core.Path.{_≡_, refl, ap, sym, subst}
-use mathlib.Core.Bool.{Bool, true, false, cond}
-use mathlib.Core.List.{[], _∷_, _++_}
-use lib.ListN.{length, length-append}
+use mathlib.Core.Bool.{true, false}
 use lib.Dec.{ltb}
 use borrow.Author.Tests.{lt-ltb, le-ltb}
-use Rattle.io.specs.Digits.{glyph, digits, Fewest}
+use Rattle.io.specs.Digits.{digits, Fewest}
 use Rattle.listing.specs.Listing.{decimalWithin, decimalText, hexText}
 
 -- digits that are the fewest are those of the definition
@@ -55,26 +53,3 @@ decimal-is n k h f = sym (within-is 20 k n (few-decimal n k h f) (f .0) (f .1) (
 pub hex-is : (n k : ℕ) → n < 18446744073709551616 → Fewest 16 16 n k → digits 16 k n ≡ hexText n
 unfolding hexText
 hex-is n k h f = let e : k ≡ 16 = omega (arith, few-hex n k h f) in ap (λ (j : ℕ). digits 16 j n) e
-
--- ---- lengths
-
-length-within : (m n : ℕ) → length (decimalWithin m n) ≤ m
-unfolding decimalWithin
-length-within zero n = omega arith
-length-within (suc m) n = by (ltb n 10) (length-within m (n / 10))
-  where
-    by : (t : Bool) → length (decimalWithin m (n / 10)) ≤ m → length (cond t [] (decimalWithin m (n / 10)) ++ glyph (n % 10) ∷ []) ≤ suc m
-    by true h = omega arith
-    by false h = rw (length-append (decimalWithin m (n / 10)) (glyph (n % 10) ∷ [])) (omega arith)
-
-pub length-decimal : (n : ℕ) → length (decimalText n) ≤ 20
-unfolding decimalText
-length-decimal n = length-within 20 n
-
-length-digits : (b k n : ℕ) → length (digits b k n) ≡ k
-length-digits b zero n = refl
-length-digits b (suc k) n = rw (length-append (digits b k (n / b)) (glyph (n % b) ∷ []), length-digits b k (n / b)) (omega arith)
-
-pub length-hex : (n : ℕ) → length (hexText n) ≡ 16
-unfolding hexText
-length-hex n = length-digits 16 16 n

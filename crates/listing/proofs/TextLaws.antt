@@ -1,17 +1,18 @@
--- A text that is written part by part: what is left to write, and how long it is. Assumes nothing.
-use Prim.Native.Nat.{ℕ, zero, suc, _+_, _-_, _*_, _≤_, _<_, min}
-use native.Mathlib.Nat.{add-zero, zero-add, sub-zero}
+-- A text that is written part by part: what is left to write, and where it ends. Assumes nothing.
+use Prim.Native.Nat.{ℕ, zero, suc, _+_, _-_, _≤_, _<_, min}
+use native.Mathlib.Nat.{add-zero, sub-zero}
+use native.Mathlib.Decide.{decLt}
 use native.Mathlib.Numerals.{add-one}
 use native.Mathlib.Omega.{arith}
 use mathlib.Core.Path.{_≡_, refl, ap, sym, _∙_}
-use mathlib.Core.Bool.{Bool, true, false, cond}
+use mathlib.Core.Bool.{cond}
 use mathlib.Core.List.{List, [], _∷_, _++_}
-use lib.ListN.{length, set, getD, take, drop, length-append, length-take, length-drop, take-append-drop, drop-of-length-le}
-use lib.Seq.{sets, set-out, drop-cons, drop-drop, take-nil, drop-nil}
+use lib.ListN.{length, set, getD, take, drop, length-append, length-drop, drop-of-length-le}
+use lib.Seq.{sets, length-sets, set-out, drop-cons, drop-drop, take-nil, drop-nil}
 use lib.Dec.{eqb}
 use borrow.Author.Tests.{eq-eqb, ne-eqb}
 use Rattle.listing.specs.Listing.{decimalText, hexText, wordsText, answerText, answersText, marksFrom, marksText, doneText, refusedText}
-use Rattle.listing.proofs.DigitLaws.{length-decimal, length-hex}
+use Rattle.listing.specs.Written.{endIn, Written, Listed}
 
 pub unwritten : (l : List ℕ) (i b : ℕ) → length l ≤ i → l ≡ set l i b
 unwritten l i b h = sym (set-out l i b h)
@@ -22,33 +23,54 @@ sets-append o i (x ∷ a) b =
     let e : suc i + length a ≡ i + suc (length a) = omega arith in
     sets-append (set o i x) (suc i) a b ∙ ap (λ (j : ℕ). sets (sets (set o i x) (suc i) a) j b) e
 
+-- bytes past the end are not written
+sets-out : (o : List ℕ) (i : ℕ) (l : List ℕ) → length o ≤ i → sets o i l ≡ o
+sets-out o i [] h = refl
+sets-out o i (b ∷ l) h = ap (λ (s : List ℕ). sets s (suc i) l) (set-out o i b h) ∙ sets-out o (suc i) l (omega arith)
+
+-- two places that a buffer does not tell apart
+same-place : (o : List ℕ) (p q : ℕ) (l : List ℕ) → endIn (length o) p ≡ endIn (length o) q → sets o p l ≡ sets o q l
+same-place o p q l e = by (decLt p (length o))
+  where
+    by : Dec (p < length o) → sets o p l ≡ sets o q l
+    by (yes h) = let s : p ≡ q = omega arith in ap (λ (i : ℕ). sets o i l) s
+    by (no h) = sets-out o p l (omega arith) ∙ sym (sets-out o q l (omega arith))
+
 -- a text that equals what was written
-pub put-as : {o′ : List ℕ} {r : ℕ} (o : List ℕ) (at : ℕ) {a b : List ℕ} → a ≡ b → (o′ ≡ sets o at a) × (r ≡ at + length a) → (o′ ≡ sets o at b) × (r ≡ at + length b)
-put-as o at e p = rw e at p
+pub put-as : {o o′ : List ℕ} {at r : ℕ} {a b : List ℕ} → a ≡ b → Written a o o′ at r → Written b o o′ at r
+put-as e w = rw e at w
 
 -- the rest written from `to` on gives the whole written from `at` on
 pub record Left (o₀ : List ℕ) (at : ℕ) (whole o : List ℕ) (to : ℕ) (rest : List ℕ) : Type 0 where
   pub text : sets o to rest ≡ sets o₀ at whole
-  pub ends : to + length rest ≡ at + length whole
+  pub ends : endIn (length o₀) (to + length rest) ≡ endIn (length o₀) (at + length whole)
+  pub long : length o ≡ length o₀
 
 module _ {o₀ : List ℕ} {at : ℕ} {whole o : List ℕ} {to : ℕ} where
   -- one part more
-  pub part : {o′ : List ℕ} {to′ : ℕ} (a rest : List ℕ) → Left o₀ at whole o to (a ++ rest) → o′ ≡ sets o to a → to′ ≡ to + length a → Left o₀ at whole o′ to′ rest
-  part a rest l e f = record {
-    text = rw (e, f) (sym (sets-append o to a rest) ∙ l .text);
-    ends = rw f (omega (arith, l .ends, length-append a rest));
-  }
+  pub part : {o′ : List ℕ} {to′ : ℕ} (a rest : List ℕ) → Left o₀ at whole o to (a ++ rest) → Written a o o′ to to′ → Left o₀ at whole o′ to′ rest
+  part {o′} {to′} a rest l w =
+      let same : length o′ ≡ length o = ap length (w .text) ∙ length-sets o to a in
+      record {
+        text = same-place o′ to′ (to + length a) rest (rw same (w .end)) ∙ ap (λ (s : List ℕ). sets s (to + length a) rest) (w .text) ∙ sym (sets-append o to a rest) ∙ l .text;
+        ends = omega (arith, l .ends, l .long, w .end, length-append a rest);
+        long = same ∙ l .long;
+      }
 
   -- one byte more
-  pub byte : {o′ : List ℕ} {to′ : ℕ} (b : ℕ) (rest : List ℕ) → Left o₀ at whole o to (b ∷ rest) → o′ ≡ set o to b → to′ ≡ to + 1 → Left o₀ at whole o′ to′ rest
-  byte b rest l e f = part (b ∷ []) rest l e f
+  pub byte : {o′ : List ℕ} {to′ : ℕ} (b : ℕ) (rest : List ℕ) → Left o₀ at whole o to (b ∷ rest) → (o′ ≡ set o to b) × (to′ ≡ endIn (length o) (to + 1)) → Left o₀ at whole o′ to′ rest
+  byte b rest l p = part (b ∷ []) rest l (record { text = p .0; end = omega (arith, p .1) })
 
   -- nothing is left
-  pub over : (rest : List ℕ) → rest ≡ [] → Left o₀ at whole o to rest → (o ≡ sets o₀ at whole) × (to ≡ at + length whole)
-  over rest e l = let z : length rest ≡ 0 = ap length e in (ap (λ (r : List ℕ). sets o to r) (sym e) ∙ l .text, omega (arith, l .ends))
+  pub over : (rest : List ℕ) → rest ≡ [] → Left o₀ at whole o to rest → Written whole o₀ o at to
+  over rest e l = let z : length rest ≡ 0 = ap length e in record { text = ap (λ (r : List ℕ). sets o to r) (sym e) ∙ l .text; end = omega (arith, l .ends) }
+
+-- one byte is left
+pub last-byte : {o₀ whole o o′ : List ℕ} {to r : ℕ} (b : ℕ) → Left o₀ 0 whole o to (b ∷ []) → (o′ ≡ set o to b) × (r ≡ endIn (length o) (to + 1)) → Listed whole o₀ o′ r
+last-byte b l p = record { bytes = p .0 ∙ l .text; end = omega (arith, p .1, l .ends, l .long) }
 
 pub all-left : (o : List ℕ) (at : ℕ) (whole : List ℕ) → Left o at whole o at whole
-all-left o at whole = record { text = refl; ends = refl }
+all-left o at whole = record { text = refl; ends = refl; long = refl }
 
 pub none-left : (l : List ℕ) (i : ℕ) → length l ≤ i → drop i l ≡ []
 none-left l i h = drop-of-length-le l h
@@ -58,20 +80,11 @@ next l i h = drop-cons l i 0 h ∙ ap (λ (j : ℕ). getD l i 0 ∷ drop j l) (s
 
 -- ---- bytes
 
-pub bytes-turn : {o₀ o o′ : List ℕ} {at : ℕ} (i : ℕ) (bs : List ℕ) → i < length bs → Left o₀ at bs o (at + i) (drop i bs) → o′ ≡ set o (at + i) (getD bs i 0) →
-    Left o₀ at bs o′ (at + (i + 1)) (drop (i + 1) bs)
-bytes-turn i bs h l e = byte (getD bs i 0) (drop (i + 1) bs) (rw (next bs i h) at l) e (omega arith)
+pub bytes-turn : {o₀ o o′ : List ℕ} {at to r : ℕ} (i : ℕ) (bs : List ℕ) → i < length bs → Left o₀ at bs o to (drop i bs) → (o′ ≡ set o to (getD bs i 0)) × (r ≡ endIn (length o) (to + 1)) →
+    Left o₀ at bs o′ r (drop (i + 1) bs)
+bytes-turn i bs h l p = byte (getD bs i 0) (drop (i + 1) bs) (rw (next bs i h) at l) p
 
 -- ---- words
-
-pub length-words : (l : List ℕ) → length (wordsText l) ≡ 17 * length l
-unfolding wordsText
-length-words [] = refl
-length-words (w ∷ l) =
-    let n = length-append (hexText w) (wordsText l) in
-    let h = length-hex w in
-    let e = length-words l in
-    omega arith
 
 pub words-over : (l : List ℕ) (i : ℕ) → length l ≤ i → wordsText (drop i l) ≡ []
 unfolding wordsText
@@ -81,47 +94,21 @@ words-next : (l : List ℕ) (i : ℕ) → i < length l → wordsText (drop i l) 
 unfolding wordsText
 words-next l i h = rw (next l i h)
 
-pub words-turn : {o₀ o o₁ o₂ : List ℕ} {at to r : ℕ} {whole : List ℕ} (l : List ℕ) (i : ℕ) → i < length l → Left o₀ at whole o to (wordsText (drop i l)) → o₁ ≡ set o to 32 →
-    (o₂ ≡ sets o₁ (to + 1) (hexText (getD l i 0))) × (r ≡ to + 1 + length (hexText (getD l i 0))) → Left o₀ at whole o₂ r (wordsText (drop (i + 1) l))
-words-turn l i h left e p = part (hexText (getD l i 0)) _ (byte 32 _ (rw (words-next l i h) at left) e refl) (p .0) (p .1)
+pub words-turn : {o₀ o o₁ o₂ : List ℕ} {at to t r : ℕ} {whole : List ℕ} (l : List ℕ) (i : ℕ) → i < length l → Left o₀ at whole o to (wordsText (drop i l)) →
+    (o₁ ≡ set o to 32) × (t ≡ endIn (length o) (to + 1)) → Written (hexText (getD l i 0)) o₁ o₂ t r → Left o₀ at whole o₂ r (wordsText (drop (i + 1) l))
+words-turn l i h left p w = part (hexText (getD l i 0)) _ (byte 32 _ (rw (words-next l i h) at left) p) w
 
 -- ---- an answer
 
-pub length-answer : (k : ℕ) (l : List ℕ) → length (answerText k l) ≤ 42 + 17 * length l
-unfolding answerText
-length-answer k l =
-    let a = length-append (decimalText k) (32 ∷ (decimalText (length l) ++ (wordsText l ++ 10 ∷ []))) in
-    let b = length-append (decimalText (length l)) (wordsText l ++ 10 ∷ []) in
-    let w = length-append (wordsText l) (10 ∷ []) in
-    let d = length-decimal k in
-    let e = length-decimal (length l) in
-    let n = length-words l in
-    omega arith
-
-pub answer-put : {o₁ o₂ o₃ o₄ o₅ : List ℕ} {r₁ r₂ r₃ : ℕ} (o : List ℕ) (at k : ℕ) (l : List ℕ) →
-    (o₁ ≡ sets o at (decimalText k)) × (r₁ ≡ at + length (decimalText k)) → o₂ ≡ set o₁ r₁ 32 →
-    (o₃ ≡ sets o₂ (r₁ + 1) (decimalText (length l))) × (r₂ ≡ r₁ + 1 + length (decimalText (length l))) →
-    (o₄ ≡ sets o₃ r₂ (wordsText l)) × (r₃ ≡ r₂ + length (wordsText l)) → o₅ ≡ set o₄ r₃ 10 →
-    (o₅ ≡ sets o at (answerText k l)) × (r₃ + 1 ≡ at + length (answerText k l))
+pub answer-put : {o₁ o₂ o₃ o₄ o₅ : List ℕ} {r₁ r₂ r₃ r₄ r₅ : ℕ} (o : List ℕ) (at k : ℕ) (l : List ℕ) →
+    Written (decimalText k) o o₁ at r₁ → (o₂ ≡ set o₁ r₁ 32) × (r₂ ≡ endIn (length o₁) (r₁ + 1)) → Written (decimalText (length l)) o₂ o₃ r₂ r₃ →
+    Written (wordsText l) o₃ o₄ r₃ r₄ → (o₅ ≡ set o₄ r₄ 10) × (r₅ ≡ endIn (length o₄) (r₄ + 1)) → Written (answerText k l) o o₅ at r₅
 unfolding answerText
 answer-put o at k l a b c d e =
-    let s = part (decimalText k) (32 ∷ (decimalText (length l) ++ (wordsText l ++ 10 ∷ []))) (all-left o at (answerText k l)) (a .0) (a .1) in
-    over [] refl (byte 10 [] (part (wordsText l) _ (part (decimalText (length l)) _ (byte 32 _ s b refl) (c .0) (c .1)) (d .0) (d .1)) e refl)
+    let s = part (decimalText k) (32 ∷ (decimalText (length l) ++ (wordsText l ++ 10 ∷ []))) (all-left o at (answerText k l)) a in
+    over [] refl (byte 10 [] (part (wordsText l) _ (part (decimalText (length l)) _ (byte 32 _ s b) c) d) e)
 
 -- ---- the answers
-
-pub length-answers : (k : ℕ) (l : List ℕ) → length (answersText k l) ≤ 42 * k + 17 * length l
-unfolding answersText
-length-answers zero l = omega arith
-length-answers (suc k) [] = omega arith
-length-answers (suc k) (r ∷ []) = omega arith
-length-answers (suc k) (r ∷ n ∷ l) =
-    let a = length-append (answerText r (take n l)) (answersText k (drop n l)) in
-    let b = length-answer r (take n l) in
-    let i = length-answers k (drop n l) in
-    let s = length-append (take n l) (drop n l) in
-    let e : length (take n l ++ drop n l) ≡ length l = ap length (take-append-drop n l) in
-    omega arith
 
 few : (k : ℕ) (l : List ℕ) → length l < 2 → answersText k l ≡ []
 unfolding answersText
@@ -139,9 +126,6 @@ answers-few l k from h = few k (drop from l) (omega (arith, length-drop from l))
 pub answers-over : (l : List ℕ) (count i from : ℕ) → count ≤ i → answersText (count - i) (drop from l) ≡ []
 unfolding answersText
 answers-over l count i from h = let e : count - i ≡ 0 = omega arith in rw e
-
-pub length-part : (m n : ℕ) (l : List ℕ) → length (take m (drop n l)) ≤ length l
-length-part m n l = omega (arith, length-take m (drop n l), length-drop n l)
 
 take-min : (m n : ℕ) (l : List ℕ) → m ≡ min n (length l) → take m l ≡ take n l
 take-min m n [] h = take-nil m ∙ sym (take-nil n)
@@ -173,24 +157,11 @@ module _ (l : List ℕ) (count i from n : ℕ) (below : i < count) (two : 2 ≤ 
       rw (k, header, s, ← drop-drop n (from + 2) l, take-min n (getD l (from + 1) 0) (drop (from + 2) l) en′, drop-min n (getD l (from + 1) 0) (drop (from + 2) l) en′)
 
   pub answers-turn : {o₀ o o′ : List ℕ} {at to r : ℕ} {whole : List ℕ} → Left o₀ at whole o to (answersText (count - i) (drop from l)) →
-      (o′ ≡ sets o to (answerText (getD l from 0) (take (from + 2 + n - (from + 2)) (drop (from + 2) l)))) × (r ≡ to + length (answerText (getD l from 0) (take (from + 2 + n - (from + 2)) (drop (from + 2) l)))) →
+      Written (answerText (getD l from 0) (take (from + 2 + n - (from + 2)) (drop (from + 2) l))) o o′ to r →
       Left o₀ at whole o′ r (answersText (count - (i + 1)) (drop (from + 2 + n) l))
-  answers-turn left p = part (answerText (getD l from 0) (take (from + 2 + n - (from + 2)) (drop (from + 2) l))) _ (rw answers-next at left) (p .0) (p .1)
+  answers-turn left w = part (answerText (getD l from 0) (take (from + 2 + n - (from + 2)) (drop (from + 2) l))) _ (rw answers-next at left) w
 
 -- ---- the marks
-
-length-from : (i : ℕ) (l : List ℕ) → length (marksFrom i l) ≤ 21 * length l
-unfolding marksFrom
-length-from i [] = omega arith
-length-from i (m ∷ l) = by (eqb m 1) (length-from (suc i) l)
-  where
-    by : (t : Bool) → length (marksFrom (suc i) l) ≤ 21 * length l → length (cond t (32 ∷ decimalText i) [] ++ marksFrom (suc i) l) ≤ 21 * suc (length l)
-    by true h = let a = length-append (decimalText i) (marksFrom (suc i) l) in let d = length-decimal i in omega arith
-    by false h = omega arith
-
-pub length-marks : (l : List ℕ) → length (marksText l) ≤ 21 * length l
-unfolding marksText
-length-marks l = length-from 0 l
 
 pub marks-left : (o : List ℕ) (at : ℕ) (l : List ℕ) → Left o at (marksText l) o at (marksFrom 0 (drop 0 l))
 unfolding marksText
@@ -205,33 +176,30 @@ module _ (l : List ℕ) (i : ℕ) (below : i < length l) {o₀ : List ℕ} {at :
   unfolding marksFrom
   marks-next = rw (next l i below, add-one i)
 
-  pub marked : {o₁ o₂ : List ℕ} {r : ℕ} → getD l i 0 ≡ 1 → o₁ ≡ set o to 32 → (o₂ ≡ sets o₁ (to + 1) (decimalText i)) × (r ≡ to + 1 + length (decimalText i)) →
+  pub marked : {o₁ o₂ : List ℕ} {t r : ℕ} → getD l i 0 ≡ 1 → (o₁ ≡ set o to 32) × (t ≡ endIn (length o) (to + 1)) → Written (decimalText i) o₁ o₂ t r →
       Left o₀ at whole o₂ r (marksFrom (i + 1) (drop (i + 1) l))
-  marked h e p =
+  marked h p w =
       let s = rw (marks-next, eq-eqb (getD l i 0) 1 h) at left in
-      part (decimalText i) _ (byte 32 (decimalText i ++ marksFrom (i + 1) (drop (i + 1) l)) s e refl) (p .0) (p .1)
+      part (decimalText i) _ (byte 32 (decimalText i ++ marksFrom (i + 1) (drop (i + 1) l)) s p) w
 
   pub unmarked : (getD l i 0 ≡ 1 → ⊥) → Left o₀ at whole o to (marksFrom (i + 1) (drop (i + 1) l))
   unmarked h = rw (marks-next, ne-eqb (getD l i 0) 1 h) at left
 
 -- ---- the whole
 
-pub refused-put : {o₁ o₂ o₃ : List ℕ} {r₁ r₂ : ℕ} (o : List ℕ) (k : ℕ) →
-    (o₁ ≡ sets o 0 (114 ∷ 101 ∷ 102 ∷ 117 ∷ 115 ∷ 101 ∷ 100 ∷ 32 ∷ [])) × (r₁ ≡ 8) → (o₂ ≡ sets o₁ r₁ (decimalText k)) × (r₂ ≡ r₁ + length (decimalText k)) → o₃ ≡ set o₂ r₂ 10 →
-    (o₃ ≡ sets o 0 (refusedText k)) × (r₂ + 1 ≡ length (refusedText k))
+pub refused-put : {o₁ o₂ o₃ : List ℕ} {r₁ r₂ r₃ : ℕ} (o : List ℕ) (k : ℕ) →
+    Written (114 ∷ 101 ∷ 102 ∷ 117 ∷ 115 ∷ 101 ∷ 100 ∷ 32 ∷ []) o o₁ 0 r₁ → Written (decimalText k) o₁ o₂ r₁ r₂ → (o₃ ≡ set o₂ r₂ 10) × (r₃ ≡ endIn (length o₂) (r₂ + 1)) →
+    Listed (refusedText k) o o₃ r₃
 unfolding refusedText
 refused-put o k a b c =
-    let s = part (114 ∷ 101 ∷ 102 ∷ 117 ∷ 115 ∷ 101 ∷ 100 ∷ 32 ∷ []) (decimalText k ++ 10 ∷ []) (all-left o 0 (refusedText k)) (a .0) (a .1) in
-    let e = over [] refl (byte 10 [] (part (decimalText k) (10 ∷ []) s (b .0) (b .1)) c refl) in
-    (e .0, e .1 ∙ zero-add _)
+    let s = part (114 ∷ 101 ∷ 102 ∷ 117 ∷ 115 ∷ 101 ∷ 100 ∷ 32 ∷ []) (decimalText k ++ 10 ∷ []) (all-left o 0 (refusedText k)) a in
+    last-byte 10 (part (decimalText k) (10 ∷ []) s b) c
 
-pub done-put : {o₁ o₂ o₃ o₄ : List ℕ} {r₁ r₂ r₃ : ℕ} (o answers : List ℕ) (count : ℕ) (marks : List ℕ) →
-    (o₁ ≡ sets o 0 (answersText count answers)) × (r₁ ≡ 0 + length (answersText count answers)) →
-    (o₂ ≡ sets o₁ r₁ (114 ∷ 101 ∷ 97 ∷ 100 ∷ [])) × (r₂ ≡ r₁ + 4) → (o₃ ≡ sets o₂ r₂ (marksText marks)) × (r₃ ≡ r₂ + length (marksText marks)) → o₄ ≡ set o₃ r₃ 10 →
-    (o₄ ≡ sets o 0 (doneText answers count marks)) × (r₃ + 1 ≡ length (doneText answers count marks))
+pub done-put : {o₁ o₂ o₃ o₄ : List ℕ} {r₁ r₂ r₃ r₄ : ℕ} (o answers : List ℕ) (count : ℕ) (marks : List ℕ) →
+    Written (answersText count answers) o o₁ 0 r₁ → Written (114 ∷ 101 ∷ 97 ∷ 100 ∷ []) o₁ o₂ r₁ r₂ → Written (marksText marks) o₂ o₃ r₂ r₃ →
+    (o₄ ≡ set o₃ r₃ 10) × (r₄ ≡ endIn (length o₃) (r₃ + 1)) → Listed (doneText answers count marks) o o₄ r₄
 unfolding doneText
 done-put o answers count marks a b c d =
-    let s = part (answersText count answers) ((114 ∷ 101 ∷ 97 ∷ 100 ∷ []) ++ (marksText marks ++ 10 ∷ [])) (all-left o 0 (doneText answers count marks)) (a .0) (a .1) in
-    let t = part (114 ∷ 101 ∷ 97 ∷ 100 ∷ []) (marksText marks ++ 10 ∷ []) s (b .0) (b .1) in
-    let e = over [] refl (byte 10 [] (part (marksText marks) (10 ∷ []) t (c .0) (c .1)) d refl) in
-    (e .0, e .1 ∙ zero-add _)
+    let s = part (answersText count answers) ((114 ∷ 101 ∷ 97 ∷ 100 ∷ []) ++ (marksText marks ++ 10 ∷ [])) (all-left o 0 (doneText answers count marks)) a in
+    let t = part (114 ∷ 101 ∷ 97 ∷ 100 ∷ []) (marksText marks ++ 10 ∷ []) s b in
+    last-byte 10 (part (marksText marks) (10 ∷ []) t c) d

@@ -1,36 +1,38 @@
 // What `airjob` prints: a line for each answer, then the cells that were read; or the refusal.
-ghost use Prim.Native.Nat.{_+_, _^_, _≤_, min};
+ghost use Prim.Native.Nat.{_+_, min};
 ghost use mathlib.Core.Path.{_≡_};
 ghost use lib.ListN.{length, set};
-ghost use lib.Seq.{sets};
 ghost use Rattle.listing.specs.Listing.{decimalText, hexText, wordsText, answerText, answersText, marksText, doneText, refusedText};
+ghost use Rattle.listing.specs.Written.{endIn, Written, Listed};
 
-// Byte `at` of the text, where there is one.
-fn put(text: &mut [u8], at: usize, b: u8)
-    ensures { λ _. ⌜ now (text .exit) ≡ set (now (text .entry)) at b ⌝ }
+// Byte `at` of the text, where there is one. Where the next one goes: no further than one past the end.
+fn put(text: &mut [u8], at: usize, b: u8) -> usize
+    ensures { λ r. ⌜ (now (text .exit) ≡ set (now (text .entry)) at b) × (r ≡ endIn (length (now (text .entry))) (at + 1)) ⌝ }
 {
     if at < text.len() {
         text[at] = b;
+        at + 1
+    } else {
+        text.len() + 1
     }
 }
 
 // Some bytes, from `at` on. Where the next one goes.
 fn put_all(text: &mut [u8], at: usize, bytes: &[u8]) -> usize
-    requires { ⌜ (at ≤ 2 ^ 60) × (length (now bytes) ≤ 2 ^ 32) ⌝ }
-    ensures { λ r. ⌜ (now (text .exit) ≡ sets (now (text .entry)) at (now (bytes .entry))) × (r ≡ at + length (now (bytes .entry))) ⌝ }
+    ensures { λ r. ⌜ Written (now (bytes .entry)) (now (text .entry)) (now (text .exit)) at r ⌝ }
 {
+    let mut to = at;
     let mut i = 0;
     while i < bytes.len() {
-        put(text, at + i, bytes[i]);
+        to = put(text, to, bytes[i]);
         i += 1;
     }
-    at + bytes.len()
+    to
 }
 
 // A number in decimal.
 fn put_decimal(text: &mut [u8], at: usize, n: u64) -> usize
-    requires { ⌜ at ≤ 2 ^ 60 ⌝ }
-    ensures { λ r. ⌜ (now (text .exit) ≡ sets (now (text .entry)) at (decimalText n)) × (r ≡ at + length (decimalText n)) ⌝ }
+    ensures { λ r. ⌜ Written (decimalText n) (now (text .entry)) (now (text .exit)) at r ⌝ }
 {
     let mut digits = [0u8; 20];
     let k = io::decimal(n, &mut digits);
@@ -39,8 +41,7 @@ fn put_decimal(text: &mut [u8], at: usize, n: u64) -> usize
 
 // A number in 16 hexadecimal digits.
 fn put_hex(text: &mut [u8], at: usize, n: u64) -> usize
-    requires { ⌜ at ≤ 2 ^ 60 ⌝ }
-    ensures { λ r. ⌜ (now (text .exit) ≡ sets (now (text .entry)) at (hexText n)) × (r ≡ at + length (hexText n)) ⌝ }
+    ensures { λ r. ⌜ Written (hexText n) (now (text .entry)) (now (text .exit)) at r ⌝ }
 {
     let mut digits = [0u8; 16];
     let k = io::hex(n, 16, &mut digits);
@@ -49,14 +50,13 @@ fn put_hex(text: &mut [u8], at: usize, n: u64) -> usize
 
 // Each word after a space.
 fn put_words(text: &mut [u8], at: usize, words: &[u64]) -> usize
-    requires { ⌜ (at ≤ 2 ^ 59) × (length (now words) ≤ 2 ^ 32) ⌝ }
-    ensures { λ r. ⌜ (now (text .exit) ≡ sets (now (text .entry)) at (wordsText (now (words .entry)))) × (r ≡ at + length (wordsText (now (words .entry)))) ⌝ }
+    ensures { λ r. ⌜ Written (wordsText (now (words .entry))) (now (text .entry)) (now (text .exit)) at r ⌝ }
 {
     let mut to = at;
     let mut i = 0;
     while i < words.len() {
-        put(text, to, 32);
-        to = put_hex(text, to + 1, words[i]);
+        to = put(text, to, 32);
+        to = put_hex(text, to, words[i]);
         i += 1;
     }
     to
@@ -64,15 +64,13 @@ fn put_words(text: &mut [u8], at: usize, words: &[u64]) -> usize
 
 // The line of the answer whose header is given.
 fn put_answer(text: &mut [u8], at: usize, refusal: u64, words: &[u64]) -> usize
-    requires { ⌜ (at ≤ 2 ^ 58) × (length (now words) ≤ 2 ^ 32) ⌝ }
-    ensures { λ r. ⌜ (now (text .exit) ≡ sets (now (text .entry)) at (answerText refusal (now (words .entry)))) × (r ≡ at + length (answerText refusal (now (words .entry)))) ⌝ }
+    ensures { λ r. ⌜ Written (answerText refusal (now (words .entry))) (now (text .entry)) (now (text .exit)) at r ⌝ }
 {
     let to = put_decimal(text, at, refusal);
-    put(text, to, 32);
-    let to = put_decimal(text, to + 1, words.len() as u64);
+    let to = put(text, to, 32);
+    let to = put_decimal(text, to, words.len() as u64);
     let to = put_words(text, to, words);
-    put(text, to, 10);
-    to + 1
+    put(text, to, 10)
 }
 
 // How many words of an answer there are: its count, but not more than those that are left.
@@ -84,8 +82,7 @@ fn count_of(n: u64, left: usize) -> usize
 
 // A line for each of `count` answers.
 fn put_answers(text: &mut [u8], at: usize, answers: &[u64], count: usize) -> usize
-    requires { ⌜ (at ≤ 2 ^ 32) × (length (now answers) ≤ 2 ^ 32) × (count ≤ 2 ^ 32) ⌝ }
-    ensures { λ r. ⌜ (now (text .exit) ≡ sets (now (text .entry)) at (answersText count (now (answers .entry)))) × (r ≡ at + length (answersText count (now (answers .entry)))) ⌝ }
+    ensures { λ r. ⌜ Written (answersText count (now (answers .entry))) (now (text .entry)) (now (text .exit)) at r ⌝ }
 {
     let mut to = at;
     let mut from = 0;
@@ -104,39 +101,35 @@ fn put_answers(text: &mut [u8], at: usize, answers: &[u64], count: usize) -> usi
 
 // The cells that were read.
 fn put_marks(text: &mut [u8], at: usize, marks: &[u8]) -> usize
-    requires { ⌜ (at ≤ 2 ^ 58) × (length (now marks) ≤ 2 ^ 32) ⌝ }
-    ensures { λ r. ⌜ (now (text .exit) ≡ sets (now (text .entry)) at (marksText (now (marks .entry)))) × (r ≡ at + length (marksText (now (marks .entry)))) ⌝ }
+    ensures { λ r. ⌜ Written (marksText (now (marks .entry))) (now (text .entry)) (now (text .exit)) at r ⌝ }
 {
     let mut to = at;
     let mut i = 0;
     while i < marks.len() {
         if marks[i] == 1 {
-            put(text, to, 32);
-            to = put_decimal(text, to + 1, i as u64);
+            to = put(text, to, 32);
+            to = put_decimal(text, to, i as u64);
         }
         i += 1;
     }
     to
 }
 
-// The text of a refused job. How long it is.
+// The text of a refused job. How long it is, or one more than the room for it.
 pub fn put_refusal(text: &mut [u8], k: u64) -> usize
-    ensures { λ r. ⌜ (now (text .exit) ≡ sets (now (text .entry)) 0 (refusedText k)) × (r ≡ length (refusedText k)) ⌝ }
+    ensures { λ r. ⌜ Listed (refusedText k) (now (text .entry)) (now (text .exit)) r ⌝ }
 {
     let to = put_all(text, 0, b"refused ");
     let to = put_decimal(text, to, k);
-    put(text, to, 10);
-    to + 1
+    put(text, to, 10)
 }
 
-// The text of a job that was done. How long it is.
+// The text of a job that was done. How long it is, or one more than the room for it.
 pub fn put_done(text: &mut [u8], answers: &[u64], count: usize, marks: &[u8]) -> usize
-    requires { ⌜ (length (now answers) ≤ 2 ^ 32) × (count ≤ 2 ^ 32) × (length (now marks) ≤ 2 ^ 32) ⌝ }
-    ensures { λ r. ⌜ (now (text .exit) ≡ sets (now (text .entry)) 0 (doneText (now (answers .entry)) count (now (marks .entry)))) × (r ≡ length (doneText (now (answers .entry)) count (now (marks .entry)))) ⌝ }
+    ensures { λ r. ⌜ Listed (doneText (now (answers .entry)) count (now (marks .entry))) (now (text .entry)) (now (text .exit)) r ⌝ }
 {
     let to = put_answers(text, 0, answers, count);
     let to = put_all(text, to, b"read");
     let to = put_marks(text, to, marks);
-    put(text, to, 10);
-    to + 1
+    put(text, to, 10)
 }

@@ -2,11 +2,10 @@
 use job::Outcome;
 use listing::put_done;
 use listing::put_refusal;
-ghost use Prim.Native.Nat.{_^_, _≤_};
 ghost use mathlib.Core.Path.{_≡_};
 ghost use lib.ListN.{length};
-ghost use lib.Seq.{sets};
 ghost use Rattle.job.specs.Job.{numberOf};
+ghost use Rattle.listing.specs.Written.{Listed};
 ghost use Rattle.report.specs.Report.{reportOf};
 
 // The longest file, in bytes.
@@ -22,7 +21,8 @@ fn number_of(r: Outcome) -> u64
     }
 }
 
-// Runs the job and writes its text; a file that is too long is refused before. How long the text is.
+// Runs the job and writes its text; a file that is too long is refused before. How long the text is, or one
+// more than the room for it.
 pub fn report(
     case: &[u8],
     requests: &[u8],
@@ -32,8 +32,7 @@ pub fn report(
     answers: &mut [u64],
     text: &mut [u8],
 ) -> usize
-    requires { ⌜ (length (now answers) ≤ 2 ^ 32) × (length (now marks) ≤ 2 ^ 32) ⌝ }
-    ensures { λ r. ⌜ (now (text .exit) ≡ sets (now (text .entry)) 0 (reportOf (now (case .entry)) (now (requests .entry)) (length (now (words .entry))) (length (now (floats .entry))) (now (answers .entry)) (now (marks .entry)))) × (r ≡ length (reportOf (now (case .entry)) (now (requests .entry)) (length (now (words .entry))) (length (now (floats .entry))) (now (answers .entry)) (now (marks .entry)))) ⌝ }
+    ensures { λ r. ⌜ Listed (reportOf (now (case .entry)) (now (requests .entry)) (length (now (words .entry))) (length (now (floats .entry))) (now (answers .entry)) (now (marks .entry))) (now (text .entry)) (now (text .exit)) r ⌝ }
 {
     if case.len() > LONGEST {
         return put_refusal(text, 20);

@@ -1,7 +1,5 @@
 -- `listing::put_all` meets its contract. The loop's invariant: what is left to write. Assumes nothing.
-use Prim.Native.Nat.{_+_, _-_, _≤_}
-use native.Mathlib.Nat.{add-zero}
-use mathlib.Core.Path.{_≡_, refl}
+use Prim.Native.Nat.{_-_}
 use lib.ListN.{length, drop}
 use borrow.Author.Needs.{needs}
 use Rattle.listing.proofs.TextLaws.{Left, all-left, bytes-turn, none-left, over}
@@ -9,21 +7,21 @@ use Rattle.listing.proofs.put_all.Statement.{statement}
 use Rattle.listing.proofs.put_all.Tie as tie
 
 abbrev Inv-loop : tie.InvT-loop
-Inv-loop text₀ at bytes i₀ text i = (i ≤ length bytes) × (length text ≡ length text₀) × Left text₀ at bytes text (at + i) (drop i bytes)
+Inv-loop text₀ at bytes to₀ i₀ text to i = Left text₀ at bytes text to (drop i bytes)
 
 abbrev μ-loop : tie.MeasureT-loop
-μ-loop text₀ at bytes i₀ text i = length bytes - i
+μ-loop text₀ at bytes to₀ i₀ text to i = length bytes - i
 
 loop-holds : tie.Need-loop-holds Inv-loop μ-loop
-loop-holds c = (search needs, refl, rw add-zero (all-left _ _ _))
+loop-holds c = all-left _ _ _
 
 loop-again : tie.Need-loop-again Inv-loop μ-loop
 loop-again c =
     let in-loop = c .before .before .before .before .before in
-    (search needs, search needs, bytes-turn _ _ (in-loop .loop-test .taken) (in-loop .before .loop .inv .2) (c .before .before .put .ensures))
+    bytes-turn _ _ (in-loop .loop-test .taken) (in-loop .before .loop .inv) (c .before .before .put .ensures)
 
 returns : tie.Need-returns Inv-loop μ-loop
-returns c = (over _ (none-left _ _ (c .loop-test .left)) (c .before .loop .inv .2) .0, refl)
+returns c = over _ (none-left _ _ (c .loop-test .left)) (c .before .loop .inv)
 
 pub put-all-spec : {M : Type 1} → statement M
 put-all-spec =
@@ -33,11 +31,9 @@ put-all-spec =
     μ-loop
     loop-holds
     (λ c. search needs)
-    (λ c. search needs)
     (λ c κs. search needs)
     (λ c. search needs)
     (λ c. search needs)
     loop-again
-    (λ c. search needs)
     (λ c. search needs)
     returns)

@@ -2,21 +2,15 @@
 use native.Mathlib.Omega.{arith}
 use mathlib.Core.Path.{_∙_}
 use borrow.Author.Needs.{needs}
-use Rattle.listing.proofs.DigitLaws.{few-decimal, decimal-is}
+use Rattle.listing.proofs.DigitLaws.{decimal-is}
 use Rattle.listing.proofs.TextLaws.{put-as}
 use Rattle.listing.proofs.put_decimal.Statement.{statement}
 use Rattle.listing.proofs.put_decimal.Tie as tie
 
-put-all-requires : tie.Need-put-all-requires
-put-all-requires c κs =
-    let d = c .before .before .decimal .ensures in
-    let few = few-decimal (c .before .before .before .before .before .args .n) (c .before .before .decimal .result) (omega arith) (d .1 .0) in
-    omega (arith, d .0, few)
-
 returns : tie.Need-returns
 returns c =
     let d = c .before .before .before .before .before .decimal .ensures in
-    put-as _ _ (d .1 .1 ∙ decimal-is (c .before .before .before .before .before .before .before .before .args .n) (c .before .before .before .before .before .decimal .result) (omega arith) (d .1 .0)) (c .before .before .put-all .ensures)
+    put-as (d .1 .1 ∙ decimal-is (c .before .before .before .before .before .before .before .before .args .n) (c .before .before .before .before .before .decimal .result) (omega arith) (d .1 .0)) (c .before .before .put-all .ensures)
 
 pub put-decimal-spec : {M : Type 1} → statement M
 put-decimal-spec =
@@ -25,6 +19,6 @@ put-decimal-spec =
     (λ c κs. search needs)
     (λ c. search needs)
     (λ c. search needs)
-    put-all-requires
+    (λ c κs. search needs)
     (λ c. search needs)
     returns)

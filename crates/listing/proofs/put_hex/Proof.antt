@@ -2,21 +2,15 @@
 use native.Mathlib.Omega.{arith}
 use mathlib.Core.Path.{_∙_}
 use borrow.Author.Needs.{needs}
-use Rattle.listing.proofs.DigitLaws.{few-hex, hex-is}
+use Rattle.listing.proofs.DigitLaws.{hex-is}
 use Rattle.listing.proofs.TextLaws.{put-as}
 use Rattle.listing.proofs.put_hex.Statement.{statement}
 use Rattle.listing.proofs.put_hex.Tie as tie
 
-put-all-requires : tie.Need-put-all-requires
-put-all-requires c κs =
-    let d = c .before .before .hex .ensures in
-    let few = few-hex (c .before .before .before .before .before .args .n) (c .before .before .hex .result) (omega arith) (d .1 .0) in
-    omega (arith, d .0, few)
-
 returns : tie.Need-returns
 returns c =
     let d = c .before .before .before .before .before .hex .ensures in
-    put-as _ _ (d .1 .1 ∙ hex-is (c .before .before .before .before .before .before .before .before .args .n) (c .before .before .before .before .before .hex .result) (omega arith) (d .1 .0)) (c .before .before .put-all .ensures)
+    put-as (d .1 .1 ∙ hex-is (c .before .before .before .before .before .before .before .before .args .n) (c .before .before .before .before .before .hex .result) (omega arith) (d .1 .0)) (c .before .before .put-all .ensures)
 
 pub put-hex-spec : {M : Type 1} → statement M
 put-hex-spec =
@@ -25,6 +19,6 @@ put-hex-spec =
     (λ c κs. search needs)
     (λ c. search needs)
     (λ c. search needs)
-    put-all-requires
+    (λ c κs. search needs)
     (λ c. search needs)
     returns)

@@ -1,13 +1,8 @@
 -- `listing::put_refusal` meets its contract. Assumes nothing.
-use native.Mathlib.Omega.{arith}
 use borrow.Author.Needs.{needs}
-use Rattle.listing.proofs.DigitLaws.{length-decimal}
 use Rattle.listing.proofs.TextLaws.{refused-put}
 use Rattle.listing.proofs.put_refusal.Statement.{statement}
 use Rattle.listing.proofs.put_refusal.Tie as tie
-
-add-result : tie.Need-add-result
-add-result c = omega (arith, c .before .before .before .before .before .before .put-decimal .ensures .1, c .before .before .before .before .before .before .before .before .before .before .put-all .ensures .1, length-decimal (c .before .before .before .before .before .before .before .before .before .before .before .before .before .before .args .k))
 
 returns : tie.Need-returns
 returns c = refused-put _ _ (c .before .before .before .before .before .before .before .before .before .before .put-all .ensures) (c .before .before .before .before .before .before .put-decimal .ensures) (c .before .before .put .ensures)
@@ -20,6 +15,5 @@ put-refusal-spec =
     (λ c κs. search needs)
     (λ c κs. search needs)
     (λ c κs. search needs)
-    add-result
     (λ c. search needs)
     returns)

@@ -1,36 +1,28 @@
 -- `listing::put_words` meets its contract. The loop's invariant: what is left to write. Assumes nothing.
 use Prim.Native.Nat.{_-_}
-use native.Mathlib.Omega.{arith}
-use mathlib.Core.Path.{_≡_, refl}
 use lib.ListN.{length, drop}
 use borrow.Author.Needs.{needs}
 use Rattle.listing.specs.Listing.{wordsText}
-use Rattle.listing.proofs.TextLaws.{Left, all-left, words-turn, words-over, over, length-words}
+use Rattle.listing.proofs.TextLaws.{Left, all-left, words-turn, words-over, over}
 use Rattle.listing.proofs.put_words.Statement.{statement}
 use Rattle.listing.proofs.put_words.Tie as tie
 
 abbrev Inv-loop : tie.InvT-loop
-Inv-loop text₀ at words to₀ i₀ text to i = (length text ≡ length text₀) × Left text₀ at (wordsText words) text to (wordsText (drop i words))
+Inv-loop text₀ at words to₀ i₀ text to i = Left text₀ at (wordsText words) text to (wordsText (drop i words))
 
 abbrev μ-loop : tie.MeasureT-loop
 μ-loop text₀ at words to₀ i₀ text to i = length words - i
 
 loop-holds : tie.Need-loop-holds Inv-loop μ-loop
-loop-holds c = (refl, all-left _ _ _)
-
-add-put-hex : tie.Need-add-put-hex Inv-loop μ-loop
-add-put-hex c = let start = c .before .before .before .before .before .before .before .before .before in omega (arith, c .before .before .before .before .before .before .loop .inv .1 .ends, length-words (start .args .words .now), start .pre)
-
-put-hex-requires : tie.Need-put-hex-requires Inv-loop μ-loop
-put-hex-requires c κs = let start = c .before .before .before .before .before .before .before .before .before .before in omega (arith, c .before .before .before .before .before .before .before .loop .inv .1 .ends, length-words (start .args .words .now), start .pre)
+loop-holds c = all-left _ _ _
 
 loop-again : tie.Need-loop-again Inv-loop μ-loop
 loop-again c =
     let in-loop = c .before .before .before .before .before .before .before .before .before in
-    (search needs, words-turn _ _ (in-loop .loop-test .taken) (in-loop .before .loop .inv .1) (c .before .before .before .before .before .before .before .put .ensures) (c .before .before .put-hex .ensures))
+    words-turn _ _ (in-loop .loop-test .taken) (in-loop .before .loop .inv) (c .before .before .before .before .before .before .before .put .ensures) (c .before .before .put-hex .ensures)
 
 returns : tie.Need-returns Inv-loop μ-loop
-returns c = over _ (words-over _ _ (c .loop-test .left)) (c .before .loop .inv .1)
+returns c = over _ (words-over _ _ (c .loop-test .left)) (c .before .loop .inv)
 
 pub put-words-spec : {M : Type 1} → statement M
 put-words-spec =
@@ -40,10 +32,9 @@ put-words-spec =
     μ-loop
     loop-holds
     (λ c κs. search needs)
-    add-put-hex
     (λ c. search needs)
     (λ c. search needs)
-    put-hex-requires
+    (λ c κs. search needs)
     (λ c. search needs)
     (λ c. search needs)
     loop-again
