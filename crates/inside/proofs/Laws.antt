@@ -1,21 +1,21 @@
 -- One turn of the loop over a polygon's sides. Assumes nothing.
-use Prim.Native.Nat.{ℕ, zero, suc, _+_, _*_, _%_, _≤_, _<_}
+use Prim.Native.Nat.{ℕ, _+_, _*_, _%_, _≤_, _<_}
 use native.Mathlib.Nat.{zero-add}
 use native.Mathlib.Omega.{arith}
 use mathlib.Core.Path.{_≡_, refl, ap, sym, _∙_}
-use mathlib.Core.Bool.{Bool, true, false, not, cond, _&&_, _||_}
-use mathlib.Core.List.{List, [], _∷_}
-use lib.Dec.{eqb, leb}
+use mathlib.Core.Bool.{Bool, true, false, not, cond, _||_}
+use mathlib.Core.List.{List, []}
+use lib.Dec.{eqb}
 use lib.ListN.{length, getD, drop}
 use lib.Ieee.{Float}
-use borrow.Author.Tests.{eqb-true, eqb-false, eq-eqb, ne-eqb, lt-leb, le-leb}
+use borrow.Author.Tests.{eqb-false, eq-eqb, ne-eqb, lt-leb, le-leb}
 use Rattle.arith.specs.declared.Vec2.{Vec2}
 use Rattle.arith.specs.Lists.{Side, sides, after, count, any}
 use Rattle.arith.specs.Polygon.{crosses, evenOdd}
 use Rattle.arith.proofs.ListLaws.{count-next, any-here, any-next, length-sides, sides-at}
 use Rattle.arith.proofs.RecordLaws.{length-tab, getD-tab, drop-end}
 use Rattle.inside.specs.Contains.{onEdge, contains}
-use Rattle.inside.specs.Vertices.{pairFrom, pairsFrom}
+use Rattle.inside.specs.Vertices.{pairFrom, pairsFrom, sideFrom}
 
 -- ---- the number after i
 
@@ -64,9 +64,6 @@ module _ (floats : List Float) (at n : ℕ) where
   abbrev pub sidesIn : List (Side Vec2)
   sidesIn = sides (pairsFrom floats at n)
 
-  abbrev pub sideIn : ℕ → Side Vec2
-  sideIn i = record { from = pairFrom floats (at + 2 * i); to = pairFrom floats (at + 2 * after n i) }
-
   long : length sidesIn ≡ n
   long = length-sides (pairsFrom floats at n) ∙ length-pairs floats at n
 
@@ -77,13 +74,11 @@ module _ (floats : List Float) (at n : ℕ) where
     pub in-range : i < length sidesIn
     in-range = rw long more
 
-    here : getD sidesIn i (sideIn 0) ≡ sideIn i
-    here =
-        sides-at (pairsFrom floats at n) i (pairFrom floats 0) (sideIn 0) (rw (length-pairs floats at n) more)
+    pub side-at : getD sidesIn i (sideFrom floats at n 0) ≡ sideFrom floats at n i
+    unfolding sideFrom
+    side-at =
+        sides-at (pairsFrom floats at n) i (pairFrom floats 0) (sideFrom floats at n 0) (rw (length-pairs floats at n) more)
         ∙ rw (length-pairs floats at n, pairs-at floats at n i (pairFrom floats 0) more, pairs-at floats at n (after n i) (pairFrom floats 0) (after-less n i more))
-
-    pub side : (a b : Vec2) (j : ℕ) → a ≡ pairFrom floats (at + 2 * i) → b ≡ pairFrom floats (at + 2 * j) → j ≡ after n i → getD sidesIn i (sideIn 0) ≡ record { from = a; to = b }
-    side a b j ea eb ej = here ∙ rw (ea, eb, ej)
 
 -- ---- one turn
 
@@ -107,21 +102,20 @@ module _ (q : Vec2) (floats : List Float) (at n : ℕ) where
       by false = refl
 
   module _ (i : ℕ) (more : i < n) where
-    module _ (inside r : Bool) (a b : Vec2) (j : ℕ) (ea : a ≡ pairFrom floats (at + 2 * i)) (eb : b ≡ pairFrom floats (at + 2 * j)) (ej : j ≡ after n i)
-        (inv : rest q (sidesIn floats at n) inside i ≡ r) where
-      side-now : getD (sidesIn floats at n) i (sideIn floats at n 0) ≡ record { from = a; to = b }
-      side-now = side floats at n i more a b j ea eb ej
+    module _ (inside r : Bool) (a b : Vec2) (es : sideFrom floats at n i ≡ record { from = a; to = b }) (inv : rest q (sidesIn floats at n) inside i ≡ r) where
+      side-now : getD (sidesIn floats at n) i (sideFrom floats at n 0) ≡ record { from = a; to = b }
+      side-now = side-at floats at n i more ∙ es
 
       pub rest-here : (e : Bool) → e ≡ onEdge q (record { from = a; to = b }) → e ≡ true → true ≡ r
       unfolding rest
-      rest-here e h t = rw (any-here (sidesIn floats at n) i (sideIn floats at n 0) (in-range floats at n i more) (onEdge q) (rw side-now (sym h ∙ t))) at inv
+      rest-here e h t = rw (any-here (sidesIn floats at n) i (sideFrom floats at n 0) (in-range floats at n i more) (onEdge q) (rw side-now (sym h ∙ t))) at inv
 
       next : (e : Bool) → e ≡ onEdge q (record { from = a; to = b }) → e ≡ false → (c : Bool) → c ≡ crosses q (record { from = a; to = b })
           → any (onEdge q) (drop (i + 1) (sidesIn floats at n)) || odd inside (cond c 1 0 + count (crosses q) (drop (i + 1) (sidesIn floats at n))) ≡ r
       unfolding rest
       next e h t c hc =
           rw (hc, ← side-now)
-          (rw (any-next (sidesIn floats at n) i (sideIn floats at n 0) (in-range floats at n i more) (onEdge q) (rw side-now (sym h ∙ t)), count-next (sidesIn floats at n) i (sideIn floats at n 0) (in-range floats at n i more) (crosses q)) at inv)
+          (rw (any-next (sidesIn floats at n) i (sideFrom floats at n 0) (in-range floats at n i more) (onEdge q) (rw side-now (sym h ∙ t)), count-next (sidesIn floats at n) i (sideFrom floats at n 0) (in-range floats at n i more) (crosses q)) at inv)
 
       pub rest-toggled : (e : Bool) → e ≡ onEdge q (record { from = a; to = b }) → e ≡ false → (c inside′ : Bool) → c ≡ crosses q (record { from = a; to = b })
           → c ≡ true → inside′ ≡ not inside → rest q (sidesIn floats at n) inside′ (i + 1) ≡ r

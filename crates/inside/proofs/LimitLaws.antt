@@ -1,25 +1,23 @@
 -- A polygon all of whose sides are within some limits contains no point outside of them. Assumes nothing.
-use Prim.Native.Nat.{ℕ, _+_, _*_, _%_, _≤_, _<_}
-use native.Mathlib.Omega.{arith}
-use mathlib.Core.Path.{_≡_, refl, sym, ap, _∙_, subst}
-use mathlib.Core.Bool.{Bool, true, false, not, cond, _&&_, _||_, Bool·beq, true≢false, false≢true}
+use Prim.Native.Nat.{ℕ, _+_, _≤_, _<_}
+use mathlib.Core.Path.{_≡_, refl, sym, ap, _∙_}
+use mathlib.Core.Bool.{Bool, true, false, cond, _&&_, _||_, false≢true}
 use mathlib.Core.List.{List, [], _∷_}
-use lib.Dec.{eqb, leb}
+use lib.Dec.{leb}
 use lib.ListN.{length, getD, drop}
-use lib.Ieee.{Float, nan, inf, fin, add, sub, mul, div, neg, lt, le, eq, isNan, up, down}
-use borrow.Author.Tests.{eqb-true, eqb-false, eq-eqb, ne-eqb}
-use Rattle.arith.specs.F64.{_⊕_, _⊖_, _⊗_, _⊘_, _≺_, _≼_, _≈_, 0·0, 1e-12, finite, fmin, fmax}
-use Rattle.arith.specs.Lists.{Side, sides, after, any, all, count}
+use lib.Ieee.{Float, nan, inf, fin, lt, isNan}
+use Rattle.arith.specs.F64.{_⊕_, _⊖_, _≺_, _≼_, 0·0, 1e-12, finite, fmin, fmax}
+use Rattle.arith.specs.Lists.{Side, sides, any, all, count, foldl}
 use Rattle.arith.specs.Polygon.{crosses, evenOdd}
 use Rattle.arith.specs.declared.Vec2.{Vec2}
-use Rattle.arith.proofs.ListLaws.{all-here, all-next}
+use Rattle.arith.proofs.ListLaws.{all-here, all-next, foldl-next}
 use Rattle.inside.specs.declared.Limits.{Limits}
-use Rattle.inside.specs.Vertices.{pairFrom, pairsFrom}
+use Rattle.inside.specs.Vertices.{sideFrom}
 use Rattle.inside.specs.Contains.{between, onLine, onEdge, contains}
-use Rattle.inside.specs.Extent.{Outside, misses, endWithin, run, crossingWithin, sideWithin}
+use Rattle.inside.specs.Extent.{Outside, misses, endWithin, run, isLevel, crossingWithin, sideWithin, sideless, widened, narrowest, unlimited, limitsOf}
 use Rattle.inside.proofs.OrderLaws.{below-through, through-below, below-not-most, below-not-below}
 use Rattle.inside.proofs.CrossLaws.{crosses-left, crosses-level}
-use Rattle.inside.proofs.Laws.{sidesIn, sideIn, side, in-range, sides-past}
+use Rattle.inside.proofs.Laws.{sidesIn, side-at, in-range, sides-past}
 
 -- ---- both of two tests
 
@@ -139,7 +137,7 @@ module _ (l : Limits) (a b : Vec2) (w : sideWithin l (record { from = a; to = b 
 
   crosses-beyond : (l .right ≺ q .x) ≡ true → crosses q s ≡ false
   crosses-beyond h =
-      by (a .y ≼ b .y) (b .y ≼ a .y) (finite (run s)) (fmax (run s) 0·0 ⊕ a .x ≼ l .right) refl refl refl refl (unfold crossingWithin in crossing-in)
+      by (a .y ≼ b .y) (b .y ≼ a .y) (finite (run s)) (fmax (run s) 0·0 ⊕ a .x ≼ l .right) refl refl refl refl (unfold crossingWithin isLevel in crossing-in)
     where
       by : (t u v w : Bool) → (a .y ≼ b .y) ≡ t → (b .y ≼ a .y) ≡ u → finite (run s) ≡ v → (fmax (run s) 0·0 ⊕ a .x ≼ l .right) ≡ w → ((t && u) || (v && w)) ≡ true → crosses q s ≡ false
       by true true v w et eu ev ew e = crosses-level q a b et eu
@@ -178,9 +176,8 @@ module _ (polygon : List Vec2) (l : Limits) (w : all (sideWithin l) (sides polyg
       rw (none-any (sideWithin l) (onEdge q) a (sides polygon) w, none-count (sideWithin l) (crosses q) b (sides polygon) w)
       (not-second (leb 3 (length polygon)) false refl)
 
-pub within-outside : (polygon : List Vec2) (l : Limits) (t : Bool) → t ≡ all (sideWithin l) (sides polygon) → t ≡ true → Outside polygon l
-within-outside polygon l t e h =
-    let w = sym e ∙ h in
+within-outside : (polygon : List Vec2) (l : Limits) → all (sideWithin l) (sides polygon) ≡ true → Outside polygon l
+within-outside polygon l w =
     record {
       below = λ q k. none polygon l w q (λ s i. edge-below l (s .from) (s .to) i q k) (λ s i. crosses-below l (s .from) (s .to) i q k);
       above = λ q k. none polygon l w q (λ s i. edge-above l (s .from) (s .to) i q k) (λ s i. crosses-above l (s .from) (s .to) i q k);
@@ -202,13 +199,36 @@ above-most nan = refl
 above-most (inf t) = refl
 above-most (fin s m e) = refl
 
-pub unlimited : (polygon : List Vec2) → Outside polygon (record { low = inf true; high = inf false; right = inf false })
-unlimited polygon =
+unlimited-outside : (polygon : List Vec2) → Outside polygon unlimited
+unfolding unlimited
+unlimited-outside polygon =
     record {
       below = λ q k. absurd (false≢true (sym (below-least (q .y)) ∙ k));
       above = λ q k. absurd (false≢true (sym (above-most (q .y)) ∙ k));
       beyond = λ q k. absurd (false≢true (sym (above-most (q .x)) ∙ k));
     }
+
+-- ---- the limits that are stored
+
+pub limits-outside : (polygon : List Vec2) → Outside polygon (limitsOf polygon)
+unfolding limitsOf
+limits-outside polygon = by (all (sideWithin l) (sides polygon)) refl
+  where
+    l : Limits
+    l = narrowest (sides polygon)
+
+    by : (t : Bool) → all (sideWithin l) (sides polygon) ≡ t → Outside polygon (cond t l unlimited)
+    by true e = within-outside polygon l e
+    by false e = unlimited-outside polygon
+
+module _ (polygon : List Vec2) (l : Limits) (t : Bool) (el : l ≡ narrowest (sides polygon)) (et : t ≡ all (sideWithin l) (sides polygon)) where
+  pub limits-kept : t ≡ true → l ≡ limitsOf polygon
+  unfolding limitsOf
+  limits-kept h = rw (← el, sym et ∙ h)
+
+  pub limits-none : t ≡ false → (r : Limits) → r ≡ unlimited → r ≡ limitsOf polygon
+  unfolding limitsOf
+  limits-none h r e = rw (← el, sym et ∙ h) e
 
 -- ---- a point that misses them
 
@@ -222,20 +242,30 @@ missed polygon l q o t e h = by (l .high ≺ q .y) (l .right ≺ q .x) (q .y ≺
     by false false true x y z k = o .below q z
     by false false false x y z k = absurd (false≢true k)
 
--- ---- one turn of the loop over the sides
+-- ---- one turn of the loops over the sides
 
-module _ (l : Limits) (floats : List Float) (at n i : ℕ) where
-  pub within-end : (r : Bool) → n ≤ i → all (sideWithin l) (drop i (sidesIn floats at n)) ≡ r → true ≡ r
-  unfolding all
-  within-end r h e = rw (sides-past floats at n i h) at e
+module _ (floats : List Float) (at n i : ℕ) where
+  pub narrowed : (l l₀ : Limits) → n ≤ i → foldl widened l (drop i (sidesIn floats at n)) ≡ foldl widened l₀ (sidesIn floats at n) → l₀ ≡ sideless → l ≡ narrowest (sidesIn floats at n)
+  unfolding foldl narrowest
+  narrowed l l₀ h inv e = rw (sides-past floats at n i h, e) at inv
 
-  module _ (more : i < n) (a b : Vec2) (j : ℕ) (ea : a ≡ pairFrom floats (at + 2 * i)) (eb : b ≡ pairFrom floats (at + 2 * j)) (ej : j ≡ after n i) (r t : Bool)
-      (et : t ≡ sideWithin l (record { from = a; to = b })) (inv : all (sideWithin l) (drop i (sidesIn floats at n)) ≡ r) where
-    test : sideWithin l (getD (sidesIn floats at n) i (sideIn floats at n 0)) ≡ t
-    test = ap (sideWithin l) (side floats at n i more a b j ea eb ej) ∙ sym et
+  pub widened-turn : (l l₀ l′ : Limits) → i < n → (a b : Vec2) → sideFrom floats at n i ≡ record { from = a; to = b } → foldl widened l (drop i (sidesIn floats at n)) ≡ foldl widened l₀ (sidesIn floats at n)
+      → l′ ≡ widened l (record { from = a; to = b }) → foldl widened l′ (drop (i + 1) (sidesIn floats at n)) ≡ foldl widened l₀ (sidesIn floats at n)
+  widened-turn l l₀ l′ more a b es inv e =
+      rw (e, ← es, ← (side-at floats at n i more), ← (foldl-next (sidesIn floats at n) i (sideFrom floats at n 0) (in-range floats at n i more) widened l)) inv
 
-    pub within-next : t ≡ true → all (sideWithin l) (drop (i + 1) (sidesIn floats at n)) ≡ r
-    within-next e = sym (all-next (sidesIn floats at n) i (sideIn floats at n 0) (in-range floats at n i more) (sideWithin l) (test ∙ e)) ∙ inv
+  module _ (l : Limits) where
+    pub within-end : (r : Bool) → n ≤ i → all (sideWithin l) (drop i (sidesIn floats at n)) ≡ r → true ≡ r
+    unfolding all
+    within-end r h e = rw (sides-past floats at n i h) at e
 
-    pub within-not : t ≡ false → false ≡ r
-    within-not e = sym (all-here (sidesIn floats at n) i (sideIn floats at n 0) (in-range floats at n i more) (sideWithin l) (test ∙ e)) ∙ inv
+    module _ (more : i < n) (a b : Vec2) (es : sideFrom floats at n i ≡ record { from = a; to = b }) (r t : Bool) (et : t ≡ sideWithin l (record { from = a; to = b }))
+        (inv : all (sideWithin l) (drop i (sidesIn floats at n)) ≡ r) where
+      test : sideWithin l (getD (sidesIn floats at n) i (sideFrom floats at n 0)) ≡ t
+      test = ap (sideWithin l) (side-at floats at n i more ∙ es) ∙ sym et
+
+      pub within-next : t ≡ true → all (sideWithin l) (drop (i + 1) (sidesIn floats at n)) ≡ r
+      within-next e = sym (all-next (sidesIn floats at n) i (sideFrom floats at n 0) (in-range floats at n i more) (sideWithin l) (test ∙ e)) ∙ inv
+
+      pub within-not : t ≡ false → false ≡ r
+      within-not e = sym (all-here (sidesIn floats at n) i (sideFrom floats at n 0) (in-range floats at n i more) (sideWithin l) (test ∙ e)) ∙ inv

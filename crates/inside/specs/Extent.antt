@@ -1,12 +1,12 @@
 -- Where a polygon contains no point: what may be stored with it, so that most points need no look at its sides.
 use Prim.Native.Nat.{ℕ, _+_}
 use mathlib.Core.Path.{_≡_}
-use mathlib.Core.Bool.{Bool, true, false, _&&_, _||_}
+use mathlib.Core.Bool.{Bool, true, false, cond, _&&_, _||_}
 use mathlib.Core.List.{List}
 use lib.ListN.{getD}
 use lib.Ieee.{Float, nan}
-use Rattle.arith.specs.F64.{_⊕_, _⊖_, _⊗_, _⊘_, _≺_, _≼_, 0·0, 1e-12, finite, fmax}
-use Rattle.arith.specs.Lists.{Side}
+use Rattle.arith.specs.F64.{_⊕_, _⊖_, _⊗_, _⊘_, _≺_, _≼_, 0·0, 1e-12, +∞, -∞, finite, fmin, fmax}
+use Rattle.arith.specs.Lists.{Side, sides, all, foldl}
 use Rattle.arith.specs.declared.Vec2.{Vec2}
 use Rattle.inside.specs.declared.Limits.{Limits}
 use Rattle.inside.specs.Contains.{contains}
@@ -36,10 +36,45 @@ endWithin l p =
 unfoldable pub run : Side Vec2 → Float
 run s = (s .to .x ⊖ s .from .x) ⊗ (s .to .y ⊖ s .from .y) ⊘ (s .to .y ⊖ s .from .y)
 
+-- its ends are equally high
+unfoldable pub isLevel : Side Vec2 → Bool
+isLevel s = (s .from .y ≼ s .to .y) && (s .to .y ≼ s .from .y)
+
 -- it is level, or no crossing with it lies to the right of the limit
 unfoldable pub crossingWithin : Float → Side Vec2 → Bool
 crossingWithin right s =
-    ((s .from .y ≼ s .to .y) && (s .to .y ≼ s .from .y)) || (finite (run s) && (fmax (run s) 0·0 ⊕ s .from .x ≼ right))
+    isLevel s || (finite (run s) && (fmax (run s) 0·0 ⊕ s .from .x ≼ right))
 
 unfoldable pub sideWithin : Limits → Side Vec2 → Bool
 sideWithin l s = endWithin l (s .from) && (endWithin l (s .to) && crossingWithin (l .right) s)
+
+-- ---- the limits that are stored
+
+-- how far to the right a crossing with the side may be computed to lie
+unfoldable pub reach : Side Vec2 → Float
+reach s = cond (isLevel s) (s .from .x) (fmax (run s) 0·0 ⊕ s .from .x)
+
+-- the limits about no side, and about one side more
+unfoldable pub sideless : Limits
+sideless = record { low = +∞; high = -∞; right = -∞ }
+
+unfoldable pub widened : Limits → Side Vec2 → Limits
+widened l s =
+    record {
+      low = fmin (l .low) (s .from .y ⊖ 1e-12);
+      high = fmax (l .high) (s .from .y ⊕ 1e-12);
+      right = fmax (l .right) (fmax (s .from .x ⊕ 1e-12) (reach s));
+    }
+
+-- the narrowest about sides that have no NaN
+unfoldable pub narrowest : List (Side Vec2) → Limits
+narrowest l = foldl widened sideless l
+
+-- no limits
+unfoldable pub unlimited : Limits
+unlimited = record { low = -∞; high = +∞; right = +∞ }
+
+-- the narrowest where every side is within them, else none
+unfoldable pub limitsOf : List Vec2 → Limits
+limitsOf polygon =
+    cond (all (sideWithin (narrowest (sides polygon))) (sides polygon)) (narrowest (sides polygon)) unlimited

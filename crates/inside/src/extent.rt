@@ -1,7 +1,6 @@
 // The limits of a polygon, found at its vertices and sides.
 use crate::Limits;
-use crate::next_of;
-use crate::pair_at;
+use crate::side_at;
 use arith::Vec2;
 use arith::float;
 ghost use mathlib.Core.Path.{_≡_};
@@ -54,11 +53,18 @@ fn run(a: Vec2, b: Vec2) -> f64
     (b.x - a.x) * (b.y - a.y) / (b.y - a.y)
 }
 
+// The side is level.
+fn is_level(a: Vec2, b: Vec2) -> bool
+    ensures { λ r. ⌜ r ≡ Extent.isLevel (record { from = a; to = b }) ⌝ }
+{
+    (a.y <= b.y) & (b.y <= a.y)
+}
+
 // The side is level, or no crossing with it lies to the right of the limit.
 fn has_crossing(right: f64, a: Vec2, b: Vec2) -> bool
     ensures { λ r. ⌜ r ≡ Extent.crossingWithin right (record { from = a; to = b }) ⌝ }
 {
-    if (a.y <= b.y) & (b.y <= a.y) {
+    if is_level(a, b) {
         return true;
     }
     let u = run(a, b);
@@ -91,9 +97,8 @@ fn has_sides(l: Limits, floats: &[f64], at: usize, n: usize) -> bool
 {
     let mut i = 0;
     while i < n {
-        let a = pair_at(floats, at + 2 * i);
-        let b = pair_at(floats, at + 2 * next_of(i, n));
-        if has_side(l, a, b) {
+        let s = side_at(floats, at, n, i);
+        if has_side(l, s.from, s.to) {
             i += 1;
         } else {
             return false;
@@ -102,35 +107,62 @@ fn has_sides(l: Limits, floats: &[f64], at: usize, n: usize) -> bool
     true
 }
 
-// The limits with one more side.
-fn widened(l: Limits, a: Vec2, b: Vec2) -> Limits {
-    let crossing = if a.y == b.y {
+// How far to the right a crossing with the side may be computed to lie.
+fn reach(a: Vec2, b: Vec2) -> f64
+    ensures { λ r. ⌜ r ≡ Extent.reach (record { from = a; to = b }) ⌝ }
+{
+    if is_level(a, b) {
         a.x
     } else {
         float::max(run(a, b), 0.0) + a.x
-    };
+    }
+}
+
+// The limits with one more side.
+fn widened(l: Limits, a: Vec2, b: Vec2) -> Limits
+    ensures { λ r. ⌜ r ≡ Extent.widened l (record { from = a; to = b }) ⌝ }
+{
     Limits {
         low: float::min(l.low, a.y - 1.0e-12),
         high: float::max(l.high, a.y + 1.0e-12),
-        right: float::max(l.right, float::max(a.x + 1.0e-12, crossing)),
+        right: float::max(l.right, float::max(a.x + 1.0e-12, reach(a, b))),
+    }
+}
+
+// The limits about no side.
+fn sideless() -> Limits
+    ensures { λ r. ⌜ r ≡ Extent.sideless ⌝ }
+{
+    let top = f64::from_bits(0x7ff0_0000_0000_0000);
+    Limits {
+        low: top,
+        high: -top,
+        right: -top,
+    }
+}
+
+// No limits.
+fn unlimited() -> Limits
+    ensures { λ r. ⌜ r ≡ Extent.unlimited ⌝ }
+{
+    let top = f64::from_bits(0x7ff0_0000_0000_0000);
+    Limits {
+        low: -top,
+        high: top,
+        right: top,
     }
 }
 
 // The narrowest limits about a polygon that has no NaN.
 fn narrowest(floats: &[f64], at: usize, n: usize) -> Limits
     requires { ⌜ (at + 2 * n ≤ length (now floats)) × (n ≤ 24) ⌝ }
+    ensures { λ r. ⌜ r ≡ Extent.narrowest (sides (pairsFrom (now (floats .entry)) at n)) ⌝ }
 {
-    let top = f64::from_bits(0x7ff0_0000_0000_0000);
-    let mut l = Limits {
-        low: top,
-        high: -top,
-        right: -top,
-    };
+    let mut l = sideless();
     let mut i = 0;
     while i < n {
-        let a = pair_at(floats, at + 2 * i);
-        let b = pair_at(floats, at + 2 * next_of(i, n));
-        l = widened(l, a, b);
+        let s = side_at(floats, at, n, i);
+        l = widened(l, s.from, s.to);
         i += 1;
     }
     l
@@ -139,16 +171,12 @@ fn narrowest(floats: &[f64], at: usize, n: usize) -> Limits
 // Limits of the polygon: the narrowest where every side is found to be within them, else none.
 pub fn limits_of(floats: &[f64], at: usize, n: usize) -> Limits
     requires { ⌜ (at + 2 * n ≤ length (now floats)) × (n ≤ 24) ⌝ }
-    ensures { λ r. ⌜ Extent.Outside (pairsFrom (now (floats .entry)) at n) r ⌝ }
+    ensures { λ r. ⌜ r ≡ Extent.limitsOf (pairsFrom (now (floats .entry)) at n) ⌝ }
 {
     let l = narrowest(floats, at, n);
     if has_sides(l, floats, at, n) {
-        return l;
-    }
-    let top = f64::from_bits(0x7ff0_0000_0000_0000);
-    Limits {
-        low: -top,
-        high: top,
-        right: top,
+        l
+    } else {
+        unlimited()
     }
 }

@@ -9,13 +9,19 @@ ghost use lib.ListN.{length};
 ghost use Rattle.arith.specs.Lists.{after};
 ghost use Rattle.arith.specs.Polygon as Polygon;
 ghost use Rattle.inside.specs.Contains as Contains;
-ghost use Rattle.inside.specs.Vertices.{pairFrom, pairsFrom};
+ghost use Rattle.inside.specs.Vertices.{pairFrom, pairsFrom, sideFrom};
 
 // A polygon contains no point below `low`, above `high` or to the right of `right`.
 pub struct Limits {
     pub low: f64,
     pub high: f64,
     pub right: f64,
+}
+
+// A side of a polygon: a vertex and the next one.
+pub struct Side {
+    pub from: Vec2,
+    pub to: Vec2,
 }
 
 // The point whose x and y stand at `at`.
@@ -71,12 +77,23 @@ fn crosses(q: Vec2, a: Vec2, b: Vec2) -> bool
 }
 
 // The number after i, of n in a round.
-pub fn next_of(i: usize, n: usize) -> usize
+fn next_of(i: usize, n: usize) -> usize
     requires { ⌜ i < n ⌝ }
     ensures { λ r. ⌜ (r ≡ after n i) × (r < n) ⌝ }
 {
     let j = i + 1;
     if j == n { 0 } else { j }
+}
+
+// Side i of the polygon of n vertices.
+fn side_at(floats: &[f64], at: usize, n: usize, i: usize) -> Side
+    requires { ⌜ (at + 2 * n ≤ length (now floats)) × (i < n) ⌝ }
+    ensures { λ r. ⌜ sideFrom (now (floats .entry)) at n i ≡ record { from = r .from; to = r .to } ⌝ }
+{
+    Side {
+        from: pair_at(floats, at + 2 * i),
+        to: pair_at(floats, at + 2 * next_of(i, n)),
+    }
 }
 
 // q lies on some side, or crosses an odd number of them.
@@ -90,12 +107,11 @@ pub fn point_in_polygon(q: Vec2, floats: &[f64], at: usize, n: usize) -> bool
     let mut inside = false;
     let mut i = 0;
     while i < n {
-        let a = pair_at(floats, at + 2 * i);
-        let b = pair_at(floats, at + 2 * next_of(i, n));
-        if on_edge(q, a, b) {
+        let s = side_at(floats, at, n, i);
+        if on_edge(q, s.from, s.to) {
             return true;
         }
-        if crosses(q, a, b) {
+        if crosses(q, s.from, s.to) {
             inside = !inside;
         }
         i += 1;

@@ -17,8 +17,8 @@ use Rattle.area.specs.Layout.{wordsEnd, floatsEnd, LentFloats}
 use Rattle.inside.specs.declared.Limits.{Limits}
 use Rattle.inside.specs.Vertices.{pairFrom, pairsFrom}
 use Rattle.inside.specs.Contains.{contains}
-use Rattle.inside.specs.Extent.{Outside, limitsFrom, misses}
-use Rattle.inside.proofs.LimitLaws.{missed}
+use Rattle.inside.specs.Extent.{Outside, limitsFrom, misses, limitsOf}
+use Rattle.inside.proofs.LimitLaws.{missed, limits-outside}
 use Rattle.polygons.specs.Layout.{wordsAt, floatsAt, countIn, polygonIn, polygonsIn, Kept, LimitStored, Limited}
 
 -- ---- a cell
@@ -69,11 +69,11 @@ module _ (s : Sizes) (w : List ℕ) (f : List Float) (i : ℕ) (l : Limits) (roo
       let a : getD stored (floatsAt s i + 48) nan ≡ l .low = subst (λ (m : ℕ). getD stored m nan ≡ l .low) z (at-limit 0 (omega arith)) in
       rw (a, at-limit 1 (omega arith), at-limit 2 (omega arith))
 
-  pub limit-stored : (at n : ℕ) (f′ : List Float) → at ≡ floatsAt s i → n ≡ countIn s w i → Outside (pairsFrom f at n) l → f′ ≡ puts f (at + 48) vs → LimitStored s w f f′ i
-  limit-stored at n f′ ea en o e =
+  pub limit-stored : (at n : ℕ) (f′ : List Float) → at ≡ floatsAt s i → n ≡ countIn s w i → l ≡ limitsOf (pairsFrom f at n) → f′ ≡ puts f (at + 48) vs → LimitStored s w f f′ i
+  limit-stored at n f′ ea en el e =
       rw (e, ea)
       (record {
-        here = rw (limits-here, polygon-kept i) (unfold polygonIn in (rw (ea, en) at o));
+        here = rw (limits-here, polygon-kept i, el) (unfold polygonIn in rw (ea, en) (limits-outside _));
         polygons = polygon-kept;
         others = limits-kept;
         mesh = sym (take-take (floatsEnd s) (floatsAt s i + 48) stored less) ∙ ap (take (floatsEnd s)) (take-puts f (floatsAt s i + 48) vs) ∙ take-take (floatsEnd s) (floatsAt s i + 48) f less;

@@ -5,13 +5,17 @@ use Rattle.inside.proofs.extent.has_crossing.Statement.{statement}
 use Rattle.inside.proofs.extent.has_crossing.Tie as tie
 use Rattle.inside.proofs.extent.has_crossing.Reads as reads
 use Rattle.inside.proofs.extent.has_crossing.Lts as lts
-use Rattle.inside.proofs.extent.run.Reads as run-reads
 use Rattle.arith.proofs.float.is_finite.Reads as is-finite-reads
 use Rattle.arith.proofs.float.max.Reads as max-reads
+use Rattle.inside.proofs.extent.is_level.Reads as is-level-reads
+use Rattle.inside.proofs.extent.run.Reads as run-reads
+
+is-level-requires : tie.Need-is-level-requires
+is-level-requires c κs = search needs
 
 returns : tie.Need-returns
 unfolding crossingWithin
-returns c = rw (c .if1 .taken)
+returns c = rw (sym (c .before .is-level .ensures) ∙ c .if1 .taken)
 
 run-requires : tie.Need-run-requires
 run-requires c κs = search needs
@@ -24,12 +28,20 @@ max-requires c κs = search needs
 
 returns-2 : tie.Need-returns-2
 unfolding crossingWithin
-returns-2 c = rw (c .before .before .before .before .before .if1 .left, ← c .before .before .before .before .run .ensures, sym (c .before .before .before .is-finite .ensures) ∙ c .before .before .if2 .taken, c .before .max .ensures)
+returns-2 c = rw (sym (c .before .before .before .before .before .before .is-level .ensures) ∙ c .before .before .before .before .before .if1 .left, ← c .before .before .before .before .run .ensures, sym (c .before .before .before .is-finite .ensures) ∙ c .before .before .if2 .taken, c .before .max .ensures)
 
 returns-3 : tie.Need-returns-3
 unfolding crossingWithin
-returns-3 c = rw (c .before .before .before .if1 .left, ← c .before .before .run .ensures, sym (c .before .is-finite .ensures) ∙ c .if2 .left)
+returns-3 c = rw (sym (c .before .before .before .before .is-level .ensures) ∙ c .before .before .before .if1 .left, ← c .before .before .run .ensures, sym (c .before .is-finite .ensures) ∙ c .if2 .left)
 
 pub has-crossing-spec : {M : Type 1} → statement M
 has-crossing-spec =
-    tie.close (tie.spec returns run-requires is-finite-requires max-requires returns-2 returns-3)
+    tie.close
+    (tie.spec
+    is-level-requires
+    returns
+    run-requires
+    is-finite-requires
+    max-requires
+    returns-2
+    returns-3)

@@ -1,0 +1,13 @@
+use mathlib.Core.Path.{refl}
+use Rattle.inside.specs.Extent.{isLevel}
+use Rattle.inside.proofs.extent.is_level.Statement.{statement}
+use Rattle.inside.proofs.extent.is_level.Tie as tie
+use Rattle.inside.proofs.extent.is_level.Reads as reads
+use Rattle.inside.proofs.extent.is_level.Lts as lts
+
+returns : tie.Need-returns
+unfolding isLevel
+returns c = refl
+
+pub is-level-spec : {M : Type 1} → statement M
+is-level-spec = tie.close (tie.spec returns)

@@ -1,0 +1,18 @@
+use mathlib.Core.Path.{refl}
+use lib.Ieee.{ofBits, neg, nanBits}
+use Rattle.inside.specs.Extent.{sideless}
+use Rattle.inside.proofs.extent.sideless.Statement.{statement}
+use Rattle.inside.proofs.extent.sideless.Tie as tie
+use Rattle.inside.proofs.extent.sideless.Reads as reads
+use Rattle.inside.proofs.extent.sideless.Lts as lts
+
+float-from-bits-top : tie.Need-float-from-bits-top
+unfolding nanBits
+float-from-bits-top c = tt
+
+returns : tie.Need-returns
+unfolding ofBits neg nanBits sideless
+returns c = refl
+
+pub sideless-spec : {M : Type 1} → statement M
+sideless-spec = tie.close (tie.spec float-from-bits-top returns)

@@ -1,0 +1,18 @@
+use mathlib.Core.Path.{refl}
+use lib.Ieee.{ofBits, neg, nanBits}
+use Rattle.inside.specs.Extent.{unlimited}
+use Rattle.inside.proofs.extent.unlimited.Statement.{statement}
+use Rattle.inside.proofs.extent.unlimited.Tie as tie
+use Rattle.inside.proofs.extent.unlimited.Reads as reads
+use Rattle.inside.proofs.extent.unlimited.Lts as lts
+
+float-from-bits-top : tie.Need-float-from-bits-top
+unfolding nanBits
+float-from-bits-top c = tt
+
+returns : tie.Need-returns
+unfolding ofBits neg nanBits unlimited
+returns c = refl
+
+pub unlimited-spec : {M : Type 1} → statement M
+unlimited-spec = tie.close (tie.spec float-from-bits-top returns)

@@ -1,0 +1,33 @@
+use Rattle.inside.specs.Extent.{widened}
+use borrow.Author.Needs.{needs}
+use Rattle.inside.proofs.extent.widened.Statement.{statement}
+use Rattle.inside.proofs.extent.widened.Tie as tie
+use Rattle.inside.proofs.extent.widened.Reads as reads
+use Rattle.inside.proofs.extent.widened.Lts as lts
+use Rattle.arith.proofs.float.max.Reads as max-reads
+use Rattle.arith.proofs.float.min.Reads as min-reads
+use Rattle.inside.proofs.extent.reach.Reads as reach-reads
+
+min-requires : tie.Need-min-requires
+min-requires c κs = search needs
+
+max-requires : tie.Need-max-requires
+max-requires c κs = search needs
+
+reach-requires : tie.Need-reach-requires
+reach-requires c κs = search needs
+
+max-requires-2 : tie.Need-max-requires-2
+max-requires-2 c κs = search needs
+
+max-requires-3 : tie.Need-max-requires-3
+max-requires-3 c κs = search needs
+
+returns : tie.Need-returns
+unfolding widened
+returns c = rw (c .max3 .ensures, c .before .max2 .ensures, c .before .before .reach .ensures, c .before .before .before .before .max .ensures, c .before .before .before .before .before .before .min .ensures)
+
+pub widened-spec : {M : Type 1} → statement M
+widened-spec =
+    tie.close
+    (tie.spec min-requires max-requires reach-requires max-requires-2 max-requires-3 returns)
