@@ -23,10 +23,10 @@ use Rattle.reading.proofs.ServedLaws.{going-start, going-part, going-end}
 use Rattle.reading.specs.Result as result
 use Rattle.reading.specs.Result.{Result, fine, refused, refuse}
 use Rattle.area.specs.declared.Sizes.{Sizes}
-use Rattle.polygons.specs.declared.Grid.{Grid}
-use Rattle.polygons.specs.Locate.{locate}
-use Rattle.polygons.specs.Field.{StreamlineField}
-use Rattle.polygons.specs.Layout.{cellPolygonsIn, fieldIn}
+use Rattle.locate.specs.declared.Grid.{Grid}
+use Rattle.locate.specs.Locate.{locate}
+use Rattle.locate.specs.Field.{StreamlineField}
+use Rattle.locate.specs.Layout.{cellPolygonsIn, fieldIn}
 use Rattle.velocity.proofs.VelocityLaws.{locate-in}
 use Rattle.rk4.specs.declared.StreamlineOptions.{StreamlineOptions}
 use Rattle.lines.specs.declared.Traced.{Traced}

@@ -18,7 +18,7 @@ use Rattle.reading.proofs.AsksLaws.{bind-assoc, bind-give, run-bind, reads-bind
 use Rattle.reading.proofs.ServedLaws.{going-start, going-part, going-end, served-then, served-give}
 use Rattle.writing.specs.Words.{vecWords, pointWords}
 use Rattle.writing.proofs.WordLaws.{sets-append, sets-set, length-vec, length-points}
-use Rattle.polygons.specs.Field.{StreamlineField}
+use Rattle.locate.specs.Field.{StreamlineField}
 use Rattle.rk4.specs.declared.Step.{Step}
 use Rattle.rk4.specs.declared.Step.the-variants.{Next, Ended}
 use Rattle.rk4.specs.declared.StreamlineOptions.{StreamlineOptions}

@@ -14,7 +14,7 @@ use Rattle.reading.specs.Asks.{Asks, give, _>>=_}
 use Rattle.reading.specs.Result as result
 use Rattle.reading.specs.Result.{Result, fine, refuse}
 use Rattle.writing.specs.Words.{pointWords}
-use Rattle.polygons.specs.Field.{StreamlineField}
+use Rattle.locate.specs.Field.{StreamlineField}
 use Rattle.velocity.specs.Velocity.{locateIn}
 use Rattle.rk4.specs.declared.Step.{Step}
 use Rattle.rk4.specs.declared.Step.the-variants.{Next, Ended}

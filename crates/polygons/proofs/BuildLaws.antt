@@ -17,16 +17,18 @@ use Rattle.area.specs.declared.Sizes.{Sizes}
 use Rattle.area.specs.Tables.{Mesh, cellAt}
 use Rattle.area.specs.Layout.{LentWords, LentFloats, wordsEnd, floatsEnd, meshWords, meshFloats, cellIn, cellsIn, meshIn}
 use Rattle.area.proofs.LayoutLaws.{cell-in, mesh-same, length-cellsIn}
-use Rattle.polygons.specs.declared.Box.{Box}
-use Rattle.polygons.specs.declared.Bin.{Bin}
-use Rattle.polygons.specs.declared.Grid.{Grid}
+use Rattle.locate.specs.declared.Box.{Box}
+use Rattle.locate.specs.declared.Bin.{Bin}
+use Rattle.locate.specs.declared.Grid.{Grid}
 use Rattle.polygons.specs.declared.Built.{Built}
 use Rattle.polygons.specs.declared.Built.the-variants.{Made, Refused}
 use Rattle.polygons.specs.Corners.{turnsAbout, cornersOf, polygonOf}
 use Rattle.polygons.specs.Bounds.{boundsOf}
-use Rattle.polygons.specs.Bins.{Binned, binCounts, listedIn}
+use Rattle.locate.specs.Bins.{Binned}
+use Rattle.polygons.specs.Bins.{binCounts, listedIn}
 use Rattle.polygons.specs.Field.{Few, polygonsOf, gridFor, gridOf, fieldOf, builtGrid}
-use Rattle.polygons.specs.Layout.{wordsAt, floatsAt, countIn, polygonIn, polygonsIn, cornerIn, cornersIn, cellPolygonsIn, fieldIn, Placed, Stored, Kept, Traceable, Searchable}
+use Rattle.locate.specs.Layout.{wordsAt, floatsAt, countIn, polygonIn, cellPolygonsIn, fieldIn, Searchable}
+use Rattle.polygons.specs.Layout.{polygonsIn, cornerIn, cornersIn, Placed, Stored, Kept, Traceable}
 use Rattle.inside.specs.Vertices.{pairFrom, pairsFrom}
 use Rattle.polygons.proofs.CornerLaws.{cell-corners-any}
 use Rattle.polygons.proofs.GridLaws.{map-tab}

@@ -19,7 +19,8 @@ use Rattle.area.specs.declared.Sizes.{Sizes}
 use Rattle.area.specs.Tables.{Mesh, Cell, pointAt, faceAt, cellAt}
 use Rattle.area.specs.Layout.{facesIn, cellsIn, meshIn, faceIn, cellIn}
 use Rattle.area.proofs.LayoutLaws.{face-in, face-out, cell-in, cell-out}
-use Rattle.polygons.specs.Corners.{alike, flat, addCorner, addCorners, cornersOf}
+use Rattle.locate.specs.Locate.{flat}
+use Rattle.polygons.specs.Corners.{alike, addCorner, addCorners, cornersOf}
 use Rattle.polygons.specs.Layout.{cornersIn}
 
 -- ---- the points collected so far

@@ -20,15 +20,17 @@ use Rattle.arith.proofs.SortLaws.{foldl-append}
 use Rattle.reading.specs.Result.{Result, refused, fine, refuse, _>>=_}
 use Rattle.area.specs.declared.Sizes.{Sizes}
 use Rattle.area.specs.Layout.{wordsEnd, floatsEnd}
-use Rattle.polygons.specs.declared.Box.{Box}
-use Rattle.polygons.specs.declared.Bin.{Bin}
-use Rattle.polygons.specs.declared.Grid.{Grid}
+use Rattle.locate.specs.declared.Box.{Box}
+use Rattle.locate.specs.declared.Bin.{Bin}
+use Rattle.locate.specs.declared.Grid.{Grid}
 use Rattle.polygons.specs.declared.Built.{Built}
 use Rattle.polygons.specs.declared.Built.the-variants.{Made, Refused}
 use Rattle.polygons.specs.Bounds.{boundless, widened, boundsOf, lowCorner, highCorner}
-use Rattle.polygons.specs.Bins.{CellPolygon, Binned, binFor, listedIn, areFlat, areMany}
+use Rattle.locate.specs.Bins.{CellPolygon, Binned, binFor}
+use Rattle.polygons.specs.Bins.{listedIn, areFlat, areMany}
 use Rattle.polygons.specs.Field.{gridFor, builtGrid}
-use Rattle.polygons.specs.Layout.{wordsAt, floatsAt, countIn, polygonIn, polygonsIn, binFrom, cellPolygonIn, cellPolygonsIn, Listed}
+use Rattle.locate.specs.Layout.{wordsAt, floatsAt, countIn, polygonIn, binFrom, cellPolygonIn, cellPolygonsIn}
+use Rattle.polygons.specs.Layout.{polygonsIn, Listed}
 use Rattle.inside.specs.Vertices.{pairFrom, pairsFrom}
 use Rattle.inside.proofs.Laws.{length-pairs, pairs-at}
 

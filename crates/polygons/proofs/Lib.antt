@@ -1,7 +1,6 @@
 pub mod LimitLaws
-pub mod LocateLaws
 pub mod GridLaws
-pub mod IndexLaws
+pub mod RangeLaws
 pub mod CornerLaws
 pub mod PolygonLaws
 pub mod BuildLaws

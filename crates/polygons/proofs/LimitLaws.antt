@@ -4,22 +4,21 @@ use native.Mathlib.Nat.{le-antisymm}
 use native.Mathlib.Omega.{arith}
 use mathlib.Core.Path.{_≡_, refl, sym, ap, _∙_, subst}
 use mathlib.Core.Logic.{_⊎_, inl, inr}
-use mathlib.Core.Bool.{Bool, true, false}
 use mathlib.Core.List.{List, [], _∷_}
 use lib.ListN.{length, getD, take}
 use lib.Seq.{take-take}
 use lib.Ieee.{Float, nan}
-use Rattle.arith.specs.Records.{tab, puts}
+use Rattle.arith.specs.Records.{puts}
 use Rattle.arith.specs.declared.Vec2.{Vec2}
-use Rattle.arith.proofs.RecordLaws.{lt-or-ge, tab-same, getD-puts-out, getD-puts-at, take-puts, length-puts}
+use Rattle.arith.proofs.RecordLaws.{lt-or-ge, tab-same, getD-puts-out, getD-puts-at, take-puts}
 use Rattle.area.specs.declared.Sizes.{Sizes}
-use Rattle.area.specs.Layout.{wordsEnd, floatsEnd, LentFloats}
+use Rattle.area.specs.Layout.{floatsEnd}
 use Rattle.inside.specs.declared.Limits.{Limits}
 use Rattle.inside.specs.Vertices.{pairFrom, pairsFrom}
-use Rattle.inside.specs.Contains.{contains}
-use Rattle.inside.specs.Extent.{Outside, limitsFrom, misses, limitsOf}
-use Rattle.inside.proofs.LimitLaws.{missed, limits-outside}
-use Rattle.polygons.specs.Layout.{wordsAt, floatsAt, countIn, polygonIn, polygonsIn, Kept, LimitStored, Limited}
+use Rattle.inside.specs.Extent.{Outside, limitsFrom, limitsOf}
+use Rattle.inside.proofs.LimitLaws.{limits-outside}
+use Rattle.locate.specs.Layout.{wordsAt, floatsAt, countIn, polygonIn, Limited}
+use Rattle.polygons.specs.Layout.{polygonsIn, Kept, LimitStored}
 
 -- ---- a cell
 
@@ -124,10 +123,3 @@ cells-put s w₀ w f₀ f f′ p k e t l = (e ∙ p, record { words = k .words; 
 -- other words that have the same polygons
 pub limited-words : (s : Sizes) (w w′ : List ℕ) (f : List Float) → ((i : ℕ) → i < s .cells → polygonIn s w′ f i ≡ polygonIn s w f i) → Limited s w f → Limited s w′ f
 limited-words s w w′ f same l = record { each = λ i h. rw (same i h) (l .each i h) }
-
--- ---- a point that misses them
-
-pub missed-cell : (s : Sizes) (w : List ℕ) (f : List Float) (i at : ℕ) (l : Limits) (q : Vec2) (t : Bool) → Limited s w f → i < s .cells → at ≡ floatsAt s i → l ≡ limitsFrom f (at + 48)
-    → t ≡ misses l q → t ≡ true → false ≡ contains q (polygonIn s w f i)
-missed-cell s w f i at l q t lim h ea el et e =
-    sym (missed (polygonIn s w f i) l q (rw (el, ea) (lim .each i h)) t et e)

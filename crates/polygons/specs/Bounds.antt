@@ -4,7 +4,7 @@ use Rattle.arith.specs.F64.{+∞, -∞, fmin, fmax}
 use Rattle.arith.specs.Lists.{foldl}
 use Rattle.arith.specs.Vec.{pair}
 use Rattle.arith.specs.declared.Vec2.{Vec2}
-use Rattle.polygons.specs.declared.Box.{Box}
+use Rattle.locate.specs.declared.Box.{Box}
 
 -- no point yet
 unfoldable pub boundless : Box

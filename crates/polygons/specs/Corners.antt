@@ -9,14 +9,11 @@ use Rattle.arith.specs.Angle.{turnsBefore}
 use Rattle.arith.specs.declared.Vec3.{Vec3}
 use Rattle.arith.specs.declared.Vec2.{Vec2}
 use Rattle.area.specs.Tables.{Mesh, Cell, pointAt, faceAt}
+use Rattle.locate.specs.Locate.{flat}
 
 -- `polygon.contains`: by float equality
 unfoldable pub alike : Vec2 → Vec2 → Bool
 alike p q = (p .x ≈ q .x) && (p .y ≈ q .y)
-
--- a point without its height
-unfoldable pub flat : Vec3 → Vec2
-flat p = pair (p .x) (p .y)
 
 -- a point, unless the polygon has it
 unfoldable pub addCorner : Mesh → List Vec2 → ℕ → List Vec2

@@ -1,26 +1,20 @@
 -- `StreamlineField::from_dataset`, with the refusals 18 and 19.
 use Prim.Native.Nat.{ℕ, _≤_}
-use mathlib.Core.Path.{_≡_}
 use mathlib.Core.List.{List, map}
 use lib.ListN.{length}
 use Rattle.arith.specs.Lists.{concat}
 use Rattle.arith.specs.declared.Vec2.{Vec2}
 use Rattle.reading.specs.Result.{Result, refused, fine, refuse, _>>=_}
-use Rattle.area.specs.Tables.{Mesh, Cell, cellAt}
-use Rattle.polygons.specs.declared.Box.{Box}
-use Rattle.polygons.specs.declared.Bin.{Bin}
-use Rattle.polygons.specs.declared.Grid.{Grid}
+use Rattle.area.specs.Tables.{Mesh, cellAt}
+use Rattle.locate.specs.declared.Box.{Box}
+use Rattle.locate.specs.declared.Bin.{Bin}
+use Rattle.locate.specs.declared.Grid.{Grid}
 use Rattle.polygons.specs.declared.Built.{Built}
 use Rattle.polygons.specs.declared.Built.the-variants.{Made, Refused}
 use Rattle.polygons.specs.Corners.{cornersOf, polygonOf}
 use Rattle.polygons.specs.Bounds.{boundsOf}
-use Rattle.polygons.specs.Bins.{CellPolygon, listedIn, binCounts, areFlat, areMany}
-
--- the polygons with their bins, the cells with their centres and neighbours, the bounds and the bin counts
-pub record StreamlineField : Type 0 where
-  pub polygons : List CellPolygon
-  pub cells : List Cell
-  pub grid : Grid
+use Rattle.locate.specs.Field.{StreamlineField}
+use Rattle.polygons.specs.Bins.{listedIn, binCounts, areFlat, areMany}
 
 -- the polygons of all cells
 unfoldable pub polygonsOf : Mesh → List (List Vec2)

@@ -1,6 +1,5 @@
 pub mod Corners
 pub mod Bounds
 pub mod Bins
-pub mod Locate
 pub mod Field
 pub mod Layout

@@ -1,13 +1,12 @@
 // The bin counts of a grid, with the refusals 18 and 19, and the bins of each cell.
-use crate::Bin;
-use crate::Box;
 use crate::Built;
-use crate::Grid;
 use crate::bounds;
-use crate::locate;
 use area::Sizes;
 use arith::Vec2;
 use arith::float;
+use locate::Bin;
+use locate::Box;
+use locate::Grid;
 ghost use mathlib.Core.Path.{_≡_};
 ghost use mathlib.Core.List.{[], _∷_, map};
 ghost use Prim.Native.Nat.{_+_, _*_, _<_, _≤_, max};
@@ -17,10 +16,11 @@ ghost use lib.ListN.{length, take};
 ghost use Rattle.arith.specs.Records.{puts};
 ghost use Rattle.area.specs.Layout.{wordsEnd, LentWords, LentFloats};
 ghost use Rattle.polygons.specs.Bins as Bins;
-ghost use Rattle.polygons.specs.Bins.{Binned, listedIn, Counted};
+ghost use Rattle.locate.specs.Bins.{Binned};
+ghost use Rattle.polygons.specs.Bins.{listedIn, Counted};
 ghost use Rattle.polygons.specs.Field.{gridFor, builtGrid};
-ghost use Rattle.polygons.specs.Layout as Layout;
-ghost use Rattle.polygons.specs.Layout.{Listed};
+ghost use Rattle.locate.specs.Layout.{cellPolygonsIn, Limited, Searchable};
+ghost use Rattle.polygons.specs.Layout.{polygonsIn, Listed};
 
 // At least 1.
 fn at_least_one(n: usize) -> usize
@@ -129,7 +129,7 @@ fn list_cell(words: &mut [u32], floats: &[f64], s: Sizes, g: Grid, i: usize)
 // Lists every cell.
 fn list_cells(words: &mut [u32], floats: &[f64], s: Sizes, g: Grid)
     requires { ⌜ LentWords s (now words) × LentFloats s (now floats) × Binned g ⌝ }
-    ensures { λ _. ⌜ (Layout.cellPolygonsIn s (now (words .exit)) (now (floats .entry)) ≡ map (listedIn g) (Layout.polygonsIn s (now (words .entry)) (now (floats .entry))))
+    ensures { λ _. ⌜ (cellPolygonsIn s (now (words .exit)) (now (floats .entry)) ≡ map (listedIn g) (polygonsIn s (now (words .entry)) (now (floats .entry))))
         × (take (wordsEnd s) (now (words .exit)) ≡ take (wordsEnd s) (now (words .entry))) ⌝ }
 {
     let mut i = 0;
@@ -141,10 +141,10 @@ fn list_cells(words: &mut [u32], floats: &[f64], s: Sizes, g: Grid)
 
 // Lists every cell, and builds the index of the bins.
 pub fn index_cells(words: &mut [u32], floats: &[f64], s: Sizes, g: Grid)
-    requires { ⌜ LentWords s (now words) × LentFloats s (now floats) × Binned g × Layout.Limited s (now words) (now floats) ⌝ }
-    ensures { λ _. ⌜ (Layout.cellPolygonsIn s (now (words .exit)) (now (floats .entry)) ≡ map (listedIn g) (Layout.polygonsIn s (now (words .entry)) (now (floats .entry))))
+    requires { ⌜ LentWords s (now words) × LentFloats s (now floats) × Binned g × Limited s (now words) (now floats) ⌝ }
+    ensures { λ _. ⌜ (cellPolygonsIn s (now (words .exit)) (now (floats .entry)) ≡ map (listedIn g) (polygonsIn s (now (words .entry)) (now (floats .entry))))
         × (take (wordsEnd s) (now (words .exit)) ≡ take (wordsEnd s) (now (words .entry)))
-        × Layout.Searchable g s (now (words .exit)) (now (floats .entry)) ⌝ }
+        × Searchable g s (now (words .exit)) (now (floats .entry)) ⌝ }
 {
     list_cells(words, floats, s, g);
     if s.cells > 0 {

@@ -1,9 +1,8 @@
 // Bounds of points that stand in the area.
-use crate::Box;
-use crate::locate;
 use area::Sizes;
 use arith::Vec2;
 use arith::float;
+use locate::Box;
 ghost use mathlib.Core.Path.{_≡_};
 ghost use Prim.Native.Nat.{_+_, _*_, _<_, _≤_};
 ghost use lib.ListN.{length};

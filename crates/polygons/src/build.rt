@@ -3,7 +3,6 @@ use crate::Built;
 use crate::bins;
 use crate::bounds;
 use crate::corners;
-use crate::locate;
 use area::Sizes;
 use arith::Vec2;
 use arith::Vec3;
@@ -12,7 +11,7 @@ use arith::sort;
 use inside::Limits;
 use inside::extent;
 ghost use mathlib.Core.Path.{_≡_};
-ghost use mathlib.Core.List.{List, map, [], _∷_};
+ghost use mathlib.Core.List.{map, [], _∷_};
 ghost use Prim.Native.Nat.{ℕ, _+_, _*_, _<_, _≤_};
 ghost use lib.ListN.{length, take, getD};
 ghost use Rattle.arith.specs.Lists as Lists;
@@ -21,9 +20,9 @@ ghost use Rattle.area.specs.Tables.{cellAt};
 ghost use Rattle.area.specs.Layout.{floatsEnd, LentWords, LentFloats, pointsIn, meshIn, cellsIn};
 ghost use Rattle.polygons.specs.Corners.{turnsAbout, cornersOf, polygonOf};
 ghost use Rattle.polygons.specs.Field.{Few, polygonsOf};
-ghost use Rattle.polygons.specs.Layout as Layout;
 ghost use Rattle.inside.specs.Vertices.{pairsFrom};
-ghost use Rattle.polygons.specs.Layout.{cornerIn, cornersIn, polygonsIn, AnglesAbout, Placed, Stored, Kept, LimitStored, Limited, Traceable};
+ghost use Rattle.locate.specs.Layout.{Limited};
+ghost use Rattle.polygons.specs.Layout.{cornerIn, cornersIn, polygonsIn, AnglesAbout, Placed, Stored, Kept, LimitStored, Traceable};
 
 // The quarters and slopes of the first n points about a centre.
 fn angles_about(

@@ -2,7 +2,7 @@
 use area::Sizes;
 use arith::Vec2;
 ghost use mathlib.Core.Path.{_≡_};
-ghost use mathlib.Core.List.{List, []};
+ghost use mathlib.Core.List.{[]};
 ghost use Prim.Native.Nat.{_+_, _*_, _<_, _≤_};
 ghost use lib.ListN.{length};
 ghost use Rattle.arith.specs.Lists.{any, addNew};
@@ -10,7 +10,8 @@ ghost use Rattle.arith.specs.Vec.{pair};
 ghost use Rattle.area.specs.Tables.{cellAt};
 ghost use Rattle.area.specs.Layout.{LentWords, pointsIn, cellsIn, meshIn};
 ghost use Rattle.polygons.specs.Corners as Corners;
-ghost use Rattle.polygons.specs.Corners.{flat, addCorners, cornersOf};
+ghost use Rattle.locate.specs.Locate.{flat};
+ghost use Rattle.polygons.specs.Corners.{addCorners, cornersOf};
 ghost use Rattle.polygons.specs.Layout.{cornersIn};
 ghost use Rattle.area.specs.Tables.{pointAt};
 

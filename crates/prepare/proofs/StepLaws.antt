@@ -29,11 +29,12 @@ use Rattle.mesh.specs.Steps.{Buildable}
 use Rattle.mesh.specs.declared.Built.{Built}
 use Rattle.mesh.specs.declared.Built.the-variants as Built
 use Rattle.mesh.proofs.Laws.{Surveys, survey-right}
-use Rattle.polygons.specs.declared.Grid.{Grid}
+use Rattle.locate.specs.declared.Grid.{Grid}
 use Rattle.polygons.specs.declared.Built as polygons
 use Rattle.polygons.specs.declared.Built.the-variants as Traced
 use Rattle.polygons.specs.Field.{polygonsOf, gridOf, fieldOf, builtGrid}
-use Rattle.polygons.specs.Layout.{fieldIn, Traceable}
+use Rattle.locate.specs.Layout.{fieldIn}
+use Rattle.polygons.specs.Layout.{Traceable}
 use Rattle.polygons.proofs.BuildLaws.{lent-words, lent-floats}
 use Rattle.cutting_plane.specs.Work.{bare}
 use Rattle.sections.proofs.PieceLaws.{same-bounds}

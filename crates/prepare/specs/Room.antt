@@ -6,7 +6,8 @@ use lib.Dec.{ltb, eqb}
 use Rattle.reading.specs.Result.{Result, fine, _>>=_, refuse}
 use Rattle.area.specs.Tables.{Mesh}
 use Rattle.mesh.specs.Case.{Surveyed-case, surveyOf, areaShort, meshOf}
-use Rattle.polygons.specs.Field.{StreamlineField, fieldOf}
+use Rattle.locate.specs.Field.{StreamlineField}
+use Rattle.polygons.specs.Field.{fieldOf}
 
 -- a 2D room is its field, a 3D room its mesh
 pub data Room : Type 0 where

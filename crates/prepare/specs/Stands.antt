@@ -9,7 +9,7 @@ use Rattle.casefile.specs.declared.Counts.{Counts}
 use Rattle.casefile.specs.declared.Opened.the-variants.{Case}
 use Rattle.casefile.specs.Trailer.{opened}
 use Rattle.area.specs.Layout.{pointsIn, meshIn}
-use Rattle.polygons.specs.Layout.{fieldIn}
+use Rattle.locate.specs.Layout.{fieldIn}
 use Rattle.velocity.specs.Ready as Tracer
 use Rattle.samples.specs.Stream as Planes
 use Rattle.prepare.specs.Room.{Room, flat, solid, Lent}

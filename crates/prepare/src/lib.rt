@@ -1,8 +1,8 @@
 // The room of a case: its mesh in the work area and, in 2D, its field. Refusals 1 to 19.
 use area::Sizes;
 use casefile::Counts;
+use locate::Grid;
 use mesh::Surveyed;
-use polygons::Grid;
 use polygons::build;
 ghost use Prim.Native.Nat.{_≤_};
 ghost use mathlib.Core.Path.{_≡_};

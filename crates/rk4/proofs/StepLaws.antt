@@ -14,10 +14,10 @@ use Rattle.reading.specs.Asks.{Asks, give, _>>=_}
 use Rattle.reading.specs.Served.{Served}
 use Rattle.reading.proofs.ServedLaws.{served-give, served-then}
 use Rattle.area.specs.declared.Sizes.{Sizes}
-use Rattle.polygons.specs.declared.Grid.{Grid}
-use Rattle.polygons.specs.Locate.{locate}
-use Rattle.polygons.specs.Field.{StreamlineField}
-use Rattle.polygons.specs.Layout.{cellPolygonsIn, fieldIn}
+use Rattle.locate.specs.declared.Grid.{Grid}
+use Rattle.locate.specs.Locate.{locate}
+use Rattle.locate.specs.Field.{StreamlineField}
+use Rattle.locate.specs.Layout.{cellPolygonsIn, fieldIn}
 use Rattle.velocity.specs.declared.Vector.{Vector}
 use Rattle.velocity.specs.declared.Vector.the-variants.{Here, Nowhere}
 use Rattle.velocity.specs.Velocity.{locateIn, from, directionAt}

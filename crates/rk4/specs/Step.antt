@@ -7,7 +7,7 @@ use Rattle.arith.specs.declared.Vec3.{Vec3}
 use Rattle.arith.specs.declared.Found.{Found}
 use Rattle.arith.specs.declared.Found.the-variants.{At, Nothing}
 use Rattle.reading.specs.Asks.{Asks, give, _>>=_}
-use Rattle.polygons.specs.Field.{StreamlineField}
+use Rattle.locate.specs.Field.{StreamlineField}
 use Rattle.velocity.specs.declared.Vector.{Vector}
 use Rattle.velocity.specs.declared.Vector.the-variants.{Here, Nowhere}
 use Rattle.velocity.specs.Velocity.{locateIn, from, directionAt}

@@ -20,10 +20,10 @@ use Rattle.reading.proofs.AsksLaws.{run-bind, reads-bind}
 use Rattle.area.specs.Tables.{Mesh}
 use Rattle.area.specs.Layout.{pointsIn, meshIn}
 use Rattle.area.specs.declared.Sizes.{Sizes}
-use Rattle.polygons.specs.declared.Grid.{Grid}
-use Rattle.polygons.specs.Field.{StreamlineField}
-use Rattle.polygons.specs.Locate.{locate}
-use Rattle.polygons.specs.Layout.{cellPolygonsIn, fieldIn}
+use Rattle.locate.specs.declared.Grid.{Grid}
+use Rattle.locate.specs.Field.{StreamlineField}
+use Rattle.locate.specs.Locate.{locate}
+use Rattle.locate.specs.Layout.{cellPolygonsIn, fieldIn}
 use Rattle.casefile.specs.declared.Counts.{Counts}
 use Rattle.cutting_plane.specs.declared.Plane.{Plane}
 use Rattle.sections.specs.Intersect.{intersect}

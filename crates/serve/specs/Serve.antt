@@ -6,7 +6,7 @@ use Rattle.arith.specs.declared.Found.the-variants.{At, Nothing}
 use Rattle.reading.specs.Result.{Result, refused, fine}
 use Rattle.reading.specs.Asks.{Asks, give, _>>=_}
 use Rattle.area.specs.Tables.{Mesh}
-use Rattle.polygons.specs.Field.{StreamlineField}
+use Rattle.locate.specs.Field.{StreamlineField}
 use Rattle.velocity.specs.declared.Vector.{Vector}
 use Rattle.velocity.specs.declared.Vector.the-variants.{Here, Nowhere}
 use Rattle.velocity.specs.Velocity.{locateIn, velocityAt}

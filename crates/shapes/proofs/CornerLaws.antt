@@ -23,7 +23,8 @@ use Rattle.reading.specs.Result.{fine}
 use Rattle.casefile.specs.Faces.{Definition, polygon, solid, polyhedron, ends, facesOf}
 use Rattle.collect.specs.Collect.{wrongKind}
 use Rattle.cells.specs.Cells.{Draft, Drafts, drafts}
-use Rattle.polygons.specs.Corners.{alike, flat, addCorner, addCorners, cornersOf}
+use Rattle.locate.specs.Locate.{flat}
+use Rattle.polygons.specs.Corners.{alike, addCorner, addCorners, cornersOf}
 use Rattle.polygons.specs.Field.{Few}
 use Rattle.shapes.specs.Shapes.{keyIn, Naming, Named, Over}
 use Rattle.shapes.proofs.TableLaws.{all-at, AllFaces}

@@ -8,8 +8,8 @@ use Rattle.casefile.specs.declared.Opened.the-variants.{Case}
 use Rattle.casefile.specs.Trailer.{opened}
 use Rattle.area.specs.declared.Sizes.{Sizes}
 use Rattle.area.specs.Layout.{LentWords, LentFloats}
-use Rattle.polygons.specs.declared.Grid.{Grid}
-use Rattle.polygons.specs.Layout.{Searchable}
+use Rattle.locate.specs.declared.Grid.{Grid}
+use Rattle.locate.specs.Layout.{Searchable}
 
 -- a case that opens, an area of the right sizes, and a grid whose bins can be searched
 pub record Ready (case : List ℕ) (n : Counts) (words : List ℕ) (floats : List Float) (s : Sizes) (g : Grid) : Type 0 where

@@ -12,8 +12,8 @@ use Rattle.arith.specs.declared.Found.{Found}
 use Rattle.arith.specs.declared.Found.the-variants.{At, Nothing}
 use Rattle.reading.specs.Asks.{Asks, give, ask, _>>=_}
 use Rattle.area.specs.Tables.{cellAt}
-use Rattle.polygons.specs.Locate.{locate}
-use Rattle.polygons.specs.Field.{StreamlineField}
+use Rattle.locate.specs.Locate.{locate}
+use Rattle.locate.specs.Field.{StreamlineField}
 use Rattle.velocity.specs.declared.Vector.{Vector}
 use Rattle.velocity.specs.declared.Vector.the-variants.{Here, Nowhere}
 

@@ -6,8 +6,7 @@ use arith::Found;
 use arith::Vec3;
 use arith::float;
 use casefile::Counts;
-use polygons::Grid;
-use polygons::locate;
+use locate::Grid;
 use reading::Values;
 ghost use mathlib.Core.Path.{_≡_};
 ghost use mathlib.Core.List.{List};
@@ -21,7 +20,7 @@ ghost use Rattle.casefile.specs.declared.Opened.the-variants.{Case};
 ghost use Rattle.casefile.specs.Trailer.{opened};
 ghost use Rattle.casefile.specs.Field.{valuesOf};
 ghost use Rattle.area.specs.Layout.{LentWords, LentFloats};
-ghost use Rattle.polygons.specs.Layout.{fieldIn};
+ghost use Rattle.locate.specs.Layout.{fieldIn};
 ghost use Rattle.velocity.specs.Velocity as Velocity;
 ghost use Rattle.velocity.specs.Ready.{Ready};
 

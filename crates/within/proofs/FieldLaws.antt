@@ -9,7 +9,8 @@ use Rattle.reading.proofs.ResultLaws.{bound}
 use Rattle.area.specs.Tables.{Mesh}
 use Rattle.polygons.specs.Corners.{polygonOf}
 use Rattle.polygons.specs.Bins.{listedIn}
-use Rattle.polygons.specs.Field.{StreamlineField, polygonsOf, fieldOf}
+use Rattle.locate.specs.Field.{StreamlineField}
+use Rattle.polygons.specs.Field.{polygonsOf, fieldOf}
 use Rattle.velocity.specs.Velocity.{neighboursOf}
 use Rattle.within.specs.Within.{Numbers, Sound, FieldFrom}
 

@@ -16,7 +16,8 @@ use Rattle.casefile.specs.declared.Opened.the-variants.{Case, Refused}
 use Rattle.casefile.specs.Trailer.{countsOf, opened, openedCase}
 use Rattle.casefile.proofs.TrailerLaws.{opens}
 use Rattle.casefile.proofs.Walking.{length-definitions}
-use Rattle.polygons.specs.Field.{StreamlineField, fieldOf}
+use Rattle.locate.specs.Field.{StreamlineField}
+use Rattle.polygons.specs.Field.{fieldOf}
 use Rattle.mesh.specs.Case.{Surveyed-case, surveyOf, meshOf}
 use Rattle.requests.specs.declared.Request.{Request}
 use Rattle.requests.specs.declared.Request.the-variants as requests

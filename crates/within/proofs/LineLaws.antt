@@ -17,8 +17,8 @@ use Rattle.reading.specs.Asks.{Asks, _>>=_}
 use Rattle.reading.specs.Result as result
 use Rattle.reading.specs.Result.{refused, fine, refuse}
 use Rattle.reading.proofs.Within.{Within, given, asked, within-bind}
-use Rattle.polygons.specs.Locate.{locateWhere, locate}
-use Rattle.polygons.specs.Field.{StreamlineField}
+use Rattle.locate.specs.Locate.{locateWhere, locate}
+use Rattle.locate.specs.Field.{StreamlineField}
 use Rattle.velocity.specs.declared.Vector.{Vector}
 use Rattle.velocity.specs.declared.Vector.the-variants.{Here, Nowhere}
 use Rattle.velocity.specs.Velocity.{locateIn, neighboursOf, distance, nearerOf, beside, toward, velocityIn, velocityWhere, velocityAt, from, directionAt}

@@ -6,7 +6,7 @@ use Rattle.arith.specs.declared.Found.{Found}
 use Rattle.arith.specs.declared.Found.the-variants.{At, Nothing}
 use Rattle.arith.proofs.All.{All}
 use Rattle.area.specs.Tables.{Face, Mesh, cellAt}
-use Rattle.polygons.specs.Field.{StreamlineField}
+use Rattle.locate.specs.Field.{StreamlineField}
 use Rattle.velocity.specs.Velocity.{neighboursOf}
 use Rattle.prepare.specs.Room.{Room, flat, solid}
 

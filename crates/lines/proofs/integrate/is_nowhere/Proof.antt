@@ -4,7 +4,7 @@ use Rattle.lines.proofs.integrate.is_nowhere.Statement.{statement}
 use Rattle.lines.proofs.integrate.is_nowhere.Tie as tie
 use Rattle.lines.proofs.integrate.is_nowhere.Reads as reads
 use Rattle.lines.proofs.integrate.is_nowhere.Lts as lts
-use Rattle.polygons.proofs.locate.locate_cell.Reads as locate-cell-reads
+use Rattle.locate.proofs.locate_cell.Reads as locate-cell-reads
 
 -- src/integrate.rt:56:11
 locate-cell-requires : tie.Need-locate-cell-requires

@@ -2,7 +2,7 @@ use Rattle.lines.proofs.LineLaws.{left, begun, turned, ended, finished,
 use Rattle.writing.specs.Words.{pointWords}
 use Rattle.writing.proofs.WordLaws.{points-more}
 use Rattle.lines.specs.Line.{lineFrom}
-use Rattle.polygons.specs.Layout.{fieldIn}
+use Rattle.locate.specs.Layout.{fieldIn}
 use Rattle.casefile.specs.Field.{valuesOf}
 use Rattle.reading.specs.Served.{Going}
 use Rattle.arith.specs.declared.Vec3.{Vec3}

@@ -1,6 +1,6 @@
 use Rattle.lines.proofs.JobLaws.{left, lines-begun, lines-turned, lines-ended, lines-written, written-words, words-more}
 use Rattle.lines.specs.Rake.{seeds, linesWords}
-use Rattle.polygons.specs.Layout.{fieldIn}
+use Rattle.locate.specs.Layout.{fieldIn}
 use Rattle.casefile.specs.Field.{valuesOf}
 use Rattle.reading.specs.Served.{Going}
 use lib.Seq.{sets}

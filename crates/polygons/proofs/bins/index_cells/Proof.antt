@@ -1,5 +1,5 @@
 use Rattle.polygons.proofs.BuildLaws.{lent-words}
-use Rattle.polygons.proofs.IndexLaws.{ranged, indexed-cells, none-indexed, bins-count}
+use Rattle.polygons.proofs.RangeLaws.{ranged, indexed-cells, none-indexed, bins-count}
 use borrow.Author.Needs.{needs}
 use Rattle.polygons.proofs.bins.index_cells.Statement.{statement}
 use Rattle.polygons.proofs.bins.index_cells.Tie as tie

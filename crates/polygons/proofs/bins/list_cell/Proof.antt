@@ -8,10 +8,10 @@ use Rattle.polygons.proofs.bins.list_cell.Lts as lts
 use Rattle.polygons.proofs.bins.put_bins.Reads as put-bins-reads
 use Rattle.polygons.proofs.bounds.boundless.Reads as boundless-reads
 use Rattle.polygons.proofs.bounds.widened_by.Reads as widened-by-reads
-use Rattle.polygons.proofs.locate.bin_for.Reads as bin-for-reads
-use Rattle.polygons.proofs.locate.count_in.Reads as count-in-reads
-use Rattle.polygons.proofs.locate.floats_at.Reads as floats-at-reads
-use Rattle.polygons.proofs.locate.words_at.Reads as words-at-reads
+use Rattle.locate.proofs.bin_for.Reads as bin-for-reads
+use Rattle.locate.proofs.count_in.Reads as count-in-reads
+use Rattle.locate.proofs.floats_at.Reads as floats-at-reads
+use Rattle.locate.proofs.words_at.Reads as words-at-reads
 
 -- src/bins.rt:116:9
 count-in-requires : tie.Need-count-in-requires

@@ -5,8 +5,8 @@ use Rattle.polygons.proofs.build.limit_cell.Statement.{statement}
 use Rattle.polygons.proofs.build.limit_cell.Tie as tie
 use Rattle.polygons.proofs.build.limit_cell.Reads as reads
 use Rattle.polygons.proofs.build.limit_cell.Lts as lts
-use Rattle.polygons.proofs.locate.floats_at.Reads as floats-at-reads
-use Rattle.polygons.proofs.locate.count_in.Reads as count-in-reads
+use Rattle.locate.proofs.floats_at.Reads as floats-at-reads
+use Rattle.locate.proofs.count_in.Reads as count-in-reads
 use Rattle.polygons.proofs.build.put_limits.Reads as put-limits-reads
 use Rattle.inside.proofs.extent.limits_of.Reads as limits-of-reads
 

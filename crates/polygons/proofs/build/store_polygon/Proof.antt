@@ -6,8 +6,8 @@ use Rattle.polygons.proofs.build.store_polygon.Tie as tie
 use Rattle.polygons.proofs.build.store_polygon.Reads as reads
 use Rattle.polygons.proofs.build.store_polygon.Lts as lts
 use Rattle.polygons.proofs.build.store_corners.Reads as store-corners-reads
-use Rattle.polygons.proofs.locate.floats_at.Reads as floats-at-reads
-use Rattle.polygons.proofs.locate.words_at.Reads as words-at-reads
+use Rattle.locate.proofs.floats_at.Reads as floats-at-reads
+use Rattle.locate.proofs.words_at.Reads as words-at-reads
 
 -- src/build.rt:84:27
 floats-at-requires : tie.Need-floats-at-requires

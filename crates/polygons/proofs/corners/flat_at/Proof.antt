@@ -1,4 +1,4 @@
-use Rattle.polygons.specs.Corners.{flat}
+use Rattle.locate.specs.Locate.{flat}
 use borrow.Author.Needs.{needs}
 use Rattle.polygons.proofs.corners.flat_at.Statement.{statement}
 use Rattle.polygons.proofs.corners.flat_at.Tie as tie

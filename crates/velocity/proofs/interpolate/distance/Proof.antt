@@ -1,4 +1,4 @@
-use Rattle.polygons.specs.Layout.{fieldIn}
+use Rattle.locate.specs.Layout.{fieldIn}
 use Rattle.velocity.specs.Velocity.{distance, centreOf}
 use borrow.Author.Needs.{needs}
 use Rattle.velocity.proofs.interpolate.distance.Statement.{statement}

@@ -1,7 +1,7 @@
 use Rattle.velocity.proofs.VelocityLaws.{nearest-turn, nearest-end, neighbours-in}
 use Rattle.velocity.specs.Velocity.{distance, nearerOf, neighboursOf}
-use Rattle.polygons.specs.Layout.{fieldIn}
-use Rattle.polygons.specs.declared.Grid.{Grid}
+use Rattle.locate.specs.Layout.{fieldIn}
+use Rattle.locate.specs.declared.Grid.{Grid}
 use Rattle.arith.specs.Lists.{foldl}
 use lib.ListN.{getD, drop}
 use mathlib.Core.Path.{_≡_, refl}

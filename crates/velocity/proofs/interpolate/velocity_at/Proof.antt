@@ -5,7 +5,7 @@ use Rattle.velocity.proofs.interpolate.velocity_at.Tie as tie
 use Rattle.velocity.proofs.interpolate.velocity_at.Reads as reads
 use Rattle.velocity.proofs.interpolate.velocity_at.Lts as lts
 use Rattle.velocity.proofs.interpolate.velocity_in.Reads as velocity-in-reads
-use Rattle.polygons.proofs.locate.locate_cell.Reads as locate-cell-reads
+use Rattle.locate.proofs.locate_cell.Reads as locate-cell-reads
 
 -- src/interpolate.rt:142:24
 locate-cell-requires : tie.Need-locate-cell-requires

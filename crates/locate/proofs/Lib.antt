@@ -1,0 +1,2 @@
+pub mod LocateLaws
+pub mod IndexLaws

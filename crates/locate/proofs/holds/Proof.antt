@@ -1,0 +1,27 @@
+use mathlib.Core.Path.{sym, _∙_}
+use Rattle.locate.specs.Locate.{holds}
+use Rattle.locate.specs.Layout.{cellPolygonIn}
+use borrow.Author.Needs.{needs}
+use Rattle.locate.proofs.holds.Statement.{statement}
+use Rattle.locate.proofs.holds.Tie as tie
+use Rattle.locate.proofs.holds.Reads as reads
+use Rattle.locate.proofs.holds.Lts as lts
+use Rattle.locate.proofs.has_point.Reads as has-point-reads
+use Rattle.locate.proofs.is_listed.Reads as is-listed-reads
+
+is-listed-requires : tie.Need-is-listed-requires
+is-listed-requires c κs = search needs
+
+has-point-requires : tie.Need-has-point-requires
+has-point-requires c κs = search needs
+
+returns : tie.Need-returns
+unfolding holds
+returns c = rw (sym (c .before .before .is-listed .ensures (c .before .before .before .before .before .args .floats .now)) ∙ c .before .if1 .taken) (unfold cellPolygonIn in (c .has-point .ensures))
+
+returns-2 : tie.Need-returns-2
+unfolding holds
+returns-2 c = rw (sym (c .before .is-listed .ensures (c .before .before .before .before .args .floats .now)) ∙ c .if1 .left)
+
+pub holds-spec : {M : Type 1} → statement M
+holds-spec = tie.close (tie.spec is-listed-requires has-point-requires returns returns-2)

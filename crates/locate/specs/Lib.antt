@@ -1,0 +1,4 @@
+pub mod Bins
+pub mod Locate
+pub mod Field
+pub mod Layout
