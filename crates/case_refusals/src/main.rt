@@ -5,9 +5,9 @@
 // a text of pieces (`stored`). oracle/cases/make.py makes them, and has the reference job say what
 // each is due.
 use casefile::Opened;
-use casefile::Walked;
 use casefile::trailer;
-use casefile::walker;
+use definitions::Walked;
+use definitions::walker;
 use libc::STDOUT_FILENO;
 
 // The length of a case with every count one past its limit.

@@ -1,9 +1,7 @@
-// The case file: its trailer, its points and fields by number, and the walker over its definition
-// words. Everything is read where it stands in the case bytes.
-pub mod faces;
+// The case file: its trailer, and its fields by number. Everything is read where it stands in the
+// case bytes.
 pub mod field;
 pub mod trailer;
-pub mod walker;
 
 // What the trailer of a case says.
 pub struct Counts {
@@ -16,54 +14,4 @@ pub struct Counts {
 pub enum Opened {
     Case(Counts),
     Refused(u64),
-}
-
-// A position among the definition words.
-pub struct Cursor {
-    pub at: usize,
-}
-
-// A record of the definition words: its kind word stands at `at`, its point numbers, or a
-// polyhedron's faces, from `first` on.
-pub struct Head {
-    pub kind: u32,
-    pub faces: usize,
-    pub at: usize,
-    pub first: usize,
-}
-
-// The record at a cursor, with the cursor after it; or the refusal.
-pub enum Step {
-    Record(Head, Cursor),
-    Wrong(u64),
-}
-
-// The number of faces of all records, or the refusal.
-pub enum Walked {
-    Faces(usize),
-    Refused(u64),
-}
-
-// A count with as many words after it.
-pub enum Listed {
-    Count(usize),
-    Bad,
-}
-
-// The position after some faces of a polyhedron; or the refusal.
-pub enum Skipped {
-    To(usize),
-    Short(u64),
-}
-
-// A face of a record, by its number; `at` is where a polyhedron's face starts.
-pub struct FaceCursor {
-    pub face: usize,
-    pub at: usize,
-}
-
-// A face's point numbers were copied: how many, and the next face.
-pub struct Copied {
-    pub count: usize,
-    pub next: FaceCursor,
 }

@@ -17,15 +17,15 @@ use Rattle.arith.proofs.ListLaws.{foldl-next}
 use Rattle.arith.proofs.RecordLaws.{length-tab, tab-next, tab-same, length-puts, take-puts, getD-puts-out, getD-puts-at}
 use Rattle.reading.specs.Result.{Result, refused, fine, _>>=_, refuse, steps}
 use Rattle.reading.proofs.ResultLaws.{steps-next, steps-refused}
-use Rattle.casefile.specs.Faces.{Definition, polygon, facesOf, faceCount, addFaceCount, facesCounted}
-use Rattle.casefile.specs.Definitions.{definition, definitions}
-use Rattle.casefile.specs.Walker.{readOf, definitionAt, headOf, stepAt, Headed}
-use Rattle.casefile.specs.declared.Head.{Head}
-use Rattle.casefile.specs.declared.Cursor.{Cursor}
-use Rattle.casefile.specs.declared.Step.the-variants.{Record, Wrong}
-use Rattle.casefile.proofs.RecordLaws.{steps-to}
-use Rattle.casefile.proofs.FaceLaws.{headed}
-use Rattle.casefile.proofs.Walking.{length-definitions, never-wrong, CellRead, cell-read, head-faces}
+use Rattle.definitions.specs.Faces.{Definition, polygon, facesOf, faceCount, addFaceCount, facesCounted}
+use Rattle.definitions.specs.Definitions.{definition, definitions}
+use Rattle.definitions.specs.Walker.{readOf, definitionAt, headOf, stepAt, Headed}
+use Rattle.definitions.specs.declared.Head.{Head}
+use Rattle.definitions.specs.declared.Cursor.{Cursor}
+use Rattle.definitions.specs.declared.Step.the-variants.{Record, Wrong}
+use Rattle.definitions.proofs.RecordLaws.{steps-to}
+use Rattle.definitions.proofs.FaceLaws.{headed}
+use Rattle.definitions.proofs.Walking.{length-definitions, never-wrong, CellRead, cell-read, head-faces}
 use Rattle.area.specs.declared.Sizes.{Sizes}
 use Rattle.area.specs.Layout.{LentWords, LentFloats, listAt, vecFrom, facesIn, meshWords}
 use Rattle.faces.specs.Chains.{Chained, sized}

@@ -11,12 +11,12 @@ use Rattle.arith.specs.declared.Vec3.{Vec3}
 use Rattle.arith.proofs.RecordLaws.{tab-next, tab-same}
 use Rattle.reading.specs.Result.{Result, refused, fine, _>>=_, steps}
 use Rattle.reading.proofs.ResultLaws.{steps-next, steps-refused}
-use Rattle.casefile.specs.Faces.{facesOf}
-use Rattle.casefile.specs.Walker.{definitionAt, faceAt, Headed, AtFace, FaceCopied}
-use Rattle.casefile.specs.declared.Head.{Head}
-use Rattle.casefile.specs.declared.FaceCursor.{FaceCursor}
-use Rattle.casefile.proofs.FaceLaws.{at-first}
-use Rattle.casefile.proofs.Walking.{head-faces}
+use Rattle.definitions.specs.Faces.{facesOf}
+use Rattle.definitions.specs.Walker.{definitionAt, faceAt, Headed, AtFace, FaceCopied}
+use Rattle.definitions.specs.declared.Head.{Head}
+use Rattle.definitions.specs.declared.FaceCursor.{FaceCursor}
+use Rattle.definitions.proofs.FaceLaws.{at-first}
+use Rattle.definitions.proofs.Walking.{head-faces}
 use Rattle.area.specs.declared.Sizes.{Sizes}
 use Rattle.area.specs.Layout.{LentWords, LentFloats, listAt, facesIn}
 use Rattle.area.proofs.LayoutLaws.{length-facesIn}

@@ -4,7 +4,7 @@ use mathlib.Core.List.{List, [], _∷_, _++_}
 use lib.ListN.{length}
 use Rattle.arith.specs.declared.Vec3.{Vec3}
 use Rattle.reading.specs.Result.{Result, fine, _>>=_, refuse, steps}
-use Rattle.casefile.specs.Faces.{Definition, facesOf}
+use Rattle.definitions.specs.Faces.{Definition, facesOf}
 use Rattle.area.specs.Tables.{Face}
 use Rattle.geometry.specs.Faces.{Oriented, orientedFace}
 use Rattle.collect.specs.Collect.{wrongKind, missing, referenceOf}

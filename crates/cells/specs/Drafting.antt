@@ -7,9 +7,9 @@ use lib.Ieee.{Float}
 use Rattle.arith.specs.Records.{tab}
 use Rattle.arith.specs.declared.Vec3.{Vec3}
 use Rattle.reading.specs.Result.{Result, refused, fine}
-use Rattle.casefile.specs.Faces.{Definition, facesOf}
-use Rattle.casefile.specs.Definitions as Words
-use Rattle.casefile.specs.Walker.{readOf}
+use Rattle.definitions.specs.Faces.{Definition, facesOf}
+use Rattle.definitions.specs.Definitions as Words
+use Rattle.definitions.specs.Walker.{readOf}
 use Rattle.area.specs.declared.Sizes.{Sizes}
 use Rattle.area.specs.Layout.{listAt, vecFrom, facesIn}
 use Rattle.faces.specs.Chains.{sized}

@@ -8,11 +8,11 @@ use Rattle.arith.specs.Lists.{foldl}
 use Rattle.arith.specs.Records.{puts}
 use Rattle.arith.specs.declared.Vec3.{Vec3}
 use Rattle.reading.specs.Result.{Result, refused, fine, steps}
-use Rattle.casefile.specs.Faces.{Definition, facesOf, addFaceCount, facesCounted}
-use Rattle.casefile.specs.Definitions as Words
-use Rattle.casefile.specs.Walker.{definitionAt, faceAt, Headed, AtFace}
-use Rattle.casefile.specs.declared.Head.{Head}
-use Rattle.casefile.specs.declared.FaceCursor.{FaceCursor}
+use Rattle.definitions.specs.Faces.{Definition, facesOf, addFaceCount, facesCounted}
+use Rattle.definitions.specs.Definitions as Words
+use Rattle.definitions.specs.Walker.{definitionAt, faceAt, Headed, AtFace}
+use Rattle.definitions.specs.declared.Head.{Head}
+use Rattle.definitions.specs.declared.FaceCursor.{FaceCursor}
 use Rattle.area.specs.declared.Sizes.{Sizes}
 use Rattle.area.specs.Tables.{Face}
 use Rattle.area.specs.Layout.{LentWords, LentFloats, listAt, vecFrom, facesIn}

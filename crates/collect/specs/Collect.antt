@@ -8,7 +8,7 @@ use lib.ListN.{length, take}
 use Rattle.arith.specs.Lists.{any, concat}
 use Rattle.arith.specs.declared.Vec3.{Vec3}
 use Rattle.reading.specs.Result.{Result, refused, fine, _>>=_, refuse, steps}
-use Rattle.casefile.specs.Faces.{Definition, polygon, solid, polyhedron, facesOf}
+use Rattle.definitions.specs.Faces.{Definition, polygon, solid, polyhedron, facesOf}
 use Rattle.geometry.specs.Faces.{insertNew, rising, average}
 use Rattle.collect.specs.declared.Collected.{Collected}
 use Rattle.collect.specs.declared.Collected.the-variants.{Numbers, Missing}

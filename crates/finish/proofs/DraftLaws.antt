@@ -6,7 +6,7 @@ use lib.ListN.{length, length-map}
 use Rattle.arith.specs.declared.Vec3.{Vec3}
 use Rattle.reading.specs.Result.{fine, steps}
 use Rattle.reading.proofs.ResultLaws.{bound}
-use Rattle.casefile.specs.Faces.{Definition}
+use Rattle.definitions.specs.Faces.{Definition}
 use Rattle.collect.specs.Collect.{referenceOf}
 use Rattle.cells.specs.Cells.{Draft, Drafts, addCell, drafts}
 use Rattle.finish.specs.Finish.{definitionsOf}

@@ -9,8 +9,8 @@ use lib.Seq.{getD-take}
 use Rattle.arith.specs.declared.Vec3.{Vec3}
 use Rattle.arith.proofs.RecordLaws.{tab-same, same-below}
 use Rattle.reading.specs.Result.{fine, mapAll}
-use Rattle.casefile.specs.Faces.{Definition}
-use Rattle.casefile.specs.Definitions.{definitions}
+use Rattle.definitions.specs.Faces.{Definition}
+use Rattle.definitions.specs.Definitions.{definitions}
 use Rattle.area.specs.declared.Sizes.{Sizes}
 use Rattle.area.specs.Layout.{vecFrom, faceIn, facesIn, cellsIn, meshWords, meshFloats, floatsEnd, LentWords, LentFloats}
 use Rattle.measure.specs.Records.{Points}

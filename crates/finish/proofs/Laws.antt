@@ -13,14 +13,14 @@ use Rattle.arith.proofs.ListLaws.{left-at}
 use Rattle.arith.proofs.RecordLaws.{left-suc, length-tab, getD-tab, tab-next, take-puts}
 use Rattle.reading.specs.Result.{Result, refused, fine, _>>=_, mapAll}
 use Rattle.reading.proofs.ResultLaws.{bound, mapAll-next, mapAll-refused}
-use Rattle.casefile.specs.Faces.{Definition, facesOf}
-use Rattle.casefile.specs.Definitions.{Taken, definition, definitions}
-use Rattle.casefile.specs.Walker.{readOf, definitionAt, Headed, headOf, stepAt}
-use Rattle.casefile.specs.declared.Cursor.{Cursor}
-use Rattle.casefile.specs.declared.Head.{Head}
-use Rattle.casefile.specs.declared.Step.{Step}
-use Rattle.casefile.specs.declared.Step.the-variants.{Record, Wrong}
-use Rattle.casefile.proofs.RecordLaws.{StepsTo, steps-to, steps-wrong}
+use Rattle.definitions.specs.Faces.{Definition, facesOf}
+use Rattle.definitions.specs.Definitions.{Taken, definition, definitions}
+use Rattle.definitions.specs.Walker.{readOf, definitionAt, Headed, headOf, stepAt}
+use Rattle.definitions.specs.declared.Cursor.{Cursor}
+use Rattle.definitions.specs.declared.Head.{Head}
+use Rattle.definitions.specs.declared.Step.{Step}
+use Rattle.definitions.specs.declared.Step.the-variants.{Record, Wrong}
+use Rattle.definitions.proofs.RecordLaws.{StepsTo, steps-to, steps-wrong}
 use Rattle.area.specs.declared.Sizes.{Sizes}
 use Rattle.area.specs.Tables.{Cell}
 use Rattle.area.specs.Layout.{vecFrom, cellsIn, LentFloats}

@@ -6,8 +6,8 @@ use lib.ListN.{length, take}
 use lib.Ieee.{Float}
 use Rattle.arith.specs.declared.Vec3.{Vec3}
 use Rattle.reading.specs.Result.{Result, refused, fine, _>>=_, mapAll}
-use Rattle.casefile.specs.Faces.{Definition, facesOf}
-use Rattle.casefile.specs.Definitions.{definitions}
+use Rattle.definitions.specs.Faces.{Definition, facesOf}
+use Rattle.definitions.specs.Definitions.{definitions}
 use Rattle.area.specs.declared.Sizes.{Sizes}
 use Rattle.area.specs.Tables.{Cell}
 use Rattle.area.specs.Layout.{cellsIn, LentWords, LentFloats}

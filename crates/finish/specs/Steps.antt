@@ -7,11 +7,11 @@ use lib.Ieee.{Float, nan}
 use Rattle.arith.specs.Records.{tab, puts}
 use Rattle.arith.specs.declared.Vec3.{Vec3}
 use Rattle.reading.specs.Result.{Result, refused, fine, _>>=_, mapAll}
-use Rattle.casefile.specs.Faces.{Definition, facesOf}
-use Rattle.casefile.specs.Definitions.{Taken, definition, definitions}
-use Rattle.casefile.specs.Walker.{Headed, definitionAt}
-use Rattle.casefile.specs.declared.Cursor.{Cursor}
-use Rattle.casefile.specs.declared.Head.{Head}
+use Rattle.definitions.specs.Faces.{Definition, facesOf}
+use Rattle.definitions.specs.Definitions.{Taken, definition, definitions}
+use Rattle.definitions.specs.Walker.{Headed, definitionAt}
+use Rattle.definitions.specs.declared.Cursor.{Cursor}
+use Rattle.definitions.specs.declared.Head.{Head}
 use Rattle.area.specs.declared.Sizes.{Sizes}
 use Rattle.area.specs.Tables.{Cell}
 use Rattle.area.specs.Layout.{vecFrom, cellIn, meshWords, meshFloats, LentFloats}

@@ -1,10 +1,10 @@
 // The second pass of from_cells: each cell's centre and its area or volume (15).
 use area::Sizes;
 use arith::Vec3;
-use casefile::Cursor;
-use casefile::Head;
-use casefile::Step;
-use casefile::walker;
+use definitions::Cursor;
+use definitions::Head;
+use definitions::Step;
+use definitions::walker;
 use volumes::CellGeometry;
 use volumes::CellMeasure;
 ghost use mathlib.Core.Path.{_≡_};

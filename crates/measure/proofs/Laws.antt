@@ -13,12 +13,12 @@ use Rattle.arith.specs.declared.Vec3.{Vec3}
 use Rattle.arith.proofs.ListLaws.{foldl-next, all-here, all-next, any-here, any-next, length-sides}
 use Rattle.reading.specs.Result.{Result, refused, fine, _>>=_, steps}
 use Rattle.reading.proofs.ResultLaws.{steps-next, steps-refused}
-use Rattle.casefile.specs.Faces.{Definition, polygon, solid, polyhedron, facesOf, faceCount}
-use Rattle.casefile.specs.Definitions.{definition}
-use Rattle.casefile.specs.Walker.{definitionAt, readOf, faceAt, AtFace, Headed, headOf, stepAt}
-use Rattle.casefile.specs.declared.Head.{Head}
-use Rattle.casefile.specs.declared.FaceCursor.{FaceCursor}
-use Rattle.casefile.proofs.RecordLaws.{StepsTo, steps-to}
+use Rattle.definitions.specs.Faces.{Definition, polygon, solid, polyhedron, facesOf, faceCount}
+use Rattle.definitions.specs.Definitions.{definition}
+use Rattle.definitions.specs.Walker.{definitionAt, readOf, faceAt, AtFace, Headed, headOf, stepAt}
+use Rattle.definitions.specs.declared.Head.{Head}
+use Rattle.definitions.specs.declared.FaceCursor.{FaceCursor}
+use Rattle.definitions.proofs.RecordLaws.{StepsTo, steps-to}
 use Rattle.area.specs.Tables.{pointAt, Face, faceAt as tableAt, noFace}
 use Rattle.area.specs.Layout.{pointsIn, facesIn}
 use Rattle.area.specs.declared.Sizes.{Sizes}

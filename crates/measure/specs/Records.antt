@@ -5,10 +5,10 @@ use mathlib.Core.List.{List}
 use lib.ListN.{length}
 use Rattle.arith.specs.declared.Vec3.{Vec3}
 use Rattle.reading.specs.Result.{Result, refused, fine}
-use Rattle.casefile.specs.Faces.{facesOf}
-use Rattle.casefile.specs.Walker.{definitionAt, faceAt, AtFace}
-use Rattle.casefile.specs.declared.Head.{Head}
-use Rattle.casefile.specs.declared.FaceCursor.{FaceCursor}
+use Rattle.definitions.specs.Faces.{facesOf}
+use Rattle.definitions.specs.Walker.{definitionAt, faceAt, AtFace}
+use Rattle.definitions.specs.declared.Head.{Head}
+use Rattle.definitions.specs.declared.FaceCursor.{FaceCursor}
 use Rattle.volumes.specs.declared.Weight.{Weight}
 use Rattle.volumes.specs.Geometry.{addTriangle, addFace3D}
 use Rattle.measure.specs.declared.Weighed.{Weighed}

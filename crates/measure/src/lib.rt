@@ -3,9 +3,9 @@
 use area::Sizes;
 use arith::Found;
 use arith::Vec3;
-use casefile::FaceCursor;
-use casefile::Head;
-use casefile::faces;
+use definitions::FaceCursor;
+use definitions::Head;
+use definitions::face_lists;
 use geometry::TurnedFace;
 use volumes::CellMeasure;
 use volumes::Weight;
@@ -18,7 +18,7 @@ ghost use Rattle.arith.specs.Lists.{foldl, all, any};
 ghost use Rattle.arith.specs.Vec.{each3};
 ghost use Rattle.reading.specs.Result.{steps};
 ghost use Rattle.casefile.specs.Trailer.{wordsIn};
-ghost use Rattle.casefile.specs.Walker.{Headed};
+ghost use Rattle.definitions.specs.Walker.{Headed};
 ghost use Rattle.area.specs.Tables.{faceAt};
 ghost use Rattle.area.specs.Layout.{pointsIn, facesIn, cellsIn, LentWords, LentFloats};
 ghost use Rattle.volumes.specs.Geometry.{weightless, addTriangle, addFace3D, cellGeometry, cellOf};
@@ -99,7 +99,7 @@ fn add_edge(
     ensures { λ r. ⌜ EdgeAdded (pointsIn (now (case .entry)) points) (wordsIn (now (words .entry))) h c reference weight r ⌝ }
 {
     let mut face = [0u32; 8];
-    let copied = faces::copy_face(words, h, c, &mut face);
+    let copied = face_lists::copy_face(words, h, c, &mut face);
     let count = copied.count;
     let a = number(&face[..count], 0);
     let b = number(&face[..count], 1);
@@ -115,7 +115,7 @@ fn add_edges(case: &[u8], points: usize, words: &[u8], h: Head, reference: Vec3)
     ensures { λ r. ⌜ r ≡ foldl (addTriangle (pointsIn (now (case .entry)) points) reference) weightless (facesAt (wordsIn (now (words .entry))) h) ⌝ }
 {
     let mut sum = volumes::weightless();
-    let mut c = faces::first_face(h);
+    let mut c = face_lists::first_face(h);
     while c.face < h.faces {
         let t = add_edge(case, points, words, h, c, reference, sum);
         sum = t.weight;
@@ -163,7 +163,7 @@ fn add_face_3d(
     ensures { λ r. ⌜ FanAdded (pointsIn (now (case .entry)) points) (wordsIn (now (words .entry))) h c reference weight r ⌝ }
 {
     let mut face = [0u32; 8];
-    let copied = faces::copy_face(words, h, c, &mut face);
+    let copied = face_lists::copy_face(words, h, c, &mut face);
     let count = copied.count;
     let next = copied.next;
     match add_turned(case, points, &mut face[..count], reference, weight) {
@@ -179,7 +179,7 @@ fn add_faces_3d(case: &[u8], points: usize, words: &[u8], h: Head, reference: Ve
     ensures { λ r. ⌜ fansOf r ≡ steps (addFace3D (pointsIn (now (case .entry)) points) reference) weightless (facesAt (wordsIn (now (words .entry))) h) ⌝ }
 {
     let mut sum = volumes::weightless();
-    let mut c = faces::first_face(h);
+    let mut c = face_lists::first_face(h);
     while c.face < h.faces {
         let Fanned::Added(t) = add_face_3d(case, points, words, h, c, reference, sum) else {
             return Fans::Degenerate;

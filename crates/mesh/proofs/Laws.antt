@@ -14,15 +14,15 @@ use Rattle.arith.specs.Records.{tab}
 use Rattle.arith.specs.declared.Vec3.{Vec3}
 use Rattle.arith.proofs.RecordLaws.{tab-same, same-below}
 use Rattle.reading.specs.Result.{Result, refused, fine, _>>=_, refuse, mapAll}
-use Rattle.casefile.specs.Faces.{Definition, faceCount, addFaceCount, facesCounted}
-use Rattle.casefile.specs.Definitions.{definition, definitions}
+use Rattle.definitions.specs.Faces.{Definition, faceCount, addFaceCount, facesCounted}
+use Rattle.definitions.specs.Definitions.{definition, definitions}
 use Rattle.casefile.specs.Trailer.{opened, openedCase, wordsOf}
-use Rattle.casefile.specs.Walker.{walked}
+use Rattle.definitions.specs.Walker.{walked}
 use Rattle.casefile.specs.declared.Counts.{Counts}
 use Rattle.casefile.specs.declared.Opened.{Opened}
 use Rattle.casefile.specs.declared.Opened.the-variants as Opened
-use Rattle.casefile.specs.declared.Walked.{Walked}
-use Rattle.casefile.specs.declared.Walked.the-variants as Walked
+use Rattle.definitions.specs.declared.Walked.{Walked}
+use Rattle.definitions.specs.declared.Walked.the-variants as Walked
 use Rattle.area.specs.declared.Sizes.{Sizes}
 use Rattle.area.specs.Tables.{Face, Cell, Mesh}
 use Rattle.area.specs.Layout.{wordsEnd, floatsEnd, meshWords, meshFloats, vecFrom, faceIn, facesIn, cellsIn, meshIn, LentWords, LentFloats, pointsIn}
@@ -38,7 +38,7 @@ use Rattle.arith.specs.F64.{finite, within}
 use Rattle.arith.specs.Vec.{each3}
 use Rattle.reading.proofs.ResultLaws.{bound}
 use Rattle.casefile.specs.Trailer.{wordsFrom}
-use Rattle.casefile.proofs.RecordLaws.{DefinitionRead, definition-read}
+use Rattle.definitions.proofs.RecordLaws.{DefinitionRead, definition-read}
 use Rattle.casefile.proofs.ReadLaws.{length-readAll}
 use Rattle.casefile.proofs.TrailerLaws.{Opens, opens}
 use Rattle.connection.specs.Neighbours.{Laid}

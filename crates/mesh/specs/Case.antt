@@ -8,8 +8,8 @@ use lib.ListN.{length}
 use lib.Ieee.{Float}
 use Rattle.arith.specs.declared.Vec3.{Vec3}
 use Rattle.reading.specs.Result.{Result, refused, fine, _>>=_, refuse}
-use Rattle.casefile.specs.Faces.{Definition, facesCounted}
-use Rattle.casefile.specs.Definitions.{definitions}
+use Rattle.definitions.specs.Faces.{Definition, facesCounted}
+use Rattle.definitions.specs.Definitions.{definitions}
 use Rattle.casefile.specs.Trailer.{opened, openedCase, wordsOf}
 use Rattle.casefile.specs.declared.Counts.{Counts}
 use Rattle.casefile.specs.declared.Opened.the-variants.{Case}

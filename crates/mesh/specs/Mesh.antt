@@ -9,7 +9,7 @@ use Rattle.arith.specs.Lists.{any, all}
 use Rattle.arith.specs.Vec.{each3}
 use Rattle.arith.specs.declared.Vec3.{Vec3}
 use Rattle.reading.specs.Result.{Result, fine, _>>=_, refuse, mapAll}
-use Rattle.casefile.specs.Faces.{Definition}
+use Rattle.definitions.specs.Faces.{Definition}
 use Rattle.area.specs.Tables.{Face, Cell, Mesh}
 use Rattle.measure.specs.Orientation.{misplaced}
 use Rattle.connection.specs.Neighbours.{linked}

@@ -5,8 +5,8 @@ use mathlib.Core.List.{List}
 use lib.ListN.{length, getD}
 use lib.Ieee.{Float}
 use Rattle.reading.specs.Result.{Result, refused, fine}
-use Rattle.casefile.specs.Faces.{Definition, facesCounted}
-use Rattle.casefile.specs.Definitions.{definitions}
+use Rattle.definitions.specs.Faces.{Definition, facesCounted}
+use Rattle.definitions.specs.Definitions.{definitions}
 use Rattle.casefile.specs.Trailer.{opened, wordsOf}
 use Rattle.casefile.specs.declared.Counts.{Counts}
 use Rattle.casefile.specs.declared.Opened.the-variants.{Case}

@@ -9,8 +9,8 @@ use lib.Ieee.{Float}
 use borrow.Author.Tests.{eqb-true, ltb-false}
 use Rattle.reading.specs.Result.{Result, refused, fine, _>>=_}
 use Rattle.reading.proofs.ResultLaws.{bound, not-due}
-use Rattle.casefile.specs.Faces.{Definition}
-use Rattle.casefile.specs.Definitions.{definitions}
+use Rattle.definitions.specs.Faces.{Definition}
+use Rattle.definitions.specs.Definitions.{definitions}
 use Rattle.casefile.specs.Field.{outside}
 use Rattle.casefile.specs.Trailer.{countsOf, trailerRight, overLimit, opened, openedCase, wordsOf}
 use Rattle.casefile.specs.declared.Counts.{Counts}

@@ -14,8 +14,8 @@ use Rattle.arith.specs.declared.Vec3.{Vec3}
 use Rattle.arith.proofs.RecordLaws.{length-tab, getD-tab, lt-or-ge}
 use Rattle.reading.specs.Result.{Result, fine, mapAll}
 use Rattle.reading.proofs.ResultLaws.{bound, not-due, length-mapAll}
-use Rattle.casefile.specs.Faces.{Definition, polygon}
-use Rattle.casefile.specs.Definitions.{definitions}
+use Rattle.definitions.specs.Faces.{Definition, polygon}
+use Rattle.definitions.specs.Definitions.{definitions}
 use Rattle.area.specs.Tables.{Face, Cell, Mesh, noCell, cellAt}
 use Rattle.connection.specs.Neighbours.{linked, linkedAt}
 use Rattle.cells.specs.Cells.{Draft, Drafts, drafts}

@@ -11,13 +11,13 @@ use borrow.Author.Tests.{eq-eqb, ne-eqb, lt-ltb, le-ltb, ltb-false}
 use Rattle.arith.specs.declared.Vec3.{Vec3}
 use Rattle.reading.specs.Result.{Result, refused, fine, _>>=_, refuse}
 use Rattle.reading.proofs.ResultLaws.{bound, not-due}
-use Rattle.casefile.specs.Faces.{Definition, facesCounted}
-use Rattle.casefile.specs.Definitions.{definitions}
+use Rattle.definitions.specs.Faces.{Definition, facesCounted}
+use Rattle.definitions.specs.Definitions.{definitions}
 use Rattle.casefile.specs.Trailer.{opened, wordsOf}
 use Rattle.casefile.specs.declared.Counts.{Counts}
 use Rattle.casefile.specs.declared.Opened.the-variants.{Case}
 use Rattle.casefile.proofs.TrailerLaws.{opens}
-use Rattle.casefile.proofs.Walking.{length-definitions}
+use Rattle.definitions.proofs.Walking.{length-definitions}
 use Rattle.area.specs.declared.Sizes.{Sizes}
 use Rattle.area.specs.Tables.{Mesh}
 use Rattle.area.specs.Layout.{pointsIn, meshIn, LentWords, LentFloats}

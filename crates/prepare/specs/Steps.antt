@@ -4,7 +4,7 @@ use mathlib.Core.Path.{_≡_}
 use mathlib.Core.List.{List}
 use lib.Ieee.{Float}
 use Rattle.reading.specs.Result.{Result, refused, fine}
-use Rattle.casefile.specs.Faces.{Definition, facesCounted}
+use Rattle.definitions.specs.Faces.{Definition, facesCounted}
 use Rattle.casefile.specs.Trailer.{opened}
 use Rattle.casefile.specs.declared.Counts.{Counts}
 use Rattle.casefile.specs.declared.Opened.the-variants.{Case}

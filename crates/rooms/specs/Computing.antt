@@ -15,13 +15,13 @@ use Rattle.reading.specs.Asks.{_>>=_}
 use Rattle.reading.specs.Result.{_>>=_ as _>>=_-2, refuse, steps, mapAll, refusalOf}
 use Rattle.area.specs.Layout.{pointsIn, meshWords, meshFloats, listAt, vecFrom, found, faceIn, cellIn, facesIn, cellsIn, meshIn}
 use Rattle.area.specs.Tables.{pointAt, faceAt, cellAt}
-use Rattle.casefile.specs.Corners.{places, row, cornerOf, digitOf}
-use Rattle.casefile.specs.Definitions.{numbers, counted, faceLists, made, kinds, definition, definitions}
-use Rattle.casefile.specs.Faces.{tetrahedron, hexahedron, prism, pyramid, ends, picked, facesOf, faceCount, addFaceCount, facesCounted}
+use Rattle.definitions.specs.Corners.{places, row, cornerOf, digitOf}
+use Rattle.definitions.specs.Definitions.{numbers, counted, faceLists, made, kinds, definition, definitions}
+use Rattle.definitions.specs.Faces.{tetrahedron, hexahedron, prism, pyramid, ends, picked, facesOf, faceCount, addFaceCount, facesCounted}
 use Rattle.casefile.specs.Field.{blank, outside, cellsOf, nought, valuesIn, valuesOf}
-use Rattle.casefile.specs.Helpers.{listed, listAt as listAt-2, skipped, sideEnd}
+use Rattle.definitions.specs.Helpers.{listed, listAt as listAt-2, skipped, sideEnd}
 use Rattle.casefile.specs.Trailer.{trailerWord, countsOf, wordsFrom, fieldFrom, pressuresFrom, trailerFrom, isDimension, hasOffsets, hasParts, trailerRight, overLimit, opened, openedCase, wordsIn, wordsOf}
-use Rattle.casefile.specs.Walker.{firstOf, headOf, cursorAt, stepped, stepAt, walked, walkedFaces, readOf, definitionAt, faceAt as faceAt-2, faceFrom, nextFace}
+use Rattle.definitions.specs.Walker.{firstOf, headOf, cursorAt, stepped, stepAt, walked, walkedFaces, readOf, definitionAt, faceAt as faceAt-2, faceFrom, nextFace}
 use Rattle.keys.specs.Keys.{total}
 use Rattle.geometry.specs.Answers.{vectorOf, faceOf, cellOf}
 use Rattle.geometry.specs.Faces.{insertNew, rising as rising-2, addPoint, average, turnedEdge, addCross, vectorIn, areaVector, enough, longEnough, faceAreaVector, faceWith, measured, inward, turnedIf, orientedFace, leftOrder}

@@ -12,7 +12,7 @@ use Rattle.arith.proofs.All.{All, all-append, all-getD, all-more}
 use Rattle.reading.specs.Result.{fine, steps}
 use Rattle.reading.proofs.ResultLaws.{bound, not-due, steps-keep}
 use Rattle.area.specs.Tables.{Face, faceAt, noFace}
-use Rattle.casefile.specs.Faces.{Definition, facesOf}
+use Rattle.definitions.specs.Faces.{Definition, facesOf}
 use Rattle.collect.specs.Collect.{wrongKind, referenceOf}
 use Rattle.geometry.specs.Faces.{enough}
 use Rattle.faces.specs.declared.Measured.{Measured}

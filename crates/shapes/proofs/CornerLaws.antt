@@ -20,7 +20,7 @@ use Rattle.arith.proofs.ListLaws.{length-sides}
 use Rattle.arith.proofs.RecordLaws.{lt-or-ge}
 use Rattle.area.specs.Tables.{Cell, Mesh, pointAt, faceAt, noFace, noCell, cellAt}
 use Rattle.reading.specs.Result.{fine}
-use Rattle.casefile.specs.Faces.{Definition, polygon, solid, polyhedron, ends, facesOf}
+use Rattle.definitions.specs.Faces.{Definition, polygon, solid, polyhedron, ends, facesOf}
 use Rattle.collect.specs.Collect.{wrongKind}
 use Rattle.cells.specs.Cells.{Draft, Drafts, drafts}
 use Rattle.locate.specs.Locate.{flat}

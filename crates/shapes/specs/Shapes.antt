@@ -8,7 +8,7 @@ use Rattle.arith.specs.Lists.{sorted}
 use Rattle.arith.specs.declared.Vec3.{Vec3}
 use Rattle.arith.proofs.All.{All}
 use Rattle.area.specs.Tables.{Face, Mesh, faceAt, cellAt}
-use Rattle.casefile.specs.Faces.{Definition, facesOf}
+use Rattle.definitions.specs.Faces.{Definition, facesOf}
 use Rattle.collect.specs.Collect.{wrongKind}
 use Rattle.geometry.specs.Faces.{enough}
 use Rattle.cells.specs.Cells.{Draft, Drafts}

@@ -15,7 +15,7 @@ use Rattle.casefile.specs.declared.Opened.{Opened}
 use Rattle.casefile.specs.declared.Opened.the-variants.{Case, Refused}
 use Rattle.casefile.specs.Trailer.{countsOf, opened, openedCase}
 use Rattle.casefile.proofs.TrailerLaws.{opens}
-use Rattle.casefile.proofs.Walking.{length-definitions}
+use Rattle.definitions.proofs.Walking.{length-definitions}
 use Rattle.locate.specs.Field.{StreamlineField}
 use Rattle.polygons.specs.Field.{fieldOf}
 use Rattle.mesh.specs.Case.{Surveyed-case, surveyOf, meshOf}

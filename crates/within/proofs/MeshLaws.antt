@@ -16,7 +16,7 @@ use Rattle.arith.proofs.All.{All, all-append, all-getD, all-set, all-more, all-
 use Rattle.arith.proofs.RecordLaws.{length-tab}
 use Rattle.reading.specs.Result.{fine}
 use Rattle.reading.proofs.ResultLaws.{bound, not-due, length-mapAll, steps-keep}
-use Rattle.casefile.specs.Faces.{Definition}
+use Rattle.definitions.specs.Faces.{Definition}
 use Rattle.area.specs.Tables.{Face, Cell, Mesh, faceAt, noFace, cellAt, noCell}
 use Rattle.faces.specs.declared.Measured.{Measured}
 use Rattle.faces.specs.Table.{lookup, newFace, withNeighbour, joining, settled, adding, Placed, placed, addFace}

@@ -1,6 +1,6 @@
 use mathlib.Core.Path.{sym, _∙_}
 use native.Mathlib.Omega.{arith}
-use Rattle.casefile.proofs.FaceLaws.{headed}
+use Rattle.definitions.proofs.FaceLaws.{headed}
 use Rattle.cells.proofs.CellLaws.{cell-wrong, cell-ready, cell-refused, cell-not-filled, cell-next}
 use borrow.Author.Needs.{needs}
 use Rattle.cells.proofs.add_cell.Statement.{statement}

@@ -1,4 +1,4 @@
-use Rattle.casefile.proofs.FaceLaws.{next-number}
+use Rattle.definitions.proofs.FaceLaws.{next-number}
 use Prim.Native.Nat.{ℕ}
 use mathlib.Core.Path.{_∙_, ap}
 use mathlib.Core.List.{List}

@@ -1,4 +1,4 @@
-use Rattle.casefile.proofs.FaceLaws.{next-number}
+use Rattle.definitions.proofs.FaceLaws.{next-number}
 use mathlib.Core.Path.{sym, _∙_, ap}
 use lib.ListN.{length-take}
 use Rattle.volumes.specs.Geometry.{addFace3D}

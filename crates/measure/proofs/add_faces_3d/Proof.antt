@@ -3,8 +3,8 @@ use Prim.Native.Nat.{_≤_, _-_}
 use mathlib.Core.Path.{_≡_, refl, sym, _∙_, ap, subst}
 use lib.ListN.{drop}
 use Rattle.casefile.specs.Trailer.{wordsIn}
-use Rattle.casefile.specs.Walker.{AtFace}
-use Rattle.casefile.proofs.FaceLaws.{at-first}
+use Rattle.definitions.specs.Walker.{AtFace}
+use Rattle.definitions.proofs.FaceLaws.{at-first}
 use Rattle.area.specs.Layout.{pointsIn}
 use Rattle.measure.specs.Records.{facesAt}
 use Rattle.reading.specs.Result.{steps}

@@ -3,7 +3,7 @@ use lib.ListN.{length}
 use native.Mathlib.Omega.{arith}
 use Rattle.casefile.specs.Trailer.{wordsFrom, wordsOf}
 use Rattle.casefile.proofs.TrailerLaws.{Opens, opens}
-use Rattle.casefile.proofs.Walking.{length-definitions}
+use Rattle.definitions.proofs.Walking.{length-definitions}
 use Rattle.mesh.specs.Case.{barred}
 use Rattle.mesh.proofs.Laws.{from-refused, from-filled, faces-few, length-wordsOf, built-as}
 use borrow.Author.Needs.{needs}

@@ -1,0 +1,4 @@
+pub mod WalkLaws
+pub mod RecordLaws
+pub mod FaceLaws
+pub mod Walking

@@ -1,0 +1,5 @@
+pub mod Faces
+pub mod Definitions
+pub mod Walker
+pub mod Helpers
+pub mod Corners
