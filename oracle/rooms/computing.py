@@ -10,12 +10,16 @@ LEFT_OUT = {"rooms", "within", "listing"}
 
 
 def listed():
-    """The crates that rooms depends on, from the bottom up."""
-    for line in Path("crates.txt").read_text().splitlines():
-        name, _, deps = line.partition(":")
-        if name == "rooms":
-            return deps.split()
-    raise SystemExit("no crate rooms")
+    """The crates that job stands on, and job, from the bottom up."""
+    lines = [line.partition(":") for line in Path("crates.txt").read_text().splitlines() if not line.startswith("#")]
+    needs = {name: deps.split() for name, _, deps in lines}
+    reached, left = set(), ["job"]
+    while left:
+        name = left.pop()
+        if name not in reached:
+            reached.add(name)
+            left += needs.get(name, [])
+    return [name for name, _, _ in lines if name in reached]
 
 
 def main():

@@ -6,7 +6,7 @@ use lib.Ieee.{Float}
 use Rattle.arith.specs.F64.{word}
 use Rattle.arith.specs.Lists.{concat}
 use Rattle.arith.specs.declared.Vec3.{Vec3}
-use Rattle.samples.specs.Words.{vecWords}
+use Rattle.writing.specs.Words.{vecWords}
 use Rattle.rooms.specs.Printed.{Printed, bytes, printed, lends}
 
 -- "points, definition words, velocities, pressures, then a 32-byte trailer"

@@ -8,7 +8,7 @@ use Rattle.arith.specs.F64.{float, word, 0·0, 0·5, 1·0, 2·0, 3·0}
 use Rattle.root.specs.Root.{root}
 use Rattle.arith.specs.Vec.{vec}
 use Rattle.arith.specs.declared.Vec3.{Vec3}
-use Rattle.samples.specs.Words.{vecWords}
+use Rattle.writing.specs.Words.{vecWords}
 use Rattle.rooms.specs.Computing.{computing}
 use Rattle.rooms.specs.Printed.{printed, bytes, bytesFrom, ran, shown, lends}
 use Rattle.rooms.specs.Files.{caseFile, request, asked, told}
