@@ -28,8 +28,9 @@ use Rattle.definitions.proofs.FaceLaws.{headed}
 use Rattle.definitions.proofs.Walking.{length-definitions, never-wrong, CellRead, cell-read, head-faces}
 use Rattle.area.specs.declared.Sizes.{Sizes}
 use Rattle.area.specs.Layout.{LentWords, LentFloats, listAt, vecFrom, facesIn, meshWords}
-use Rattle.faces.specs.Chains.{Chained, sized}
-use Rattle.faces.proofs.RecordParts.{read-count}
+use Rattle.face_table.specs.Chains.{Chained}
+use Rattle.face_table.proofs.RecordParts.{read-count}
+use Rattle.faces.specs.Using.{sized}
 use Rattle.faces.proofs.AreaLaws.{chained-kept, faces-kept}
 use Rattle.collect.specs.Collect.{wrongKind, missing, checked, referenceCase}
 use Rattle.collect.specs.declared.Reference.{Reference}

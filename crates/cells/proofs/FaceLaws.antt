@@ -26,9 +26,10 @@ use Rattle.geometry.specs.declared.FaceGeometry.{FaceGeometry}
 use Rattle.geometry.specs.declared.TurnedFace.{TurnedFace}
 use Rattle.geometry.specs.declared.TurnedFace.the-variants as Turned
 use Rattle.collect.proofs.CollectLaws.{copied-next}
+use Rattle.face_table.specs.Chains.{Chained}
+use Rattle.face_table.specs.declared.Measured.{Measured}
 use Rattle.faces.specs.Table.{Placed, placed, addFace}
-use Rattle.faces.specs.Chains.{Chained, sized, after, Usable, Used}
-use Rattle.faces.specs.declared.Measured.{Measured}
+use Rattle.faces.specs.Using.{sized, after, Usable, Used}
 use Rattle.faces.specs.declared.Added.{Added}
 use Rattle.faces.specs.declared.Added.the-variants.{New, Second, Third}
 use Rattle.faces.proofs.AnswerLaws.{new-number, second-number}

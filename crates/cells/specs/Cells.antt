@@ -8,7 +8,7 @@ use Rattle.definitions.specs.Faces.{Definition, facesOf}
 use Rattle.area.specs.Tables.{Face}
 use Rattle.geometry.specs.Faces.{Oriented, orientedFace}
 use Rattle.collect.specs.Collect.{wrongKind, missing, referenceOf}
-use Rattle.faces.specs.declared.Measured.{Measured}
+use Rattle.face_table.specs.declared.Measured.{Measured}
 use Rattle.faces.specs.Table.{Placed, addFace}
 
 -- what was measured of a face that is turned outward

@@ -12,7 +12,7 @@ use Rattle.definitions.specs.Definitions as Words
 use Rattle.definitions.specs.Walker.{readOf}
 use Rattle.area.specs.declared.Sizes.{Sizes}
 use Rattle.area.specs.Layout.{listAt, vecFrom, facesIn}
-use Rattle.faces.specs.Chains.{sized}
+use Rattle.faces.specs.Using.{sized}
 use Rattle.cells.specs.Cells.{Draft, Drafts, drafts}
 use Rattle.cells.specs.declared.Drafted.{Drafted}
 use Rattle.cells.specs.declared.Drafted.the-variants.{Faces, Refused}

@@ -16,7 +16,8 @@ use Rattle.definitions.specs.declared.FaceCursor.{FaceCursor}
 use Rattle.area.specs.declared.Sizes.{Sizes}
 use Rattle.area.specs.Tables.{Face}
 use Rattle.area.specs.Layout.{LentWords, LentFloats, listAt, vecFrom, facesIn}
-use Rattle.faces.specs.Chains.{Chained, sized}
+use Rattle.face_table.specs.Chains.{Chained}
+use Rattle.faces.specs.Using.{sized}
 use Rattle.cells.specs.Cells.{Growing, addFaceOf, addCell, drafts}
 use Rattle.cells.specs.Drafting.{cellWord, draftsIn, Lists}
 use Rattle.cells.specs.declared.FacePlaced.{FacePlaced}

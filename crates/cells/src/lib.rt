@@ -6,10 +6,10 @@ use definitions::Cursor;
 use definitions::FaceCursor;
 use definitions::Head;
 use definitions::Step;
-use definitions::face_lists as records;
+use definitions::face_lists;
 use definitions::walker;
+use face_table::Measured;
 use faces::Added;
-use faces::Measured;
 use geometry::FaceGeometry;
 use geometry::TurnedFace;
 ghost use mathlib.Core.Path.{_≡_};
@@ -21,7 +21,8 @@ ghost use Rattle.casefile.specs.Trailer.{wordsIn};
 ghost use Rattle.definitions.specs.Faces.{Definition};
 ghost use Rattle.definitions.specs.Definitions.{definitions};
 ghost use Rattle.area.specs.Layout.{pointsIn};
-ghost use Rattle.faces.specs.Chains.{Chained, sized};
+ghost use Rattle.face_table.specs.Chains.{Chained};
+ghost use Rattle.faces.specs.Using.{sized};
 ghost use Rattle.cells.specs.Drafting.{Adding};
 ghost use Rattle.cells.specs.Steps.{Placeable, Placing, FaceReady, FaceAdding, FacesReady, FacesAdding, CellPut, CellReady, CellFilling, Addable, CellTurn, CellAdding};
 
@@ -126,7 +127,7 @@ fn add_face(
     ensures { λ r. ⌜ FaceAdding dimension (pointsIn (now (case .entry)) points) (wordsIn (now (ws .entry))) cell reference s (now (words .entry)) (now (words .exit)) (now (floats .entry)) (now (floats .exit)) h first c r ⌝ }
 {
     let mut vertices = [0u32; 8];
-    let copied = records::copy_face(ws, h, c, &mut vertices);
+    let copied = face_lists::copy_face(ws, h, c, &mut vertices);
     let count = copied.count;
     let placed = place_face(
         case,
@@ -168,7 +169,7 @@ fn add_faces(
     ensures { λ r. ⌜ FacesAdding dimension (pointsIn (now (case .entry)) points) (wordsIn (now (ws .entry))) cell reference s (now (words .entry)) (now (words .exit)) (now (floats .entry)) (now (floats .exit)) h first r ⌝ }
 {
     let mut n = s.faces;
-    let mut c = records::first_face(h);
+    let mut c = face_lists::first_face(h);
     while c.face < h.faces {
         let t = Sizes {
             slots: s.slots,

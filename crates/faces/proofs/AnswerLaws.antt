@@ -10,8 +10,8 @@ use Rattle.arith.specs.declared.Found.{Found}
 use Rattle.arith.specs.declared.Found.the-variants.{At, Nothing}
 use Rattle.area.specs.Tables.{Face, faceAt}
 use Rattle.keys.proofs.OrderLaws.{sorted-reverse}
+use Rattle.face_table.specs.declared.Measured.{Measured}
 use Rattle.faces.specs.Table.{hasKey, lookup, joining, settled, adding}
-use Rattle.faces.specs.declared.Measured.{Measured}
 use Rattle.faces.specs.declared.Added.{Added}
 use Rattle.faces.specs.declared.Added.the-variants.{New, Second, Third}
 

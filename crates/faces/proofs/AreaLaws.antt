@@ -15,13 +15,15 @@ use Rattle.area.specs.Tables.{Face, faceAt}
 use Rattle.area.specs.Layout.{facesIn, faceIn, meshWords, meshFloats, LentWords, LentFloats}
 use Rattle.area.specs.declared.Sizes.{Sizes}
 use Rattle.area.proofs.LayoutLaws.{face-in, length-listAt}
+use Rattle.face_table.specs.declared.Measured.{Measured}
+use Rattle.face_table.specs.Records.{bodyOf, bodyIn, measuredOf, measuredIn, faceOf, tableIn, headIn}
+use Rattle.face_table.specs.Chains.{last, Chains, Chained}
+use Rattle.face_table.proofs.RecordParts.{face-parts, read-count}
+use Rattle.face_table.proofs.ChainLaws.{chains-same}
 use Rattle.faces.specs.Table.{adding}
-use Rattle.faces.specs.declared.Measured.{Measured}
 use Rattle.faces.specs.declared.Added.{Added}
 use Rattle.faces.specs.declared.Added.the-variants.{New, Second, Third}
-use Rattle.faces.specs.Chains.{bodyOf, bodyIn, measuredOf, measuredIn, faceOf, tableIn, headIn, last, Chains, Chained, Ready, Settled, after, sized, Usable, Used, Cleared}
-use Rattle.faces.proofs.RecordParts.{face-parts, read-count}
-use Rattle.faces.proofs.ChainLaws.{chains-same}
+use Rattle.faces.specs.Using.{Ready, Settled, after, sized, Usable, Used, Cleared}
 use Rattle.faces.proofs.TableLaws.{table-at}
 
 -- ---- area's faces are the table's

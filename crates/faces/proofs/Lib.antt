@@ -1,6 +1,3 @@
-pub mod RecordParts
-pub mod Last
-pub mod ChainLaws
 pub mod TableLaws
 pub mod AreaLaws
 pub mod AnswerLaws

@@ -9,8 +9,8 @@ use Rattle.arith.specs.declared.Found.{Found}
 use Rattle.arith.specs.declared.Found.the-variants.{At, Nothing}
 use Rattle.area.specs.Tables.{Face, faceAt}
 use Rattle.reading.specs.Result.{refused}
+use Rattle.face_table.specs.declared.Measured.{Measured}
 use Rattle.faces.specs.Table.{hasKey, lookup, newFace, withNeighbour, joining, settled, adding, placed, addFace}
-use Rattle.faces.specs.declared.Measured.{Measured}
 use Rattle.faces.specs.declared.Added.the-variants.{New, Second, Third}
 
 computing : ℕ

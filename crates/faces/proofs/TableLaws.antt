@@ -23,12 +23,14 @@ use Rattle.area.specs.Layout.{found}
 use Rattle.area.proofs.LayoutLaws.{found-none, found-one}
 use Rattle.keys.specs.Keys.{total}
 use Rattle.keys.proofs.KeyLaws.{same-true, same-self}
+use Rattle.face_table.specs.declared.Measured.{Measured}
+use Rattle.face_table.specs.Records.{Body, bodyOf, bodyIn, measuredIn, faceOf, tableIn, headIn, fresh, joined, FaceStored, MeasuredStored}
+use Rattle.face_table.specs.Chains.{last, bucketOf, inBucket, keyAt, Chains}
+use Rattle.face_table.proofs.Last.{last-hit, last-miss, last-same, last-passes, last-none}
+use Rattle.face_table.proofs.ChainLaws.{Linked, chains-same}
 use Rattle.faces.specs.Table.{hasKey, lookup, newFace, withNeighbour, joining, settled, adding}
-use Rattle.faces.specs.declared.Measured.{Measured}
 use Rattle.faces.specs.declared.Added.the-variants.{New, Second, Third}
-use Rattle.faces.specs.Chains.{Body, bodyOf, bodyIn, measuredIn, faceOf, tableIn, headIn, fresh, joined, last, bucketOf, inBucket, keyAt, Chains, FaceStored, MeasuredStored, Ready, Kept, Extended, Settled}
-use Rattle.faces.proofs.Last.{last-hit, last-miss, last-same, last-passes, last-none}
-use Rattle.faces.proofs.ChainLaws.{Linked, chains-same}
+use Rattle.faces.specs.Using.{Ready, Kept, Extended, Settled}
 
 -- ---- what a store leaves
 

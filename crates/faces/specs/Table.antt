@@ -8,7 +8,7 @@ use Rattle.arith.specs.declared.Found.{Found}
 use Rattle.arith.specs.declared.Found.the-variants.{At, Nothing}
 use Rattle.area.specs.Tables.{Face, faceAt}
 use Rattle.reading.specs.Result.{Result, refused, fine}
-use Rattle.faces.specs.declared.Measured.{Measured}
+use Rattle.face_table.specs.declared.Measured.{Measured}
 use Rattle.faces.specs.declared.Added.{Added}
 use Rattle.faces.specs.declared.Added.the-variants.{New, Second, Third}
 

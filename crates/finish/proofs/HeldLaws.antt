@@ -14,7 +14,7 @@ use Rattle.definitions.specs.Definitions.{definitions}
 use Rattle.area.specs.declared.Sizes.{Sizes}
 use Rattle.area.specs.Layout.{vecFrom, faceIn, facesIn, cellsIn, meshWords, meshFloats, floatsEnd, LentWords, LentFloats}
 use Rattle.measure.specs.Records.{Points}
-use Rattle.faces.specs.Chains.{sized}
+use Rattle.faces.specs.Using.{sized}
 use Rattle.cells.specs.Cells.{Drafts, drafts}
 use Rattle.cells.specs.Drafting.{Held}
 use Rattle.finish.specs.declared.Finished.{Finished}

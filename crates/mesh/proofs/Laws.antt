@@ -42,7 +42,7 @@ use Rattle.definitions.proofs.RecordLaws.{DefinitionRead, definition-read}
 use Rattle.casefile.proofs.ReadLaws.{length-readAll}
 use Rattle.casefile.proofs.TrailerLaws.{Opens, opens}
 use Rattle.connection.specs.Neighbours.{Laid}
-use Rattle.faces.specs.Chains.{sized}
+use Rattle.faces.specs.Using.{sized}
 use Rattle.cells.specs.Cells.{Draft, Drafts, drafts}
 use Rattle.cells.specs.Drafting as cells
 use Rattle.cells.specs.Drafting.{draftIn, draftsIn, Lists, Held, Adding, added}

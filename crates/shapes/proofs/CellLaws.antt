@@ -15,7 +15,7 @@ use Rattle.area.specs.Tables.{Face, faceAt, noFace}
 use Rattle.definitions.specs.Faces.{Definition, facesOf}
 use Rattle.collect.specs.Collect.{wrongKind, referenceOf}
 use Rattle.geometry.specs.Faces.{enough}
-use Rattle.faces.specs.declared.Measured.{Measured}
+use Rattle.face_table.specs.declared.Measured.{Measured}
 use Rattle.faces.specs.Table.{Placed, addFace}
 use Rattle.cells.specs.Cells.{Growing, addFaceOf, measuredFrom, Draft, Drafts, addCell, drafts}
 use Rattle.shapes.specs.Shapes.{keyIn, Turned, Later, Placing, Naming, Named, FacesNamed, Limited}

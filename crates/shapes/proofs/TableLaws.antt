@@ -18,7 +18,7 @@ use Rattle.area.specs.Tables.{Face, faceAt, noFace}
 use Rattle.geometry.specs.Faces.{enough, faceAreaVector, Oriented, faceWith, measured, inward, turnedIf, orientedFace}
 use Rattle.keys.proofs.OrderLaws.{sorted-reverse}
 use Rattle.keys.proofs.KeyLaws.{same-true}
-use Rattle.faces.specs.declared.Measured.{Measured}
+use Rattle.face_table.specs.declared.Measured.{Measured}
 use Rattle.faces.specs.Table.{hasKey, lookup, newFace, withNeighbour, joining, settled, adding, Placed, placed, addFace}
 use Rattle.faces.proofs.AnswerLaws.{first-below}
 use Rattle.shapes.specs.Shapes.{keyIn, Turned, Later, Placing}

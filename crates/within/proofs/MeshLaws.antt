@@ -18,7 +18,7 @@ use Rattle.reading.specs.Result.{fine}
 use Rattle.reading.proofs.ResultLaws.{bound, not-due, length-mapAll, steps-keep}
 use Rattle.definitions.specs.Faces.{Definition}
 use Rattle.area.specs.Tables.{Face, Cell, Mesh, faceAt, noFace, cellAt, noCell}
-use Rattle.faces.specs.declared.Measured.{Measured}
+use Rattle.face_table.specs.declared.Measured.{Measured}
 use Rattle.faces.specs.Table.{lookup, newFace, withNeighbour, joining, settled, adding, Placed, placed, addFace}
 use Rattle.cells.specs.Cells.{Growing, addFaceOf, Drafts, addCell, drafts}
 use Rattle.connection.specs.Neighbours.{otherOf, beyond, addFound, addNeighbour, neighboursOf, linkedAt, linked}

@@ -1,0 +1,14 @@
+use Rattle.face_table.proofs.RecordParts.{areas}
+use borrow.Author.Needs.{needs}
+use Rattle.face_table.proofs.link_of.Statement.{statement}
+use Rattle.face_table.proofs.link_of.Tie as tie
+
+pub link-of-spec : {M : Type 1} → statement M
+link-of-spec =
+    tie.close
+    (tie.spec
+    (λ c. search (areas, needs))
+    (λ c. search (areas, needs))
+    (λ c. search (areas, needs))
+    (λ c. search (areas, needs))
+    (λ c. search (areas, needs)))

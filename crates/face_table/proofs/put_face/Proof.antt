@@ -1,0 +1,40 @@
+use Prim.Native.Nat.{ℕ, _≤_, _<_, _-_, _+_, _*_}
+use mathlib.Core.Path.{_≡_}
+use native.Mathlib.Omega.{arith}
+use lib.ListN.{length, take, drop, length-set}
+use Rattle.face_table.proofs.RecordParts.{records}
+use borrow.Author.Needs.{needs}
+use Rattle.face_table.proofs.put_face.Statement.{statement}
+use Rattle.face_table.proofs.put_face.Tie as tie
+
+abbrev Inv-loop : tie.InvT-loop
+Inv-loop r₀ vertices cell link j₀ r j = (j ≤ length vertices) × (length r ≡ 12) × (take j (drop 1 r) ≡ take j vertices)
+
+abbrev μ-loop : tie.MeasureT-loop
+μ-loop r₀ vertices cell link j₀ r j = length vertices - j
+
+same-length : tie.Need-same-length Inv-loop μ-loop
+same-length c = simp length-set (omega arith)
+
+pub put-face-spec : {M : Type 1} → statement M
+put-face-spec =
+    tie.close
+    (tie.spec
+    Inv-loop
+    μ-loop
+    (λ c. search (records, needs))
+    (λ c. search (records, needs))
+    (λ c. search (records, needs))
+    (λ c. search (records, needs))
+    (λ c. search (records, needs))
+    (λ c. search (records, needs))
+    (λ c. search (records, needs))
+    (λ c. search (records, needs))
+    (λ c. search (records, needs))
+    (λ c κs. search (records, needs))
+    (λ c. search (records, needs))
+    (λ c. search (records, needs))
+    (λ c. search (records, needs))
+    (λ c. search (records, needs))
+    same-length
+    (λ c. search (records, needs)))

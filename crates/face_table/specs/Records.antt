@@ -1,0 +1,83 @@
+-- The record of a face in the lent area, and what is stored there.
+use Prim.Native.Nat.{ℕ, _+_, _*_}
+use mathlib.Core.Path.{_≡_}
+use mathlib.Core.List.{List}
+use mathlib.Core.Logic.{_≢_}
+use lib.ListN.{length, getD, take, drop}
+use lib.Ieee.{Float, nan}
+use Rattle.arith.specs.Records.{tab, part, chunk}
+use Rattle.area.specs.Tables.{Face}
+use Rattle.area.specs.Layout.{vecFrom, found}
+use Rattle.face_table.specs.declared.Measured.{Measured}
+
+-- ---- one record
+
+-- the twelve words of a face
+pub record Body : Type 0 where
+  pub count : ℕ
+  pub vertices : List ℕ
+  pub owner : ℕ
+  pub other : ℕ
+  pub link : ℕ
+
+unfoldable pub bodyOf : List ℕ → Body
+bodyOf r =
+    record {
+      count = getD r 0 0;
+      vertices = take (getD r 0 0) (part r 1 8);
+      owner = getD r 9 0;
+      other = getD r 10 0;
+      link = getD r 11 0;
+    }
+
+unfoldable pub bodyIn : List ℕ → ℕ → Body
+bodyIn w f = bodyOf (chunk w 12 f)
+
+-- the twelve floats of a face, of which ten are used
+unfoldable pub measuredOf : List Float → Measured
+measuredOf r = record { centre = vecFrom r 0; area = getD r 3 nan; normal = vecFrom r 4; «area_vector» = vecFrom r 7 }
+
+unfoldable pub measuredIn : List Float → ℕ → Measured
+measuredIn fl f = measuredOf (chunk fl 12 f)
+
+-- the face that they hold
+unfoldable pub faceOf : Body → Measured → Face
+faceOf b m =
+    record {
+      vertices = b .vertices;
+      owner = b .owner;
+      neighbour = found (b .other);
+      centre = m .centre;
+      area = m .area;
+      normal = m .normal;
+      areaVector = m .«area_vector»;
+    }
+
+-- the first n faces
+unfoldable pub tableIn : List ℕ → List Float → ℕ → List Face
+tableIn w fl n = tab (λ f. faceOf (bodyIn w f) (measuredIn fl f)) n
+
+-- the head of bucket b, where there are F slots
+unfoldable pub headIn : List ℕ → ℕ → ℕ → ℕ
+headIn w slots b = getD w (12 * slots + b) 0
+
+-- a face of one cell, and the same face with a second one
+abbrev pub fresh : List ℕ → ℕ → ℕ → Body
+fresh vertices cell link = record { count = length vertices; vertices = vertices; owner = cell; other = 0; link = link }
+
+abbrev pub joined : Body → ℕ → Body
+joined b other = record { count = b .count; vertices = b .vertices; owner = b .owner; other = other; link = b .link }
+
+-- ---- a record stored
+
+-- the words of face f are now these; no other face's have changed, and nothing after them
+pub record FaceStored (w w′ : List ℕ) (f : ℕ) (body : Body) : Type 0 where
+  pub here : bodyIn w′ f ≡ body
+  pub others : (j : ℕ) → j ≢ f → bodyIn w′ j ≡ bodyIn w j
+  pub rest : drop (12 * f + 12) w′ ≡ drop (12 * f + 12) w
+
+-- the floats of face f alike
+pub record MeasuredStored (fl fl′ : List Float) (f : ℕ) (m : Measured) : Type 0 where
+  pub here : measuredIn fl′ f ≡ m
+  pub others : (j : ℕ) → j ≢ f → measuredIn fl′ j ≡ measuredIn fl j
+  pub rest : drop (12 * f + 12) fl′ ≡ drop (12 * f + 12) fl
