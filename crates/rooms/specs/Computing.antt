@@ -27,35 +27,22 @@ use Rattle.keys.specs.Keys.{total}
 use Rattle.geometry.specs.Answers.{vectorOf, faceOf}
 use Rattle.geometry.specs.Faces.{insertNew, rising as rising-2, addPoint, average, turnedEdge, addCross, vectorIn, areaVector, enough, longEnough, faceAreaVector, faceWith, measured, inward, turnedIf, orientedFace, leftOrder}
 use Rattle.volumes.specs.Geometry.{weightless, addPart, doubled, addTriangle, centre2D, sixth, addVolume, addTetrahedron, addFan, fanOf, addFace3D, centre3D, geometryIn, cellGeometry, cellOf}
-use Rattle.faces.specs.Chains.{bodyOf, bodyIn, measuredOf, measuredIn, faceOf as faceOf-2, tableIn, headIn, last}
+use Rattle.face_table.specs.Chains.{last}
+use Rattle.face_table.specs.Records.{bodyOf, bodyIn, measuredOf, measuredIn, faceOf as faceOf-2, tableIn, headIn}
 use Rattle.faces.specs.Table.{hasKey, lookup, newFace, withNeighbour, joining, settled, adding, placed, addFace}
 use Rattle.connection.specs.Connection.{someBelow, everyBelow, round as round-2, rounds, connectedBy, sidesAre, joins, share, connected, meets, connectedCells}
 use Rattle.connection.specs.Neighbours.{otherOf, beyond, addFound, addNeighbour, neighboursOf, linkedAt, linked}
 use Rattle.connection.specs.Search.{countBelow}
-use Rattle.measure.specs.Orientation.{behind, neighbourBehind, misplaced}
-use Rattle.measure.specs.Records.{facesAt, fansOf}
-use Rattle.collect.specs.Collect.{wrongKind, missing, referenceOf, insertBelow, numbersIn, checked, referenceCase}
-use Rattle.cells.specs.Cells.{measuredFrom, addFaceOf, addCell, drafts}
-use Rattle.cells.specs.Drafting.{draftIn, draftsIn}
-use Rattle.cells.specs.Steps.{read}
-use Rattle.finish.specs.Finish.{finished, finishedAs}
-use Rattle.finish.specs.Steps.{geometryAt, firstCells}
-use Rattle.mesh.specs.Case.{surveyOf, areaShort, meshOf, meshFrom}
-use Rattle.mesh.specs.Mesh.{joined, acceptable, completed, filled, fromCells}
-use Rattle.mesh.specs.Steps.{draftsHeld, acceptedAs}
+use Rattle.cutting_plane.specs.Cut.{widest, farthest, epsOf, tolerance, cutOf, height, near, below, above}
+use Rattle.cutting_plane.specs.Plane.{finiteAxes, notUnit, askew, invalid, remote, planeRefusal, normalOf, along}
+use Rattle.cutting_plane.specs.Work.{bare, cornerOf as cornerOf-2, signWith, noSigns, addSign, faceSigns, signsOf, mayMeet}
 use Rattle.bin_index.specs.Index.{inBin, poolIn, passed}
 use Rattle.inside.specs.Contains.{between, onLine, onEdge, contains}
 use Rattle.inside.specs.Extent.{limitsFrom, misses, endWithin, run, isLevel, crossingWithin, sideWithin, reach, sideless, widened, narrowest, unlimited, limitsOf}
 use Rattle.inside.specs.Vertices.{pairFrom, pairsFrom, sideFrom}
-use Rattle.cutting_plane.specs.Cut.{widest, farthest, epsOf, tolerance, cutOf, height, near, below, above}
-use Rattle.cutting_plane.specs.Plane.{finiteAxes, notUnit, askew, invalid, remote, planeRefusal, normalOf, along}
-use Rattle.cutting_plane.specs.Work.{bare, cornerOf as cornerOf-2, signWith, noSigns, addSign, faceSigns, signsOf, mayMeet}
 use Rattle.locate.specs.Bins.{binAlong, binFor, reaches, isListed}
 use Rattle.locate.specs.Layout.{countIn, polygonIn, binFrom, cellPolygonIn, cellPolygonsIn, fieldIn}
 use Rattle.locate.specs.Locate.{flat, holds, locateWhere, locate}
-use Rattle.velocity.specs.Velocity.{locateIn, centreOf, neighboursOf as neighboursOf-2, distance, nearerOf, blended, apart, beside, toward, velocityIn, velocityWhere, velocityAt, from, unit, directionAt}
-use Rattle.rk4.specs.RungeKutta.{weighed, fourth, third, second, rungeKutta}
-use Rattle.rk4.specs.Step.{hereIf, rk4Step, kept, step}
 use Rattle.crossings.specs.Crossings.{close, rises, parted, between as between-2, addEnd, addBetween, addMeeting, shared, onPlane, foreign, addSide, addFace as addFace-2, meetings}
 use Rattle.crossings.specs.Work.{pointIn, heldIn, sideAt, meetingOf}
 use Rattle.sections.specs.Intersect.{earlierOn, addArea, areaOf, middle, wide, pieceAbout, pieceOf, piecesFrom, intersect}
@@ -69,14 +56,28 @@ use Rattle.tallies.specs.Words.{sampleWords}
 use Rattle.samples.specs.Sampling.{before, onward, sample}
 use Rattle.samples.specs.Stream.{stream}
 use Rattle.planes.specs.Answers.{sectionWords, probeWords, sampled, sectionOf, statisticsOf, integralsOf, probeOf}
-use Rattle.planes.specs.Reply.{answeredOf, wordsOf as wordsOf-2, replied, goods, leftBy, statisticsEnd, integralsEnd, ended, lastWords, missing as missing-2}
+use Rattle.planes.specs.Reply.{answeredOf, wordsOf as wordsOf-2, replied, goods, leftBy, statisticsEnd, integralsEnd, ended, lastWords, missing}
 use Rattle.buffers.specs.Answer.{fitting, answerWords}
+use Rattle.measure.specs.Orientation.{behind, neighbourBehind, misplaced}
+use Rattle.measure.specs.Records.{facesAt, fansOf}
+use Rattle.collect.specs.Collect.{wrongKind, missing as missing-2, referenceOf, insertBelow, numbersIn, checked, referenceCase}
+use Rattle.cells.specs.Cells.{measuredFrom, addFaceOf, addCell, drafts}
+use Rattle.cells.specs.Drafting.{draftIn, draftsIn}
+use Rattle.cells.specs.Steps.{read}
+use Rattle.finish.specs.Finish.{finished, finishedAs}
+use Rattle.finish.specs.Steps.{geometryAt, firstCells}
+use Rattle.mesh.specs.Case.{surveyOf, areaShort, meshOf, meshFrom}
+use Rattle.mesh.specs.Mesh.{joined, acceptable, completed, filled, fromCells}
+use Rattle.mesh.specs.Steps.{draftsHeld, acceptedAs}
 use Rattle.polygons.specs.Bins.{listedIn, aspect, binCounts, areFlat, areMany}
 use Rattle.polygons.specs.Bounds.{boundless, widened as widened-2, boundsOf}
 use Rattle.polygons.specs.Corners.{alike, addCorner, addCorners, cornersOf, about, turnsAbout, polygonOf}
 use Rattle.polygons.specs.Field.{polygonsOf, gridFor, gridOf, fieldOf, builtGrid}
 use Rattle.polygons.specs.Layout.{polygonsIn, cornersIn}
 use Rattle.shapes.specs.Shapes.{keyIn}
+use Rattle.velocity.specs.Velocity.{locateIn, centreOf, neighboursOf as neighboursOf-2, distance, nearerOf, blended, apart, beside, toward, velocityIn, velocityWhere, velocityAt, from, unit, directionAt}
+use Rattle.rk4.specs.RungeKutta.{weighed, fourth, third, second, rungeKutta}
+use Rattle.rk4.specs.Step.{hereIf, rk4Step, kept, step}
 use Rattle.lines.specs.Answered.{tracedOf, readsOf, wordsOf as wordsOf-3}
 use Rattle.lines.specs.Line.{sign, signedStep, onward as onward-2, lineFrom, line, isLength, isSpeed, areGood, isNowhere, nowhere, lineWords, lineAnswer, integrate}
 use Rattle.lines.specs.Rake.{seedAt, seeds, linesWords, integrateRake}
@@ -93,5 +94,5 @@ use Rattle.job.specs.List.{isFlat, replyTo, serveAll}
 use Rattle.job.specs.Serving.{answerTo}
 
 unfoldable pub computing : Unit {0}
-unfolding add sub mul div lt le eq ofBits toBits ofInt round toUnsigned isNan neg size odd mag isqrt rounded root unitsOf leftward quarter slope angleOf precedes turnsBefore le32 le64 floatAt vecAt readAll finite abs signed fmin fmax clamp nearer within ceilℕ foldl any all count firstFrom only concat addNew insert sort sidesWith windows sides same sorted rising crosses evenOdd tab upTo angleAt earlier sortedPlaces placeIn plus minus opposite times over dot normSquared norm cross each3 done Named _>>=_ _>>=_-2 refuse steps mapAll refusalOf vecWords pointWords valuesWords pointsIn meshWords meshFloats listAt vecFrom found faceIn cellIn facesIn cellsIn meshIn pointAt faceAt cellAt blank outside cellsOf nought valuesIn valuesOf trailerWord countsOf wordsFrom fieldFrom pressuresFrom trailerFrom isDimension hasOffsets hasParts trailerRight overLimit opened openedCase wordsIn wordsOf places row cornerOf digitOf numbers counted faceLists made kinds definition definitions tetrahedron hexahedron prism pyramid ends picked facesOf faceCount addFaceCount facesCounted listed listAt-2 skipped sideEnd firstOf headOf cursorAt stepped stepAt walked walkedFaces readOf definitionAt faceAt-2 faceFrom nextFace total vectorOf faceOf insertNew rising-2 addPoint average turnedEdge addCross vectorIn areaVector enough longEnough faceAreaVector faceWith measured inward turnedIf orientedFace leftOrder weightless addPart doubled addTriangle centre2D sixth addVolume addTetrahedron addFan fanOf addFace3D centre3D geometryIn cellGeometry cellOf bodyOf bodyIn measuredOf measuredIn faceOf-2 tableIn headIn last hasKey lookup newFace withNeighbour joining settled adding placed addFace someBelow everyBelow round-2 rounds connectedBy sidesAre joins share connected meets connectedCells otherOf beyond addFound addNeighbour neighboursOf linkedAt linked countBelow behind neighbourBehind misplaced facesAt fansOf wrongKind missing referenceOf insertBelow numbersIn checked referenceCase measuredFrom addFaceOf addCell drafts draftIn draftsIn read finished finishedAs geometryAt firstCells surveyOf areaShort meshOf meshFrom joined acceptable completed filled fromCells draftsHeld acceptedAs inBin poolIn passed between onLine onEdge contains limitsFrom misses endWithin run isLevel crossingWithin sideWithin reach sideless widened narrowest unlimited limitsOf pairFrom pairsFrom sideFrom widest farthest epsOf tolerance cutOf height near below above finiteAxes notUnit askew invalid remote planeRefusal normalOf along bare cornerOf-2 signWith noSigns addSign faceSigns signsOf mayMeet binAlong binFor reaches isListed countIn polygonIn binFrom cellPolygonIn cellPolygonsIn fieldIn flat holds locateWhere locate locateIn centreOf neighboursOf-2 distance nearerOf blended apart beside toward velocityIn velocityWhere velocityAt from unit directionAt weighed fourth third second rungeKutta hereIf rk4Step kept step close rises parted between-2 addEnd addBetween addMeeting shared onPlane foreign addSide addFace-2 meetings pointIn heldIn sideAt meetingOf earlierOn addArea areaOf middle wide pieceAbout pieceOf piecesFrom intersect pieceIn verticesOf angleOn noIntegral weighing fit addIntegral finiteIntegral vacant integralWords integrals summedOf summingOf addSummed weighedOf weighingOf addWeighed addProbed addTo written usedOf sizeOf project covers firstOver off probe sound addVector vectorOf-2 measureOf scalarOf noSums including counted-2 summing addSample finiteSums empty fractionWords statisticsWords statistics sampleWords before onward sample stream sectionWords probeWords sampled sectionOf statisticsOf integralsOf probeOf answeredOf wordsOf-2 replied goods leftBy statisticsEnd integralsEnd ended lastWords missing-2 fitting answerWords listedIn aspect binCounts areFlat areMany boundless widened-2 boundsOf alike addCorner addCorners cornersOf about turnsAbout polygonOf polygonsOf gridFor gridOf fieldOf builtGrid polygonsIn cornersIn keyIn tracedOf readsOf wordsOf-3 sign signedStep onward-2 lineFrom line isLength isSpeed areGood isNowhere nowhere lineWords lineAnswer integrate seedAt seeds linesWords integrateRake Allowed bytesFrom wordBytes bytesOf wordsAt requestsIn number real point barring usedWords astray illFormed against direction options streamline rakeOf rake planeOf statistics-2 overPlane planar byCode requestOf roomFrom roomOf requestsWrong shortage prepared roomIn countsIn Servable shortAs Shortage leftUnder foundWords velocityWords decided serveFlat serveSolid serve jobOf outcome numberOf isFlat replyTo serveAll answerTo
+unfolding add sub mul div lt le eq ofBits toBits ofInt round toUnsigned isNan neg size odd mag isqrt rounded root unitsOf leftward quarter slope angleOf precedes turnsBefore le32 le64 floatAt vecAt readAll finite abs signed fmin fmax clamp nearer within ceilℕ foldl any all count firstFrom only concat addNew insert sort sidesWith windows sides same sorted rising crosses evenOdd tab upTo angleAt earlier sortedPlaces placeIn plus minus opposite times over dot normSquared norm cross each3 done Named _>>=_ _>>=_-2 refuse steps mapAll refusalOf vecWords pointWords valuesWords pointsIn meshWords meshFloats listAt vecFrom found faceIn cellIn facesIn cellsIn meshIn pointAt faceAt cellAt blank outside cellsOf nought valuesIn valuesOf trailerWord countsOf wordsFrom fieldFrom pressuresFrom trailerFrom isDimension hasOffsets hasParts trailerRight overLimit opened openedCase wordsIn wordsOf places row cornerOf digitOf numbers counted faceLists made kinds definition definitions tetrahedron hexahedron prism pyramid ends picked facesOf faceCount addFaceCount facesCounted listed listAt-2 skipped sideEnd firstOf headOf cursorAt stepped stepAt walked walkedFaces readOf definitionAt faceAt-2 faceFrom nextFace total vectorOf faceOf insertNew rising-2 addPoint average turnedEdge addCross vectorIn areaVector enough longEnough faceAreaVector faceWith measured inward turnedIf orientedFace leftOrder weightless addPart doubled addTriangle centre2D sixth addVolume addTetrahedron addFan fanOf addFace3D centre3D geometryIn cellGeometry cellOf last bodyOf bodyIn measuredOf measuredIn faceOf-2 tableIn headIn hasKey lookup newFace withNeighbour joining settled adding placed addFace someBelow everyBelow round-2 rounds connectedBy sidesAre joins share connected meets connectedCells otherOf beyond addFound addNeighbour neighboursOf linkedAt linked countBelow widest farthest epsOf tolerance cutOf height near below above finiteAxes notUnit askew invalid remote planeRefusal normalOf along bare cornerOf-2 signWith noSigns addSign faceSigns signsOf mayMeet inBin poolIn passed between onLine onEdge contains limitsFrom misses endWithin run isLevel crossingWithin sideWithin reach sideless widened narrowest unlimited limitsOf pairFrom pairsFrom sideFrom binAlong binFor reaches isListed countIn polygonIn binFrom cellPolygonIn cellPolygonsIn fieldIn flat holds locateWhere locate close rises parted between-2 addEnd addBetween addMeeting shared onPlane foreign addSide addFace-2 meetings pointIn heldIn sideAt meetingOf earlierOn addArea areaOf middle wide pieceAbout pieceOf piecesFrom intersect pieceIn verticesOf angleOn noIntegral weighing fit addIntegral finiteIntegral vacant integralWords integrals summedOf summingOf addSummed weighedOf weighingOf addWeighed addProbed addTo written usedOf sizeOf project covers firstOver off probe sound addVector vectorOf-2 measureOf scalarOf noSums including counted-2 summing addSample finiteSums empty fractionWords statisticsWords statistics sampleWords before onward sample stream sectionWords probeWords sampled sectionOf statisticsOf integralsOf probeOf answeredOf wordsOf-2 replied goods leftBy statisticsEnd integralsEnd ended lastWords missing fitting answerWords behind neighbourBehind misplaced facesAt fansOf wrongKind missing-2 referenceOf insertBelow numbersIn checked referenceCase measuredFrom addFaceOf addCell drafts draftIn draftsIn read finished finishedAs geometryAt firstCells surveyOf areaShort meshOf meshFrom joined acceptable completed filled fromCells draftsHeld acceptedAs listedIn aspect binCounts areFlat areMany boundless widened-2 boundsOf alike addCorner addCorners cornersOf about turnsAbout polygonOf polygonsOf gridFor gridOf fieldOf builtGrid polygonsIn cornersIn keyIn locateIn centreOf neighboursOf-2 distance nearerOf blended apart beside toward velocityIn velocityWhere velocityAt from unit directionAt weighed fourth third second rungeKutta hereIf rk4Step kept step tracedOf readsOf wordsOf-3 sign signedStep onward-2 lineFrom line isLength isSpeed areGood isNowhere nowhere lineWords lineAnswer integrate seedAt seeds linesWords integrateRake Allowed bytesFrom wordBytes bytesOf wordsAt requestsIn number real point barring usedWords astray illFormed against direction options streamline rakeOf rake planeOf statistics-2 overPlane planar byCode requestOf roomFrom roomOf requestsWrong shortage prepared roomIn countsIn Servable shortAs Shortage leftUnder foundWords velocityWords decided serveFlat serveSolid serve jobOf outcome numberOf isFlat replyTo serveAll answerTo
 computing = tt
