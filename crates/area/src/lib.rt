@@ -2,6 +2,7 @@
 // Each reads for every number: past the end it finds what the definition finds there.
 use arith::Found;
 use arith::Vec3;
+use arith::number::wide;
 ghost use mathlib.Core.Path.{_≡_};
 ghost use mathlib.Core.List.{List};
 ghost use Prim.Native.Nat.{ℕ, _+_, _*_, _≤_, _<_};
@@ -29,12 +30,6 @@ pub fn point_at(case: &[u8], points: usize, i: usize) -> Vec3
     } else {
         Vec3::new(0.0, 0.0, 0.0)
     }
-}
-
-fn wide(x: u32) -> usize
-    ensures { λ r. ⌜ (r ≡ x) × (r < 4294967296) ⌝ }
-{
-    x as usize
 }
 
 // Word i of the first `end`.

@@ -5,3 +5,4 @@ pub mod RecordLaws
 pub mod All
 pub mod SortLaws
 pub mod RootLaws
+pub mod RoundLaws

@@ -1,8 +1,9 @@
-// The arithmetic that mesh, lines and planes are written in: numbers in bytes, Rust's methods of
-// f64, vectors, and the order of angles with its sort.
+// The arithmetic that mesh, lines and planes are written in: numbers in bytes, counts, Rust's methods
+// of f64, vectors, and the order of angles with its sort.
 pub mod angles;
 pub mod bytes;
 pub mod float;
+pub mod number;
 pub mod sort;
 pub mod vector;
 

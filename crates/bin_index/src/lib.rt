@@ -1,22 +1,11 @@
 // An index of bins in the words of a work area: for each bin the chain of the cells that are listed in it, rising. From `base` on there
 // are n records of 8 words, which start with a cell's bins: first x and y, last x and y. The index stands behind them, where it fits.
+use arith::number::narrow;
+use arith::number::wide;
 ghost use mathlib.Core.Path.{_≡_};
 ghost use Prim.Native.Nat.{_+_, _*_, _≤_, _<_};
 ghost use lib.ListN.{length};
 ghost use Rattle.bin_index.specs.Index.{slotIn, flagIn, poolIn, PoolSet, FlagSet, Pushed, Chains, Ranged, within, Grown, Filled, Built};
-
-fn wide(x: u32) -> usize
-    ensures { λ r. ⌜ (r ≡ x) × (r < 4294967296) ⌝ }
-{
-    x as usize
-}
-
-fn narrow(x: usize) -> u32
-    requires { ⌜ x < 4294967296 ⌝ }
-    ensures { λ r. ⌜ r ≡ x ⌝ }
-{
-    x as u32
-}
 
 // Word k of cell i's record.
 fn slot(words: &[u32], base: usize, i: usize, k: usize) -> usize

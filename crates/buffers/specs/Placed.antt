@@ -19,7 +19,7 @@ pub record Placed (ws o o′ : List ℕ) (at later r : ℕ) : Type 0 where
   pub room : r + 2 * later ≤ length o
   pub long : length o′ ≡ length o
 
--- the answer that r tells of: its words, if they fit, stand from `at` on and end at e
+-- the answer that r tells of, 44 where it does not fit, stands from `at` on and ends at e
 abbrev pub Closes : Answered → List ℕ → List ℕ → ℕ → ℕ → ℕ → Type 0
 Closes r o o′ at later e =
     (reply : Result (List ℕ)) → r ≡ answeredOf reply → Behind reply o at → Placed (answerWords (fitting (length o - at) later reply)) o o′ at later e

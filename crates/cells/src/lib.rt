@@ -1,6 +1,7 @@
 // The first pass of from_cells: the face table and the cells as drafts, in the lent area.
 use area::Sizes;
 use arith::Vec3;
+use arith::number::narrow;
 use collect::Reference;
 use definitions::Cursor;
 use definitions::FaceCursor;
@@ -55,13 +56,6 @@ pub struct Progress {
 pub enum CellAdded {
     Next(Progress),
     Refused(u64),
-}
-
-fn narrow(x: usize) -> u32
-    requires { ⌜ x < 4294967296 ⌝ }
-    ensures { λ r. ⌜ r ≡ x ⌝ }
-{
-    x as u32
 }
 
 // ---- the faces of a cell

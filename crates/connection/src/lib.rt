@@ -1,6 +1,8 @@
 // The cells' neighbour lists, and whether the cells are connected, over the mesh in the lent work area.
 use area::Sizes;
 use arith::Found;
+use arith::number::narrow;
+use arith::number::wide;
 ghost use mathlib.Core.Path.{_≡_};
 ghost use mathlib.Core.Bool.{false};
 ghost use Prim.Native.Nat.{_+_, _*_, _≤_, _<_};
@@ -10,19 +12,6 @@ ghost use Rattle.arith.specs.Lists.{any};
 ghost use Rattle.area.specs.Layout.{listAt, wordsEnd, LentWords};
 ghost use Rattle.connection.specs.Neighbours.{firstIn, countIn, Laid, Linked};
 ghost use Rattle.connection.specs.Search.{Beyond, Added, Crossed, Written, Listed, visitedIn, queueIn, Cleared, Marked, Met, Searching, Connected};
-
-fn wide(x: u32) -> usize
-    ensures { λ r. ⌜ (r ≡ x) × (r < 4294967296) ⌝ }
-{
-    x as usize
-}
-
-fn narrow(x: usize) -> u32
-    requires { ⌜ x < 4294967296 ⌝ }
-    ensures { λ r. ⌜ r ≡ x ⌝ }
-{
-    x as u32
-}
 
 // The cell on the other side of face f, seen from one of its cells.
 fn beyond(words: &[u32], s: Sizes, cell: usize, f: usize) -> Found

@@ -5,6 +5,7 @@ use crate::held;
 use area::Sizes;
 use arith::Found;
 use arith::Vec3;
+use arith::number::next_of;
 use cutting_plane::Cut;
 use cutting_plane::heights;
 ghost use mathlib.Core.Path.{_≡_};
@@ -92,15 +93,6 @@ fn add_meeting(
         Meeting::Point(p) => held::add_new(cut, p, x, y, z, n),
         Meeting::None => n,
     }
-}
-
-// The number after i, of n in a round.
-fn next_of(i: usize, n: usize) -> usize
-    requires { ⌜ i < n ⌝ }
-    ensures { λ r. ⌜ r ≡ after n i ⌝ }
-{
-    let j = i + 1;
-    if j == n { 0 } else { j }
 }
 
 // Corner k of face f with its height.

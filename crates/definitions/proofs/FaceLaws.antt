@@ -11,6 +11,7 @@ use lib.Seq.{length-take-le, take-all, take-suc, take-at, set-at}
 use borrow.Author.Tests.{eqb-true, ltb-true, leb-true, eqb-false, eq-eqb}
 use Rattle.arith.specs.Lists.{Side, sides, after}
 use Rattle.arith.proofs.ListLaws.{left-at, length-sides, sides-at}
+use Rattle.arith.proofs.RoundLaws.{after-less}
 use Rattle.arith.proofs.RecordLaws.{getD-part}
 use Rattle.reading.specs.Result.{fine}
 use Rattle.definitions.specs.Faces.{Definition, polygon, solid, polyhedron, tetrahedron, hexahedron, prism, pyramid, ends, picked, facesOf, faceCount}
@@ -212,13 +213,6 @@ getD-map f [] k d e h = absurd (omega arith)
 getD-map f (a ∷ l) zero d e h = refl
 getD-map f (a ∷ l) (suc k) d e h = getD-map f l k d e (omega arith)
 
-pub after-small : (n k : ℕ) → k < n → after n k < n
-after-small n k h = by (eqb (k + 1) n) refl
-  where
-    by : (t : Bool) → eqb (k + 1) n ≡ t → cond t 0 (k + 1) < n
-    by true e = omega arith
-    by false e = omega (arith, eqb-false (k + 1) n e)
-
 -- point j of side k
 pub record PolygonFace (ws : List ℕ) (h : Head) (k : ℕ) : Type 0 where
   pub count : 2 ≡ length (faceAt ws (h .at) k)
@@ -241,7 +235,7 @@ polygon-face ws h k p b = record { count = rw same; number = number; room = λ i
     same : faceAt ws (h .at) k ≡ getD ws (h .first + k) 0 ∷ getD ws (h .first + after (h .faces) k) 0 ∷ []
     same =
         let i : k < length (sides l) = omega (arith, n, length-sides l) in
-        let a : after (h .faces) k < h .faces = after-small (h .faces) k b in
+        let a : after (h .faces) k < h .faces = after-less (h .faces) k b in
         rw (
           p .read,
           getD-map ends (sides l) k side [] i,

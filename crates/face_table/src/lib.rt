@@ -1,5 +1,7 @@
 // The records of the face table in the lent area, and a face found by the chain of its bucket.
 use arith::Vec3;
+use arith::number::narrow;
+use arith::number::wide;
 ghost use mathlib.Core.Path.{_≡_};
 ghost use Prim.Native.Nat.{_+_, _*_, _≤_, _<_};
 ghost use lib.ListN.{length, getD, set};
@@ -14,20 +16,6 @@ pub struct Measured {
     pub area: f64,
     pub normal: Vec3,
     pub area_vector: Vec3,
-}
-
-fn wide(x: u32) -> usize
-    ensures { λ r. ⌜ r ≡ x ⌝ }
-{
-    x as usize
-}
-
-// A number of 32 bits.
-pub fn narrow(x: usize) -> u32
-    requires { ⌜ x < 4294967296 ⌝ }
-    ensures { λ r. ⌜ r ≡ x ⌝ }
-{
-    x as u32
 }
 
 // ---- one record of 12 words, of 12 floats

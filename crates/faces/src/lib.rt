@@ -1,5 +1,6 @@
 // The use of a face by a cell, over the face table of `from_cells` in the lent area.
 use area::Sizes;
+use arith::number::narrow;
 use face_table::Measured;
 ghost use Rattle.area.specs.Layout.{LentWords};
 ghost use Rattle.faces.specs.Using.{Ready, Extended, Settled, Usable, Used, Cleared};
@@ -29,7 +30,7 @@ fn add(
     let b = keys::sum(vertices) % slots;
     let link = face_table::head_of(words, slots, b);
     face_table::store_face(words, n, vertices, cell, link);
-    face_table::store_head(words, slots, b, face_table::narrow(n) + 1);
+    face_table::store_head(words, slots, b, narrow(n) + 1);
     face_table::store_measured(floats, n, m);
 }
 
@@ -82,7 +83,7 @@ pub fn use_face(
         s.faces,
         vertices,
         m,
-        face_table::narrow(cell),
+        narrow(cell),
     )
 }
 

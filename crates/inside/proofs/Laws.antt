@@ -13,24 +13,10 @@ use Rattle.arith.specs.declared.Vec2.{Vec2}
 use Rattle.arith.specs.Lists.{Side, sides, after, count, any}
 use Rattle.arith.specs.Polygon.{crosses, evenOdd}
 use Rattle.arith.proofs.ListLaws.{count-next, any-here, any-next, length-sides, sides-at}
+use Rattle.arith.proofs.RoundLaws.{after-less, odd, odd-here, odd-past}
 use Rattle.arith.proofs.RecordLaws.{length-tab, getD-tab, drop-end}
 use Rattle.inside.specs.Contains.{onEdge, contains}
 use Rattle.inside.specs.Vertices.{pairFrom, pairsFrom, sideFrom}
-
--- ---- the number after i
-
-after-less : (n i : ℕ) → i < n → after n i < n
-after-less n i h = by (eqb (i + 1) n) refl
-  where
-    by : (b : Bool) → eqb (i + 1) n ≡ b → cond b 0 (i + 1) < n
-    by true e = omega arith
-    by false e = omega (arith, eqb-false (i + 1) n e)
-
-pub after-last : (n i : ℕ) → i + 1 ≡ n → 0 ≡ after n i
-after-last n i e = rw (eq-eqb (i + 1) n e)
-
-pub after-not : (n i : ℕ) → (i + 1 ≡ n → ⊥) → i + 1 ≡ after n i
-after-not n i e = rw (ne-eqb (i + 1) n e)
 
 -- ---- points in the area
 
@@ -43,17 +29,6 @@ unfolding pairsFrom
 pairs-at floats at n k d h = getD-tab (λ k. pairFrom floats (at + 2 * k)) n k d h
 
 -- ---- on a side among those to come, or an odd number of crossings, those so far and those to come
-
-unfoldable pub odd : Bool → ℕ → Bool
-odd inside k = eqb ((cond inside 1 0 + k) % 2) 1
-
-odd-here : (inside : Bool) (k : ℕ) → odd inside (1 + k) ≡ odd (not inside) k
-unfolding odd
-odd-here false k = let e : (0 + (1 + k)) % 2 ≡ (1 + k) % 2 = omega arith in ap (λ m. eqb m 1) e
-odd-here true k = let e : (1 + (1 + k)) % 2 ≡ (0 + k) % 2 = omega arith in ap (λ m. eqb m 1) e
-
-odd-past : (inside : Bool) (k : ℕ) → odd inside (0 + k) ≡ odd inside k
-odd-past inside k = rw (zero-add k)
 
 unfoldable pub rest : Vec2 → List (Side Vec2) → Bool → ℕ → Bool
 rest q l inside i = any (onEdge q) (drop i l) || odd inside (count (crosses q) (drop i l))

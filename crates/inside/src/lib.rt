@@ -3,6 +3,7 @@ pub mod extent;
 
 use arith::Vec2;
 use arith::float;
+use arith::number::next_of;
 ghost use mathlib.Core.Path.{_≡_};
 ghost use Prim.Native.Nat.{_+_, _*_, _<_, _≤_};
 ghost use lib.ListN.{length};
@@ -74,15 +75,6 @@ fn crosses(q: Vec2, a: Vec2, b: Vec2) -> bool
     ensures { λ r. ⌜ r ≡ Polygon.crosses q (record { from = a; to = b }) ⌝ }
 {
     (a.y > q.y) != (b.y > q.y) && q.x < (b.x - a.x) * (q.y - a.y) / (b.y - a.y) + a.x
-}
-
-// The number after i, of n in a round.
-fn next_of(i: usize, n: usize) -> usize
-    requires { ⌜ i < n ⌝ }
-    ensures { λ r. ⌜ (r ≡ after n i) × (r < n) ⌝ }
-{
-    let j = i + 1;
-    if j == n { 0 } else { j }
 }
 
 // Side i of the polygon of n vertices.

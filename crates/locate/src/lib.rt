@@ -5,6 +5,7 @@ use arith::Found;
 use arith::Vec2;
 use arith::Vec3;
 use arith::float;
+use arith::number::wide;
 use inside::extent;
 ghost use mathlib.Core.Path.{_≡_};
 ghost use Prim.Native.Nat.{_+_, _*_, _<_, _≤_};
@@ -60,12 +61,6 @@ pub fn bin_for(g: Grid, p: Vec2) -> Bin
         x: bin_along(g.bounds.left, g.bounds.right, g.bins.x, p.x),
         y: bin_along(g.bounds.bottom, g.bounds.top, g.bins.y, p.y),
     }
-}
-
-fn wide(x: u32) -> usize
-    ensures { λ r. ⌜ (r ≡ x) × (r < 4294967296) ⌝ }
-{
-    x as usize
 }
 
 // Where the words, and the floats, of cell i start.

@@ -14,39 +14,14 @@ use Rattle.arith.specs.Lists.{Side, sides, after, count}
 use Rattle.arith.specs.Records.{tab}
 use Rattle.arith.specs.Polygon.{crosses, evenOdd}
 use Rattle.arith.proofs.ListLaws.{count-next, length-sides, sides-at}
+use Rattle.arith.proofs.RoundLaws.{after-less, odd, odd-here, odd-past}
 use Rattle.arith.proofs.RecordLaws.{length-tab, getD-tab, drop-end}
 use Rattle.cutting_plane.specs.declared.Plane.{Plane}
 use Rattle.crossings.specs.Work.{heldIn, pointIn}
 use Rattle.sections.proofs.AngleLaws.{map-tab}
 use Rattle.tallies.specs.Probe.{project, covers}
 
--- ---- the number after i
-
-after-less : (n i : ℕ) → i < n → after n i < n
-after-less n i h = by (eqb (i + 1) n) refl
-  where
-    by : (b : Bool) → eqb (i + 1) n ≡ b → cond b 0 (i + 1) < n
-    by true e = omega arith
-    by false e = omega (arith, eqb-false (i + 1) n e)
-
-pub after-last : (n i : ℕ) → i + 1 ≡ n → 0 ≡ after n i
-after-last n i e = rw (eq-eqb (i + 1) n e)
-
-pub after-not : (n i : ℕ) → (i + 1 ≡ n → ⊥) → i + 1 ≡ after n i
-after-not n i e = rw (ne-eqb (i + 1) n e)
-
 -- ---- an odd number of crossings, those so far and those to come
-
-unfoldable pub odd : Bool → ℕ → Bool
-odd inside k = eqb ((cond inside 1 0 + k) % 2) 1
-
-odd-here : (inside : Bool) (k : ℕ) → odd inside (1 + k) ≡ odd (not inside) k
-unfolding odd
-odd-here false k = let e : (0 + (1 + k)) % 2 ≡ (1 + k) % 2 = omega arith in ap (λ m. eqb m 1) e
-odd-here true k = let e : (1 + (1 + k)) % 2 ≡ (0 + k) % 2 = omega arith in ap (λ m. eqb m 1) e
-
-odd-past : (inside : Bool) (k : ℕ) → odd inside (0 + k) ≡ odd inside k
-odd-past inside k = rw (zero-add k)
 
 module _ (s : Plane) (q : Vec2) (x y z : List Float) (n : ℕ) where
   abbrev pub corner : ℕ → Vec2

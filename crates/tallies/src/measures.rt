@@ -2,6 +2,7 @@
 use arith::Vec2;
 use arith::Vec3;
 use arith::float;
+use arith::number::next_of;
 use crossings::held;
 use cutting_plane::Plane;
 use reading::Values;
@@ -94,15 +95,6 @@ fn crosses(q: Vec2, a: Vec2, b: Vec2) -> bool
     ensures { λ r. ⌜ r ≡ Polygon.crosses q (record { from = a; to = b }) ⌝ }
 {
     (a.y > q.y) != (b.y > q.y) && q.x < (b.x - a.x) * (q.y - a.y) / (b.y - a.y) + a.x
-}
-
-// The number after i, of n in a round.
-fn next_of(i: usize, n: usize) -> usize
-    requires { ⌜ i < n ⌝ }
-    ensures { λ r. ⌜ (r ≡ after n i) × (r < n) ⌝ }
-{
-    let j = i + 1;
-    if j == n { 0 } else { j }
 }
 
 // The line from q to the right crosses side i of the n points' polygon.

@@ -4,7 +4,7 @@ use Rattle.inside.proofs.side_at.Statement.{statement}
 use Rattle.inside.proofs.side_at.Tie as tie
 use Rattle.inside.proofs.side_at.Reads as reads
 use Rattle.inside.proofs.side_at.Lts as lts
-use Rattle.inside.proofs.next_of.Reads as next-of-reads
+use Rattle.arith.proofs.number.next_of.Reads as next-of-reads
 use Rattle.inside.proofs.pair_at.Reads as pair-at-reads
 
 mul-pair-at : tie.Need-mul-pair-at

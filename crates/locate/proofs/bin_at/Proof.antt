@@ -4,7 +4,7 @@ use Rattle.locate.proofs.bin_at.Statement.{statement}
 use Rattle.locate.proofs.bin_at.Tie as tie
 use Rattle.locate.proofs.bin_at.Reads as reads
 use Rattle.locate.proofs.bin_at.Lts as lts
-use Rattle.locate.proofs.wide.Reads as wide-reads
+use Rattle.arith.proofs.number.wide.Reads as wide-reads
 
 mul-wide : tie.Need-mul-wide
 mul-wide c = search needs

@@ -1,8 +1,7 @@
-use mathlib.Core.Path.{sym}
 use borrow.Author.Tests.{eq-eqb, ne-eqb}
 use borrow.Author.Needs.{needs}
-use Rattle.geometry.proofs.next_of.Statement.{statement}
-use Rattle.geometry.proofs.next_of.Tie as tie
+use Rattle.arith.proofs.number.next_of.Statement.{statement}
+use Rattle.arith.proofs.number.next_of.Tie as tie
 
 returns : tie.Need-returns
 returns c = (rw (eq-eqb _ _ (c .if1 .taken)), search needs)
