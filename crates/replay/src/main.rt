@@ -11,8 +11,6 @@
 use job::Outcome;
 use libc::STDOUT_FILENO;
 use stored::fnv;
-ghost use Prim.Native.Nat.{_≤_, _<_};
-ghost use lib.ListN.{length};
 
 // The longest case: 65,537 points.
 const CASE: usize = 1_572_920;
@@ -94,17 +92,7 @@ fn show_refusal(shown: bool, k: u64, marks: &[u8], answers: &[u64], text: &mut [
     }
 }
 
-// The number of requests; more than 4,096 are refused.
-fn count_of(requests: &[u8]) -> usize
-    ensures { λ r. ⌜ r ≤ 4096 ⌝ }
-{
-    let n = requests.len() / 128;
-    if n < 4096 { n } else { 4096 }
-}
-
-fn show_done(shown: bool, count: usize, marks: &[u8], answers: &[u64], text: &mut [u8])
-    requires { ⌜ (count ≤ 4096) × (length (now marks) < 4294967296) × (length (now answers) < 4294967296) ⌝ }
-{
+fn show_done(shown: bool, count: usize, marks: &[u8], answers: &[u64], text: &mut [u8]) {
     io::write_all(STDOUT_FILENO, b"done");
     show_hashes(answers, marks);
     if shown {
@@ -123,14 +111,12 @@ fn show_job(
     marks: &mut [u8],
     answers: &mut [u64],
     text: &mut [u8],
-)
-    requires { ⌜ (length (now marks) < 4294967296) × (length (now answers) < 4294967296) ⌝ }
-{
+) {
     fill_answers(answers);
     fill_marks(marks);
     match job::job(case, requests, words, floats, marks, answers) {
         Outcome::Refused(k) => show_refusal(shown, k, marks, answers, text),
-        Outcome::Done => show_done(shown, count_of(requests), marks, answers, text),
+        Outcome::Done => show_done(shown, requests.len() / 128, marks, answers, text),
     }
 }
 

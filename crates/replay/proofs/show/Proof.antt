@@ -66,7 +66,7 @@ slice-aggregate-show-job-6 : tie.Need-slice-aggregate-show-job-6
 slice-aggregate-show-job-6 c = simp length-take (omega arith)
 
 show-job-requires : tie.Need-show-job-requires
-show-job-requires c κs = simp length-take (omega arith)
+show-job-requires c κs = search needs
 
 same-length : tie.Need-same-length
 same-length c = search needs
