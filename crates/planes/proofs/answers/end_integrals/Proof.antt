@@ -26,7 +26,7 @@ returns-2 : tie.Need-returns-2
 returns-2 c = integrals-put _ _ _ _ _ (c .before .before .before .before .before .before .before .r .given .1) (c .before .before .before .before .before .is-vacant .ensures) (c .before .before .before .before .if1 .left) (c .before .before .put-integrals .ensures)
 
 returns-3 : tie.Need-returns-3
-returns-3 c = integrals-none _ [] _ (c .enum-told .given .1)
+returns-3 c = integrals-none (c .before .before .before .args .answers .now) [] _ (c .enum-told .given .1)
 
 pub end-integrals-spec : {M : Type 1} → statement M
 end-integrals-spec =
