@@ -26,7 +26,6 @@ use Rattle.geometry.specs.declared.FaceGeometry.{FaceGeometry}
 use Rattle.geometry.specs.declared.TurnedFace.{TurnedFace}
 use Rattle.geometry.specs.declared.TurnedFace.the-variants as Turned
 use Rattle.collect.proofs.CollectLaws.{copied-next}
-use Rattle.face_table.specs.Chains.{Chained}
 use Rattle.face_table.specs.declared.Measured.{Measured}
 use Rattle.faces.specs.Table.{Placed, placed, addFace}
 use Rattle.faces.specs.Using.{sized, after, Usable, Used}
