@@ -174,7 +174,7 @@ head-ready w fl slots n s vertices cell rd =
 pub head-after : (w w₁ : List ℕ) (fl : List Float) (slots n s : ℕ) (vertices : List ℕ) (cell : ℕ) → Ready w fl slots n vertices cell → length w₁ ≡ length w → 12 * slots + s % slots < length w₁
 head-after w w₁ fl slots n s vertices cell rd long = rw long (head-ready w fl slots n s vertices cell rd)
 
-pub ruleset adds = (extended, head-ready, head-after)
+pub ruleset adds = (head-ready, head-after)
 
 -- ---- a second cell
 
@@ -323,5 +323,3 @@ module _ (w : List ℕ) (fl : List Float) (slots n : ℕ) (vertices : List ℕ) 
       let e : faceAt (tableIn w fl n) (at - 1) .neighbour ≡ At (bodyIn w (at - 1) .other - 1) =
       ap (λ (f : Face). f .neighbour) face-there ∙ sym (found-one (bodyIn w (at - 1) .other) (λ q. z (eo ∙ q))) in
       record { answer = rw (there, e); faces = rw (there, e); chains = rd .chains; kept = record { words = refl; floats = refl } }
-
-pub ruleset answers = (is-new, is-second, is-third)

@@ -1,7 +1,10 @@
-use Rattle.face_table.proofs.RecordParts.{areas}
+use Rattle.face_table.proofs.RecordParts.{areas, read-link}
 use borrow.Author.Needs.{needs}
 use Rattle.face_table.proofs.link_of.Statement.{statement}
 use Rattle.face_table.proofs.link_of.Tie as tie
+
+returns : tie.Need-returns
+returns c = read-link _ _
 
 pub link-of-spec : {M : Type 1} → statement M
 link-of-spec =
@@ -11,4 +14,4 @@ link-of-spec =
     (λ c. search (areas, needs))
     (λ c. search (areas, needs))
     (λ c. search (areas, needs))
-    (λ c. search (areas, needs)))
+    returns)

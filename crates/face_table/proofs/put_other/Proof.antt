@@ -1,7 +1,10 @@
-use Rattle.face_table.proofs.RecordParts.{records}
+use Rattle.face_table.proofs.RecordParts.{records, other-put}
 use borrow.Author.Needs.{needs}
 use Rattle.face_table.proofs.put_other.Statement.{statement}
 use Rattle.face_table.proofs.put_other.Tie as tie
+
+returns : tie.Need-returns
+returns c = other-put _ _ (c .pre)
 
 pub put-other-spec : {M : Type 1} → statement M
 put-other-spec =
@@ -9,4 +12,4 @@ put-other-spec =
     (tie.spec
     (λ c. search (records, needs))
     (λ c. search (records, needs))
-    (λ c. search (records, needs)))
+    returns)
