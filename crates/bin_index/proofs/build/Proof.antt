@@ -7,31 +7,24 @@ use Rattle.bin_index.proofs.build.Lts as lts
 use Rattle.bin_index.proofs.chain_all.Reads as chain-all-reads
 use Rattle.bin_index.proofs.set_flag.Reads as set-flag-reads
 
--- src/lib.rt:190:8
 chain-all-requires : tie.Need-chain-all-requires
 chain-all-requires c κs = search needs
 
--- src/lib.rt:191:9
 set-flag-requires : tie.Need-set-flag-requires
 set-flag-requires c κs = search needs
 
--- src/lib.rt:193:9
 set-flag-requires-2 : tie.Need-set-flag-requires-2
 set-flag-requires-2 c κs = search needs
 
--- src/lib.rt:185:1
 same-length : tie.Need-same-length
 same-length c = search needs
 
--- src/lib.rt:185:1
 returns : tie.Need-returns
 returns c = build-done-one _ _ _ _ _ _ _ _ (c .before .before .before .before .before .before .before .chain-all .ensures) (c .before .before .before .before .if1 .taken) (c .before .before .set-flag .ensures)
 
--- src/lib.rt:185:1
 same-length-2 : tie.Need-same-length-2
 same-length-2 c = search needs
 
--- src/lib.rt:185:1
 returns-2 : tie.Need-returns-2
 returns-2 c = build-done-zero _ _ _ _ _ _ _ _ (c .before .before .before .before .before .before .before .chain-all .ensures) (c .before .before .set-flag2 .ensures)
 

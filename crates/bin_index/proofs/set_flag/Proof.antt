@@ -5,27 +5,21 @@ use Rattle.bin_index.proofs.set_flag.Tie as tie
 use Rattle.bin_index.proofs.set_flag.Reads as reads
 use Rattle.bin_index.proofs.set_flag.Lts as lts
 
--- src/lib.rt:56:18
 mul-words : tie.Need-mul-words
 mul-words c = search needs
 
--- src/lib.rt:56:11
 add-words : tie.Need-add-words
 add-words c = search needs
 
--- src/lib.rt:56:5
 mul-words-2 : tie.Need-mul-words-2
 mul-words-2 c = search needs
 
--- src/lib.rt:56:5
 slice-write-words : tie.Need-slice-write-words
 slice-write-words c = search needs
 
--- src/lib.rt:52:1
 same-length : tie.Need-same-length
 same-length c = search needs
 
--- src/lib.rt:52:1
 returns : tie.Need-returns
 returns c = search (pools, needs)
 

@@ -8,20 +8,16 @@ use Rattle.inside.proofs.between.Lts as lts
 use Rattle.arith.proofs.float.max.Reads as max-reads
 use Rattle.arith.proofs.float.min.Reads as min-reads
 
--- src/inside.rt:27:13
 min-requires : tie.Need-min-requires
 min-requires c κs = search needs
 
--- src/inside.rt:28:14
 max-requires : tie.Need-max-requires
 max-requires c κs = search needs
 
--- src/inside.rt:24:1
 returns : tie.Need-returns
 unfolding between
 returns c = rw (c .max .ensures, sym (c .before .before .min .ensures), c .before .if1 .taken)
 
--- src/inside.rt:24:1
 returns-2 : tie.Need-returns-2
 unfolding between
 returns-2 c = rw (sym (c .before .min .ensures), c .if1 .left)

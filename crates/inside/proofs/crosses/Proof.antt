@@ -4,12 +4,10 @@ use Rattle.inside.proofs.crosses.Tie as tie
 use Rattle.inside.proofs.crosses.Reads as reads
 use Rattle.inside.proofs.crosses.Lts as lts
 
--- src/inside.rt:57:1
 returns : tie.Need-returns
 unfolding crosses
 returns c = rw (c .before .before .before .before .before .before .before .before .if1 .taken)
 
--- src/inside.rt:57:1
 returns-2 : tie.Need-returns-2
 unfolding crosses
 returns-2 c = rw (c .if1 .left)

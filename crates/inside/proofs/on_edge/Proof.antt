@@ -8,29 +8,23 @@ use Rattle.inside.proofs.on_edge.Lts as lts
 use Rattle.inside.proofs.between.Reads as between-reads
 use Rattle.inside.proofs.on_line.Reads as on-line-reads
 
--- src/inside.rt:45:8
 on-line-requires : tie.Need-on-line-requires
 on-line-requires c κs = search needs
 
--- src/inside.rt:46:12
 between-requires : tie.Need-between-requires
 between-requires c κs = search needs
 
--- src/inside.rt:47:13
 between-requires-2 : tie.Need-between-requires-2
 between-requires-2 c κs = search needs
 
--- src/inside.rt:42:1
 returns : tie.Need-returns
 unfolding onEdge
 returns c = rw (sym (c .before .before .before .before .on-line .ensures) ∙ c .before .before .before .if1 .taken, sym (c .before .before .between .ensures) ∙ c .before .if2 .taken) (c .between2 .ensures)
 
--- src/inside.rt:42:1
 returns-2 : tie.Need-returns-2
 unfolding onEdge
 returns-2 c = rw (sym (c .before .before .before .on-line .ensures) ∙ c .before .before .if1 .taken, sym (c .before .between .ensures) ∙ c .if2 .left)
 
--- src/inside.rt:42:1
 returns-3 : tie.Need-returns-3
 unfolding onEdge
 returns-3 c = rw (sym (c .before .on-line .ensures) ∙ c .if1 .left)

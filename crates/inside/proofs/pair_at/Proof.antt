@@ -6,27 +6,21 @@ use Rattle.inside.proofs.pair_at.Tie as tie
 use Rattle.inside.proofs.pair_at.Reads as reads
 use Rattle.inside.proofs.pair_at.Lts as lts
 
--- src/inside.rt:18:12
 mul-t3 : tie.Need-mul-t3
 mul-t3 c = search needs
 
--- src/inside.rt:18:12
 shared-slice-read-t5 : tie.Need-shared-slice-read-t5
 shared-slice-read-t5 c = search needs
 
--- src/inside.rt:19:19
 add-t6 : tie.Need-add-t6
 add-t6 c = search needs
 
--- src/inside.rt:19:12
 mul-t7 : tie.Need-mul-t7
 mul-t7 c = search needs
 
--- src/inside.rt:19:12
 shared-slice-read-t9 : tie.Need-shared-slice-read-t9
 shared-slice-read-t9 c = search needs
 
--- src/inside.rt:13:1
 returns : tie.Need-returns
 unfolding pairFrom
 returns c = refl

@@ -9,34 +9,27 @@ use Rattle.lines.proofs.integrate.are_good.Lts as lts
 use Rattle.lines.proofs.integrate.is_length.Reads as is-length-reads
 use Rattle.lines.proofs.integrate.is_speed.Reads as is-speed-reads
 
--- src/integrate.rt:41:8
 is-length-requires : tie.Need-is-length-requires
 is-length-requires c κs = search needs
 
--- src/integrate.rt:43:16
 is-length-requires-2 : tie.Need-is-length-requires-2
 is-length-requires-2 c κs = search needs
 
--- src/integrate.rt:44:17
 is-speed-requires : tie.Need-is-speed-requires
 is-speed-requires c κs = search needs
 
--- src/integrate.rt:44:17
 returns : tie.Need-returns
 unfolding areGood
 returns c = c .is-speed .ensures ∙ rw (sym (c .before .before .before .before .before .before .is-length .ensures) ∙ c .before .before .before .before .before .if1 .taken, lt-ltb _ _ (c .before .before .before .if2 .taken), sym (c .before .before .is-length2 .ensures) ∙ c .before .if3 .taken)
 
--- src/integrate.rt:38:1
 returns-2 : tie.Need-returns-2
 unfolding areGood
 returns-2 c = rw (sym (c .before .before .before .before .before .is-length .ensures) ∙ c .before .before .before .before .if1 .taken, lt-ltb _ _ (c .before .before .if2 .taken), sym (c .before .is-length2 .ensures) ∙ c .if3 .left)
 
--- src/integrate.rt:38:1
 returns-3 : tie.Need-returns-3
 unfolding areGood
 returns-3 c = rw (sym (c .before .before .before .is-length .ensures) ∙ c .before .before .if1 .taken, le-ltb _ _ (c .if2 .left))
 
--- src/integrate.rt:38:1
 returns-4 : tie.Need-returns-4
 unfolding areGood
 returns-4 c = rw (sym (c .before .is-length .ensures) ∙ c .if1 .left)

@@ -9,37 +9,29 @@ use Rattle.lines.proofs.integrate.are_good.Reads as are-good-reads
 use Rattle.lines.proofs.integrate.is_nowhere.Reads as is-nowhere-reads
 use Rattle.lines.proofs.line.trace.Reads as trace-reads
 
--- src/integrate.rt:80:8
 are-good-requires : tie.Need-are-good-requires
 are-good-requires c κs = search needs
 
--- src/integrate.rt:81:12
 is-nowhere-requires : tie.Need-is-nowhere-requires
 is-nowhere-requires c κs = search needs
 
--- src/integrate.rt:82:13
 returns : tie.Need-returns
 unfolding integrate
 returns c = answered-refused 35 (is-lost _ _ (c .before .before .before .are-good .ensures) (c .before .before .if1 .taken) (c .before .is-nowhere .ensures) (c .if2 .taken))
 
--- src/integrate.rt:84:13
 trace-requires : tie.Need-trace-requires
 trace-requires c κs = search needs
 
--- src/integrate.rt:85:9
 same-length : tie.Need-same-length
 same-length c = search needs
 
--- src/integrate.rt:85:9
 same-length-2 : tie.Need-same-length-2
 same-length-2 c = search needs
 
--- src/integrate.rt:85:9
 returns-2 : tie.Need-returns-2
 unfolding integrate
 returns-2 c = answered-fine _ (is-fine _ _ (c .before .before .before .before .before .before .before .before .before .before .are-good .ensures) (c .before .before .before .before .before .before .before .before .before .if1 .taken) (c .before .before .before .before .before .before .before .before .is-nowhere .ensures) (c .before .before .before .before .before .before .before .if2 .left)) (c .before .before .before .before .trace .ensures .0)
 
--- src/integrate.rt:63:1
 returns-3 : tie.Need-returns-3
 unfolding integrate
 returns-3 c = answered-refused 34 (not-good _ _ (c .before .are-good .ensures) (c .if1 .left))

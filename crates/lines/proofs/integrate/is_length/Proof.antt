@@ -7,16 +7,13 @@ use Rattle.lines.proofs.integrate.is_length.Reads as reads
 use Rattle.lines.proofs.integrate.is_length.Lts as lts
 use Rattle.arith.proofs.float.is_finite.Reads as is-finite-reads
 
--- src/integrate.rt:27:8
 is-finite-requires : tie.Need-is-finite-requires
 is-finite-requires c κs = search needs
 
--- src/integrate.rt:24:1
 returns : tie.Need-returns
 unfolding isLength
 returns c = rw (sym (c .before .is-finite .ensures) ∙ c .if1 .taken)
 
--- src/integrate.rt:24:1
 returns-2 : tie.Need-returns-2
 unfolding isLength
 returns-2 c = rw (sym (c .before .is-finite .ensures) ∙ c .if1 .left)

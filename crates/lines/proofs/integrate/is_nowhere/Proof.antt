@@ -6,23 +6,18 @@ use Rattle.lines.proofs.integrate.is_nowhere.Reads as reads
 use Rattle.lines.proofs.integrate.is_nowhere.Lts as lts
 use Rattle.locate.proofs.locate_cell.Reads as locate-cell-reads
 
--- src/integrate.rt:56:11
 locate-cell-requires : tie.Need-locate-cell-requires
 locate-cell-requires c κs = search needs
 
--- src/integrate.rt:57:25
 enum-told : tie.Need-enum-told
 enum-told c = search needs
 
--- src/integrate.rt:58:27
 enum-told-2 : tie.Need-enum-told-2
 enum-told-2 c = search needs
 
--- src/integrate.rt:52:1
 returns : tie.Need-returns
 returns c = nowhere-not _ _ _ _ _ _ (c .before .before .locate-cell .ensures) _ (c .enum-told .given .1)
 
--- src/integrate.rt:52:1
 returns-2 : tie.Need-returns-2
 returns-2 c = nowhere-so _ _ _ _ _ _ (c .before .before .locate-cell .ensures) (c .enum-told2 .given .1)
 

@@ -26,68 +26,52 @@ Inv-loop case n words floats s g marks₀ out₀ at h options most total₀ p₀
 abbrev μ-loop : tie.MeasureT-loop
 μ-loop case n words floats s g marks₀ out₀ at h options most total₀ p₀ k₀ marks out total p k = most - k
 
--- src/line.rt:51:5
 loop-holds : tie.Need-loop-holds Inv-loop μ-loop
 unfolding pointWords
 loop-holds c = record { done = []; count = refl; below = omega arith; kept = refl; as-long = refl; written = refl; going = begun _ _ _ _ _ _ }
 
--- src/line.rt:52:13
 line-step-requires : tie.Need-line-step-requires Inv-loop μ-loop
 line-step-requires c κs = search needs
 
--- src/line.rt:55:17
 enum-told : tie.Need-enum-told Inv-loop μ-loop
 enum-told c = search needs
 
--- src/line.rt:55:17
 same-length : tie.Need-same-length Inv-loop μ-loop
 same-length c = search needs
 
--- src/line.rt:55:17
 same-length-2 : tie.Need-same-length-2 Inv-loop μ-loop
 same-length-2 c = search needs
 
--- src/line.rt:55:17
 returns : tie.Need-returns Inv-loop μ-loop
 returns c = let i = c .before .before .before .before .before .before .before .loop .inv in (drawn (ended (i .done) (rw (c .enum-told .given .1) at (turned _ _ _ (i .done) _ _ _ _ (c .before .before .before .before .before .before .loop-test .taken) (i .going) (c .before .before .before .before .line-step .ensures)))) (i .written) (i .count), i .below)
 
--- src/line.rt:57:24
 enum-known-next : tie.Need-enum-known-next Inv-loop μ-loop
 enum-known-next c = search needs
 
--- src/line.rt:58:37
 mul-put-vec : tie.Need-mul-put-vec Inv-loop μ-loop
 mul-put-vec c = search needs
 
--- src/line.rt:58:32
 add-put-vec : tie.Need-add-put-vec Inv-loop μ-loop
 add-put-vec c = search needs
 
--- src/line.rt:58:17
 put-vec-requires : tie.Need-put-vec-requires Inv-loop μ-loop
 put-vec-requires c κs = search needs
 
--- src/line.rt:63:13
 add-k : tie.Need-add-k Inv-loop μ-loop
 add-k c = search needs
 
--- src/line.rt:51:5
 loop-less : tie.Need-loop-less Inv-loop μ-loop
 loop-less c = search needs
 
--- src/line.rt:51:5
 loop-again : tie.Need-loop-again Inv-loop μ-loop
 loop-again c = let i = c .before .before .before .before .before .before .before .before .before .before .before .before .loop .inv in let x = c .before .before .before .before .before .next .given in record { done = i .done ++ x .0 .0 ∷ []; count = rw length-append (omega arith); below = omega arith; kept = omega arith; as-long = omega arith; written = points-more _ _ _ (i .done) (x .0 .0) _ _ (i .count) (i .written) (c .before .before .put-vec .ensures); going = rw (x .1) at (turned _ _ _ (i .done) _ _ _ _ (c .before .before .before .before .before .before .before .before .before .before .before .loop-test .taken) (i .going) (c .before .before .before .before .before .before .before .before .before .line-step .ensures)) }
 
--- src/line.rt:42:1
 same-length-3 : tie.Need-same-length-3 Inv-loop μ-loop
 same-length-3 c = search needs
 
--- src/line.rt:42:1
 same-length-4 : tie.Need-same-length-4 Inv-loop μ-loop
 same-length-4 c = search needs
 
--- src/line.rt:42:1
 returns-2 : tie.Need-returns-2 Inv-loop μ-loop
 returns-2 c = let i = c .before .loop .inv in (drawn (finished _ _ _ (i .done) _ _ _ (omega arith) (i .going)) (i .written) (i .count), i .below)
 

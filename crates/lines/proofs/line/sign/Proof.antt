@@ -6,20 +6,16 @@ use Rattle.lines.proofs.line.sign.Tie as tie
 use Rattle.lines.proofs.line.sign.Reads as reads
 use Rattle.lines.proofs.line.sign.Lts as lts
 
--- src/line.rt:73:41
 enum-told : tie.Need-enum-told
 enum-told c = search needs
 
--- src/line.rt:74:42
 enum-told-2 : tie.Need-enum-told-2
 enum-told-2 c = search needs
 
--- src/line.rt:69:1
 returns : tie.Need-returns
 unfolding sign ofBits neg
 returns c = rw (c .enum-told .given .1)
 
--- src/line.rt:69:1
 returns-2 : tie.Need-returns-2
 unfolding sign ofBits neg
 returns-2 c = rw (c .enum-told2 .given .1)

@@ -9,51 +9,39 @@ use Rattle.lines.proofs.line.trace.Lts as lts
 use Rattle.lines.proofs.line.points_after.Reads as points-after-reads
 use Rattle.lines.proofs.line.sign.Reads as sign-reads
 
--- src/line.rt:84:33
 sign-requires : tie.Need-sign-requires
 sign-requires c κs = search needs
 
--- src/line.rt:85:20
 add-put-vec : tie.Need-add-put-vec
 add-put-vec c = search needs
 
--- src/line.rt:85:5
 put-vec-requires : tie.Need-put-vec-requires
 put-vec-requires c κs = search needs
 
--- src/line.rt:86:72
 add-points-after : tie.Need-add-points-after
 add-points-after c = search needs
 
--- src/line.rt:86:9
 points-after-requires : tie.Need-points-after-requires
 points-after-requires c κs = (c .before .before .before .before .before .before .before .before .before .before .before .before .before .pre .0, omega (arith, c .before .before .before .before .before .before .before .before .before .before .before .before .before .pre .1))
 
--- src/line.rt:87:19
 add-put : tie.Need-add-put
 add-put c = omega (arith, c .before .before .before .before .before .points-after .ensures .1, c .before .before .before .before .before .before .before .before .before .before .before .before .before .before .before .before .before .before .before .pre .1)
 
--- src/line.rt:87:5
 put-requires : tie.Need-put-requires
 put-requires c κs = search needs
 
--- src/line.rt:88:5
 mul-result : tie.Need-mul-result
 mul-result c = omega (arith, c .before .before .before .before .before .before .before .before .points-after .ensures .1, c .before .before .before .before .before .before .before .before .before .before .before .before .before .before .before .before .before .before .before .before .before .before .pre .1)
 
--- src/line.rt:88:5
 add-result : tie.Need-add-result
 add-result c = omega (arith, c .before .before .before .before .before .before .before .before .points-after .ensures .1, c .before .before .before .before .before .before .before .before .before .before .before .before .before .before .before .before .before .before .before .before .before .before .pre .1)
 
--- src/line.rt:79:1
 same-length : tie.Need-same-length
 same-length c = search needs
 
--- src/line.rt:79:1
 same-length-2 : tie.Need-same-length-2
 same-length-2 c = search needs
 
--- src/line.rt:79:1
 returns : tie.Need-returns
 unfolding signedStep
 returns c = (traced _ _ _ _ _ _ _ _ _ _ _ _ _ _ (rw (c .before .before .before .before .before .before .before .before .before .before .before .before .before .before .before .before .sign .ensures)) (c .before .before .before .before .before .before .before .before .before .before .before .before .before .put-vec .ensures) (c .before .before .before .before .before .before .before .before .points-after .ensures .0) (c .before .before .put .ensures), omega (arith, c .before .before .before .before .before .before .before .before .points-after .ensures .1, c .before .before .before .before .before .before .before .before .before .before .before .before .before .before .before .before .before .before .before .before .before .before .pre .1))

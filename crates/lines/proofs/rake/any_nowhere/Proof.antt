@@ -20,35 +20,27 @@ Inv-loop words floats s g start end count i₀ i = (i ≤ count) × (any (nowher
 abbrev μ-loop : tie.MeasureT-loop
 μ-loop words floats s g start end count i₀ i = count - i
 
--- src/rake.rt:47:5
 loop-holds : tie.Need-loop-holds Inv-loop μ-loop
 loop-holds c = search needs
 
--- src/rake.rt:48:55
 seed-at-requires : tie.Need-seed-at-requires Inv-loop μ-loop
 seed-at-requires c κs = search needs
 
--- src/rake.rt:48:12
 is-nowhere-requires : tie.Need-is-nowhere-requires Inv-loop μ-loop
 is-nowhere-requires c κs = search needs
 
--- src/rake.rt:49:13
 returns : tie.Need-returns Inv-loop μ-loop
 returns c = seed-lost _ _ _ _ _ _ (c .before .before .before .before .loop .inv .1) _ _ (c .before .before .before .loop-test .taken) (c .before .before .seed-at .ensures) (c .before .is-nowhere .ensures) (c .if1 .taken)
 
--- src/rake.rt:51:9
 add-i : tie.Need-add-i Inv-loop μ-loop
 add-i c = search needs
 
--- src/rake.rt:47:5
 loop-less : tie.Need-loop-less Inv-loop μ-loop
 loop-less c = search needs
 
--- src/rake.rt:47:5
 loop-again : tie.Need-loop-again Inv-loop μ-loop
 loop-again c = (search needs, seed-found _ _ _ _ _ _ (c .before .before .before .before .loop .inv .1) _ _ (c .before .before .before .loop-test .taken) (c .before .before .seed-at .ensures) (c .before .is-nowhere .ensures) (c .if1 .left))
 
--- src/rake.rt:33:1
 returns-2 : tie.Need-returns-2 Inv-loop μ-loop
 returns-2 c = all-found _ _ _ _ _ _ (c .before .loop .inv .1) (c .loop-test .left)
 

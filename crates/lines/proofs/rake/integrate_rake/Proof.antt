@@ -9,45 +9,35 @@ use Rattle.lines.proofs.integrate.are_good.Reads as are-good-reads
 use Rattle.lines.proofs.rake.any_nowhere.Reads as any-nowhere-reads
 use Rattle.lines.proofs.rake.trace_all.Reads as trace-all-reads
 
--- src/rake.rt:120:8
 are-good-requires : tie.Need-are-good-requires
 are-good-requires c κs = search needs
 
--- src/rake.rt:121:12
 any-nowhere-requires : tie.Need-any-nowhere-requires
 any-nowhere-requires c κs = search needs
 
--- src/rake.rt:122:13
 returns : tie.Need-returns
 unfolding integrateRake
 returns c = answered-refused 35 (is-lost _ _ (c .before .before .before .are-good .ensures) (c .before .before .if1 .taken) (c .before .any-nowhere .ensures) (c .if2 .taken))
 
--- src/rake.rt:124:13
 trace-all-requires : tie.Need-trace-all-requires
 trace-all-requires c κs = search needs
 
--- src/rake.rt:139:9
 put-requires : tie.Need-put-requires
 put-requires c κs = search needs
 
--- src/rake.rt:140:30
 add-t25 : tie.Need-add-t25
 add-t25 c = search needs
 
--- src/rake.rt:140:9
 same-length : tie.Need-same-length
 same-length c = search needs
 
--- src/rake.rt:140:9
 same-length-2 : tie.Need-same-length-2
 same-length-2 c = search needs
 
--- src/rake.rt:140:9
 returns-2 : tie.Need-returns-2
 unfolding integrateRake
 returns-2 c = answered-fine _ (is-fine _ _ (c .before .before .before .before .before .before .before .before .before .before .before .before .before .before .are-good .ensures) (c .before .before .before .before .before .before .before .before .before .before .before .before .before .if1 .taken) (c .before .before .before .before .before .before .before .before .before .before .before .before .any-nowhere .ensures) (c .before .before .before .before .before .before .before .before .before .before .before .if2 .left)) (rake-written _ _ _ _ _ _ (c .before .before .before .before .before .before .before .before .trace-all .ensures .0) (c .before .before .put .ensures))
 
--- src/rake.rt:101:1
 returns-3 : tie.Need-returns-3
 unfolding integrateRake
 returns-3 c = answered-refused 34 (not-good _ _ (c .before .are-good .ensures) (c .if1 .left))

@@ -10,31 +10,24 @@ use Rattle.arith.proofs.Vec3.add.Reads as add-reads
 use Rattle.arith.proofs.Vec3.scale.Reads as scale-reads
 use Rattle.arith.proofs.Vec3.sub.Reads as sub-reads
 
--- src/rake.rt:28:14
 int-to-float-t : tie.Need-int-to-float-t
 int-to-float-t c = whole-in _ (omega arith)
 
--- src/rake.rt:28:28
 sub-t : tie.Need-sub-t
 sub-t c = search needs
 
--- src/rake.rt:28:27
 int-to-float-t-2 : tie.Need-int-to-float-t-2
 int-to-float-t-2 c = whole-in _ (omega arith)
 
--- src/rake.rt:29:15
 sub-requires : tie.Need-sub-requires
 sub-requires c κs = search needs
 
--- src/rake.rt:29:15
 scale-requires : tie.Need-scale-requires
 scale-requires c κs = search needs
 
--- src/rake.rt:29:5
 add-requires : tie.Need-add-requires
 add-requires c κs = search needs
 
--- src/rake.rt:24:1
 returns : tie.Need-returns
 unfolding seedAt
 returns c = rw (c .add .ensures, c .before .scale .ensures, c .before .before .sub .ensures)

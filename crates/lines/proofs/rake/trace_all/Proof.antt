@@ -23,47 +23,36 @@ Inv-loop case n words floats s g marks₀ out₀ start end count d options writt
 abbrev μ-loop : tie.MeasureT-loop
 μ-loop case n words floats s g marks₀ out₀ start end count d options written₀ i₀ marks out written i = count - i
 
--- src/rake.rt:78:5
 loop-holds : tie.Need-loop-holds Inv-loop μ-loop
 loop-holds c = record { done = []; as-many = refl; below = omega arith; few = omega arith; kept = refl; as-long = refl; stand = refl; going = lines-begun _ _ _ _ }
 
--- src/rake.rt:79:13
 seed-at-requires : tie.Need-seed-at-requires Inv-loop μ-loop
 seed-at-requires c κs = search needs
 
--- src/rake.rt:89:13
 add-trace : tie.Need-add-trace Inv-loop μ-loop
 add-trace c = omega (arith, c .before .before .before .before .loop .inv .few)
 
--- src/rake.rt:80:13
 trace-requires : tie.Need-trace-requires Inv-loop μ-loop
 trace-requires c κs = (c .before .before .before .before .before .before .before .before .before .before .pre .0, omega (arith, c .before .before .before .before .loop .inv .few, c .before .before .before .before .before .before .before .before .before .before .pre .1))
 
--- src/rake.rt:94:9
 add-written : tie.Need-add-written Inv-loop μ-loop
 add-written c = omega (arith, c .before .before .before .before .before .before .before .before .before .loop .inv .few, c .before .before .before .before .trace .ensures .1, c .before .before .before .before .before .before .before .before .before .before .before .before .before .before .before .pre .1)
 
--- src/rake.rt:95:9
 add-i : tie.Need-add-i Inv-loop μ-loop
 add-i c = search needs
 
--- src/rake.rt:78:5
 loop-less : tie.Need-loop-less Inv-loop μ-loop
 loop-less c = search needs
 
--- src/rake.rt:78:5
 loop-again : tie.Need-loop-again Inv-loop μ-loop
 loop-again c = let i = c .before .before .before .before .before .before .before .before .before .loop .inv in let t = c .before .before .before .before .trace .ensures in record { done = i .done ++ written-words (t .0); as-many = rw length-append (omega (arith, t .0 .count)); below = omega arith; few = omega (arith, t .1); kept = omega arith; as-long = omega arith; stand = words-more _ _ _ (i .done) _ _ (i .as-many) (i .stand) (t .0); going = lines-turned _ _ _ _ _ _ (i .done) _ (i .going) _ (c .before .before .before .before .before .before .before .before .loop-test .taken) (c .before .before .before .before .before .before .before .seed-at .ensures) (t .0) }
 
--- src/rake.rt:57:1
 same-length : tie.Need-same-length Inv-loop μ-loop
 same-length c = search needs
 
--- src/rake.rt:57:1
 same-length-2 : tie.Need-same-length-2 Inv-loop μ-loop
 same-length-2 c = search needs
 
--- src/rake.rt:57:1
 returns : tie.Need-returns Inv-loop μ-loop
 returns c = let i = c .before .loop .inv in (lines-written (lines-ended _ _ _ _ _ _ (i .done) _ (i .going) (c .loop-test .left)) (i .stand) (i .as-many), omega (arith, i .few, i .below, c .before .before .before .before .before .before .before .pre .1))
 

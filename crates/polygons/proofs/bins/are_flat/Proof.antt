@@ -7,35 +7,28 @@ use Rattle.polygons.proofs.bins.are_flat.Reads as reads
 use Rattle.polygons.proofs.bins.are_flat.Lts as lts
 use Rattle.arith.proofs.float.is_finite.Reads as is-finite-reads
 
--- src/bins.rt:65:8
 is-finite-requires : tie.Need-is-finite-requires
 is-finite-requires c κs = search needs
 
--- src/bins.rt:66:12
 is-finite-requires-2 : tie.Need-is-finite-requires-2
 is-finite-requires-2 c κs = search needs
 
--- src/bins.rt:62:1
 returns : tie.Need-returns
 unfolding areFlat
 returns c = rw (sym (c .before .before .before .before .before .before .before .is-finite .ensures) ∙ c .before .before .before .before .before .before .if1 .taken, sym (c .before .before .before .before .before .is-finite2 .ensures) ∙ c .before .before .before .before .if2 .taken, c .before .before .if3 .taken, c .if4 .taken)
 
--- src/bins.rt:62:1
 returns-2 : tie.Need-returns-2
 unfolding areFlat
 returns-2 c = rw (sym (c .before .before .before .before .before .before .before .is-finite .ensures) ∙ c .before .before .before .before .before .before .if1 .taken, sym (c .before .before .before .before .before .is-finite2 .ensures) ∙ c .before .before .before .before .if2 .taken, c .before .before .if3 .taken, c .if4 .left)
 
--- src/bins.rt:62:1
 returns-3 : tie.Need-returns-3
 unfolding areFlat
 returns-3 c = rw (sym (c .before .before .before .before .before .is-finite .ensures) ∙ c .before .before .before .before .if1 .taken, sym (c .before .before .before .is-finite2 .ensures) ∙ c .before .before .if2 .taken, c .if3 .left)
 
--- src/bins.rt:62:1
 returns-4 : tie.Need-returns-4
 unfolding areFlat
 returns-4 c = rw (sym (c .before .before .before .is-finite .ensures) ∙ c .before .before .if1 .taken, sym (c .before .is-finite2 .ensures) ∙ c .if2 .left)
 
--- src/bins.rt:62:1
 returns-5 : tie.Need-returns-5
 unfolding areFlat
 returns-5 c = rw (sym (c .before .is-finite .ensures) ∙ c .if1 .left)

@@ -5,7 +5,6 @@ use Rattle.polygons.proofs.bins.aspect.Tie as tie
 use Rattle.polygons.proofs.bins.aspect.Reads as reads
 use Rattle.polygons.proofs.bins.aspect.Lts as lts
 
--- src/bins.rt:40:1
 returns : tie.Need-returns
 unfolding aspect
 returns c = refl

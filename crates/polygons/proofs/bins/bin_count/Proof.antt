@@ -8,19 +8,15 @@ use Rattle.arith.proofs.float.ceil_usize.Reads as ceil-usize-reads
 use Rattle.polygons.proofs.bins.at_least_one.Reads as at-least-one-reads
 use Rattle.root.proofs.sqrt.Reads as sqrt-reads
 
--- src/bins.rt:36:36
 sqrt-requires : tie.Need-sqrt-requires
 sqrt-requires c κs = search needs
 
--- src/bins.rt:36:18
 ceil-usize-requires : tie.Need-ceil-usize-requires
 ceil-usize-requires c κs = search needs
 
--- src/bins.rt:36:5
 at-least-one-requires : tie.Need-at-least-one-requires
 at-least-one-requires c κs = search needs
 
--- src/bins.rt:33:1
 returns : tie.Need-returns
 returns c = (rw (c .at-least-one .ensures .0, c .before .ceil-usize .ensures, c .before .before .sqrt .ensures), c .at-least-one .ensures .1)
 

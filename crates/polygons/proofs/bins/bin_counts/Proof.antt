@@ -10,27 +10,21 @@ use Rattle.polygons.proofs.bins.aspect.Reads as aspect-reads
 use Rattle.polygons.proofs.bins.at_least_one.Reads as at-least-one-reads
 use Rattle.polygons.proofs.bins.bin_count.Reads as bin-count-reads
 
--- src/bins.rt:51:17
 at-least-one-requires : tie.Need-at-least-one-requires
 at-least-one-requires c κs = search needs
 
--- src/bins.rt:51:17
 int-to-float-count : tie.Need-int-to-float-count
 int-to-float-count c = whole-in _ (omega arith)
 
--- src/bins.rt:52:9
 aspect-requires : tie.Need-aspect-requires
 aspect-requires c κs = search needs
 
--- src/bins.rt:53:9
 bin-count-requires : tie.Need-bin-count-requires
 bin-count-requires c κs = search needs
 
--- src/bins.rt:54:9
 bin-count-requires-2 : tie.Need-bin-count-requires-2
 bin-count-requires-2 c κs = search needs
 
--- src/bins.rt:47:1
 returns : tie.Need-returns
 unfolding binCounts
 returns c = record { counts = rw (c .bin-count2 .ensures .0, c .before .bin-count .ensures .0, c .before .before .aspect .ensures, c .before .before .before .before .at-least-one .ensures .0); wide = c .before .bin-count .ensures .1; high = c .bin-count2 .ensures .1 }

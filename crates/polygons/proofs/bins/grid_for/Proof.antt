@@ -7,23 +7,18 @@ use Rattle.polygons.proofs.bins.grid_for.Reads as reads
 use Rattle.polygons.proofs.bins.grid_for.Lts as lts
 use Rattle.polygons.proofs.bins.are_flat.Reads as are-flat-reads
 
--- src/bins.rt:85:8
 are-flat-requires : tie.Need-are-flat-requires
 are-flat-requires c κs = search needs
 
--- src/bins.rt:86:9
 returns : tie.Need-returns
 returns c = grid-flat _ _ (sym (c .before .are-flat .ensures) ∙ c .if1 .taken)
 
--- src/bins.rt:89:9
 returns-2 : tie.Need-returns-2
 returns-2 c = grid-wide _ _ (sym (c .before .before .before .are-flat .ensures) ∙ c .before .before .if1 .left) (c .if2 .taken)
 
--- src/bins.rt:92:9
 returns-3 : tie.Need-returns-3
 returns-3 c = grid-high _ _ (sym (c .before .before .before .before .before .are-flat .ensures) ∙ c .before .before .before .before .if1 .left) (c .before .before .if2 .left) (c .if3 .taken)
 
--- src/bins.rt:81:1
 returns-4 : tie.Need-returns-4
 returns-4 c = grid-made _ _ (sym (c .before .before .before .before .before .are-flat .ensures) ∙ c .before .before .before .before .if1 .left) (c .before .before .if2 .left) (c .if3 .left) (c .before .before .before .before .before .before .pre .0) (c .before .before .before .before .before .before .pre .1)
 

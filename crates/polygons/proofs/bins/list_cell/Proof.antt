@@ -13,43 +13,33 @@ use Rattle.locate.proofs.count_in.Reads as count-in-reads
 use Rattle.locate.proofs.floats_at.Reads as floats-at-reads
 use Rattle.locate.proofs.words_at.Reads as words-at-reads
 
--- src/bins.rt:116:9
 count-in-requires : tie.Need-count-in-requires
 count-in-requires c κs = search needs
 
--- src/bins.rt:117:34
 boundless-requires : tie.Need-boundless-requires
 boundless-requires c κs = search needs
 
--- src/bins.rt:117:63
 floats-at-requires : tie.Need-floats-at-requires
 floats-at-requires c κs = search needs
 
--- src/bins.rt:117:9
 widened-by-requires : tie.Need-widened-by-requires
 widened-by-requires c κs = search needs
 
--- src/bins.rt:118:9
 bin-for-requires : tie.Need-bin-for-requires
 bin-for-requires c κs = search needs
 
--- src/bins.rt:119:9
 bin-for-requires-2 : tie.Need-bin-for-requires-2
 bin-for-requires-2 c κs = search needs
 
--- src/bins.rt:120:21
 words-at-requires : tie.Need-words-at-requires
 words-at-requires c κs = search needs
 
--- src/bins.rt:120:5
 put-bins-requires : tie.Need-put-bins-requires
 put-bins-requires c κs = search needs
 
--- src/bins.rt:112:1
 same-length : tie.Need-same-length
 same-length c = search needs
 
--- src/bins.rt:112:1
 returns : tie.Need-returns
 returns c = listed-by _ _ _ _ _ _ _ _ _ _ _ _ _ (c .before .before .before .before .before .before .before .before .before .boundless .ensures) (c .before .before .before .before .before .before .before .before .floats-at .ensures) (c .before .before .before .before .before .before .before .before .before .before .count-in .ensures .0) (c .before .before .before .before .before .before .before .widened-by .ensures) (c .before .before .before .before .before .before .bin-for .ensures .0) (c .before .before .before .before .before .bin-for2 .ensures .0) (c .before .before .before .words-at .ensures) (c .before .before .put-bins .ensures) (omega (arith, c .before .before .before .before .before .before .before .before .before .before .before .before .before .before .pre))
 

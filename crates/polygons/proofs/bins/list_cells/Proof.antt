@@ -13,31 +13,24 @@ Inv-loop words₀ floats s g i₀ words i = Listing g s words₀ words floats i
 abbrev μ-loop : tie.MeasureT-loop
 μ-loop words₀ floats s g i₀ words i = s .cells - i
 
--- src/bins.rt:130:5
 loop-holds : tie.Need-loop-holds Inv-loop μ-loop
 loop-holds c = listing-start _ _ _ _
 
--- src/bins.rt:131:9
 list-cell-requires : tie.Need-list-cell-requires Inv-loop μ-loop
 list-cell-requires c κs = search needs
 
--- src/bins.rt:132:9
 add-i : tie.Need-add-i Inv-loop μ-loop
 add-i c = search needs
 
--- src/bins.rt:130:5
 loop-less : tie.Need-loop-less Inv-loop μ-loop
 loop-less c = search needs
 
--- src/bins.rt:130:5
 loop-again : tie.Need-loop-again Inv-loop μ-loop
 loop-again c = listing-turn _ _ _ _ _ _ _ (c .before .before .before .before .before .before .loop .inv) (c .before .before .before .before .if1 .taken) (search needs) (c .before .before .list-cell .ensures)
 
--- src/bins.rt:124:1
 same-length : tie.Need-same-length Inv-loop μ-loop
 same-length c = search needs
 
--- src/bins.rt:124:1
 returns : tie.Need-returns Inv-loop μ-loop
 returns c = listing-end _ _ _ _ _ _ (c .before .before .loop .inv) (c .if1 .left)
 

@@ -6,71 +6,54 @@ use Rattle.polygons.proofs.bins.put_bins.Tie as tie
 use Rattle.polygons.proofs.bins.put_bins.Reads as reads
 use Rattle.polygons.proofs.bins.put_bins.Lts as lts
 
--- src/bins.rt:105:17
 cast-words : tie.Need-cast-words
 cast-words c = search needs
 
--- src/bins.rt:105:5
 mul-words : tie.Need-mul-words
 mul-words c = search needs
 
--- src/bins.rt:105:5
 slice-write-words : tie.Need-slice-write-words
 slice-write-words c = search needs
 
--- src/bins.rt:106:21
 cast-words-2 : tie.Need-cast-words-2
 cast-words-2 c = search needs
 
--- src/bins.rt:106:11
 add-words : tie.Need-add-words
 add-words c = search needs
 
--- src/bins.rt:106:5
 mul-words-2 : tie.Need-mul-words-2
 mul-words-2 c = search needs
 
--- src/bins.rt:106:5
 slice-write-words-2 : tie.Need-slice-write-words-2
 slice-write-words-2 c = simp length-set (omega arith)
 
--- src/bins.rt:107:21
 cast-words-3 : tie.Need-cast-words-3
 cast-words-3 c = search needs
 
--- src/bins.rt:107:11
 add-words-2 : tie.Need-add-words-2
 add-words-2 c = search needs
 
--- src/bins.rt:107:5
 mul-words-3 : tie.Need-mul-words-3
 mul-words-3 c = search needs
 
--- src/bins.rt:107:5
 slice-write-words-3 : tie.Need-slice-write-words-3
 slice-write-words-3 c = simp length-set (omega arith)
 
--- src/bins.rt:108:21
 cast-words-4 : tie.Need-cast-words-4
 cast-words-4 c = search needs
 
--- src/bins.rt:108:11
 add-words-3 : tie.Need-add-words-3
 add-words-3 c = search needs
 
--- src/bins.rt:108:5
 mul-words-4 : tie.Need-mul-words-4
 mul-words-4 c = search needs
 
--- src/bins.rt:108:5
 slice-write-words-4 : tie.Need-slice-write-words-4
 slice-write-words-4 c = simp length-set (omega arith)
 
--- src/bins.rt:101:1
 same-length : tie.Need-same-length
 same-length c = search needs
 
--- src/bins.rt:101:1
 returns : tie.Need-returns
 returns c = search needs
 

@@ -21,40 +21,31 @@ Inv-loop words floats s b₀ i₀ b i = (i ≤ s .cells) × (foldl widened b (co
 abbrev μ-loop : tie.MeasureT-loop
 μ-loop words floats s b₀ i₀ b i = s .cells - i
 
--- src/bounds.rt:61:9
 boundless-requires : tie.Need-boundless-requires Inv-loop μ-loop
 boundless-requires c κs = search needs
 
--- src/bounds.rt:63:5
 loop-holds : tie.Need-loop-holds Inv-loop μ-loop
 unfolding boundsOf
 loop-holds c = (search needs, rw (c .boundless .ensures))
 
--- src/bounds.rt:64:35
 floats-at-requires : tie.Need-floats-at-requires Inv-loop μ-loop
 floats-at-requires c κs = search needs
 
--- src/bounds.rt:64:60
 count-in-requires : tie.Need-count-in-requires Inv-loop μ-loop
 count-in-requires c κs = search needs
 
--- src/bounds.rt:64:9
 widened-by-requires : tie.Need-widened-by-requires Inv-loop μ-loop
 widened-by-requires c κs = search needs
 
--- src/bounds.rt:65:9
 add-i : tie.Need-add-i Inv-loop μ-loop
 add-i c = search needs
 
--- src/bounds.rt:63:5
 loop-less : tie.Need-loop-less Inv-loop μ-loop
 loop-less c = search needs
 
--- src/bounds.rt:63:5
 loop-again : tie.Need-loop-again Inv-loop μ-loop
 loop-again c = (search needs, bound-turn _ _ _ _ _ _ (c .before .before .before .before .before .loop .inv .1) (c .before .before .before .if1 .taken) _ _ _ (c .before .before .floats-at .ensures) (c .before .count-in .ensures .0) (c .widened-by .ensures))
 
--- src/bounds.rt:57:1
 returns : tie.Need-returns Inv-loop μ-loop
 returns c = bound-end _ _ _ _ _ _ (c .before .before .loop .inv .1) (c .if1 .left)
 

@@ -6,12 +6,10 @@ use Rattle.polygons.proofs.bounds.boundless.Tie as tie
 use Rattle.polygons.proofs.bounds.boundless.Reads as reads
 use Rattle.polygons.proofs.bounds.boundless.Lts as lts
 
--- src/bounds.rt:21:15
 float-from-bits-top : tie.Need-float-from-bits-top
 unfolding ofBits neg nanBits
 float-from-bits-top c = tt
 
--- src/bounds.rt:18:1
 returns : tie.Need-returns
 unfolding ofBits neg nanBits boundless
 returns c = refl

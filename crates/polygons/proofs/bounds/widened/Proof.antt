@@ -7,23 +7,18 @@ use Rattle.polygons.proofs.bounds.widened.Lts as lts
 use Rattle.arith.proofs.float.max.Reads as max-reads
 use Rattle.arith.proofs.float.min.Reads as min-reads
 
--- src/bounds.rt:35:15
 min-requires : tie.Need-min-requires
 min-requires c κs = search needs
 
--- src/bounds.rt:36:17
 min-requires-2 : tie.Need-min-requires-2
 min-requires-2 c κs = search needs
 
--- src/bounds.rt:37:16
 max-requires : tie.Need-max-requires
 max-requires c κs = search needs
 
--- src/bounds.rt:38:14
 max-requires-2 : tie.Need-max-requires-2
 max-requires-2 c κs = search needs
 
--- src/bounds.rt:31:1
 returns : tie.Need-returns
 unfolding widened
 returns c = rw (c .max2 .ensures, c .before .max .ensures, c .before .before .min2 .ensures, c .before .before .before .min .ensures)

@@ -19,39 +19,30 @@ Inv-loop floats at n b₀ k₀ b k = (k ≤ n) × (foldl widened b (drop k (pair
 abbrev μ-loop : tie.MeasureT-loop
 μ-loop floats at n b₀ k₀ b k = n - k
 
--- src/bounds.rt:49:5
 loop-holds : tie.Need-loop-holds Inv-loop μ-loop
 loop-holds c = search needs
 
--- src/bounds.rt:50:53
 mul-pair-at : tie.Need-mul-pair-at Inv-loop μ-loop
 mul-pair-at c = search needs
 
--- src/bounds.rt:50:48
 add-pair-at : tie.Need-add-pair-at Inv-loop μ-loop
 add-pair-at c = search needs
 
--- src/bounds.rt:50:24
 pair-at-requires : tie.Need-pair-at-requires Inv-loop μ-loop
 pair-at-requires c κs = search needs
 
--- src/bounds.rt:50:9
 widened-requires : tie.Need-widened-requires Inv-loop μ-loop
 widened-requires c κs = search needs
 
--- src/bounds.rt:51:9
 add-k : tie.Need-add-k Inv-loop μ-loop
 add-k c = search needs
 
--- src/bounds.rt:49:5
 loop-less : tie.Need-loop-less Inv-loop μ-loop
 loop-less c = search needs
 
--- src/bounds.rt:49:5
 loop-again : tie.Need-loop-again Inv-loop μ-loop
 loop-again c = (search needs, widen-turn _ _ _ _ _ _ (c .before .before .before .loop .inv .1) (c .before .before .loop-test .taken) _ _ (c .before .pair-at .ensures) (c .widened .ensures))
 
--- src/bounds.rt:43:1
 returns : tie.Need-returns Inv-loop μ-loop
 returns c = search (widen-end, needs)
 

@@ -17,67 +17,51 @@ Inv-loop xs ys n centre quarters₀ slopes₀ k₀ quarters slopes k = (k ≤ n)
 abbrev μ-loop : tie.MeasureT-loop
 μ-loop xs ys n centre quarters₀ slopes₀ k₀ quarters slopes k = n - k
 
--- src/build.rt:30:5
 loop-holds : tie.Need-loop-holds Inv-loop μ-loop
 loop-holds c = (search needs, angles-start _ _ _ _ _, search needs, search needs)
 
--- src/build.rt:31:44
 mul-t10 : tie.Need-mul-t10 Inv-loop μ-loop
 mul-t10 c = search needs
 
--- src/build.rt:31:44
 shared-slice-read-t12 : tie.Need-shared-slice-read-t12 Inv-loop μ-loop
 shared-slice-read-t12 c = search needs
 
--- src/build.rt:31:65
 mul-t14 : tie.Need-mul-t14 Inv-loop μ-loop
 mul-t14 c = search needs
 
--- src/build.rt:31:65
 shared-slice-read-t16 : tie.Need-shared-slice-read-t16 Inv-loop μ-loop
 shared-slice-read-t16 c = search needs
 
--- src/build.rt:31:13
 angle-of-requires : tie.Need-angle-of-requires Inv-loop μ-loop
 angle-of-requires c κs = search needs
 
--- src/build.rt:32:9
 mul-quarters : tie.Need-mul-quarters Inv-loop μ-loop
 mul-quarters c = search needs
 
--- src/build.rt:32:9
 slice-write-quarters : tie.Need-slice-write-quarters Inv-loop μ-loop
 slice-write-quarters c = search needs
 
--- src/build.rt:33:9
 mul-slopes : tie.Need-mul-slopes Inv-loop μ-loop
 mul-slopes c = search needs
 
--- src/build.rt:33:9
 slice-write-slopes : tie.Need-slice-write-slopes Inv-loop μ-loop
 slice-write-slopes c = search needs
 
--- src/build.rt:34:9
 add-k : tie.Need-add-k Inv-loop μ-loop
 add-k c = search needs
 
--- src/build.rt:30:5
 loop-less : tie.Need-loop-less Inv-loop μ-loop
 loop-less c = search needs
 
--- src/build.rt:30:5
 loop-again : tie.Need-loop-again Inv-loop μ-loop
 loop-again c = (search needs, angles-turn _ _ _ _ _ _ _ (c .before .before .before .before .before .before .loop .inv .1) (c .angle-of .ensures) (omega arith) (omega arith), simp length-set (search needs), simp length-set (search needs))
 
--- src/build.rt:25:1
 same-length : tie.Need-same-length Inv-loop μ-loop
 same-length c = search needs
 
--- src/build.rt:25:1
 same-length-2 : tie.Need-same-length-2 Inv-loop μ-loop
 same-length-2 c = search needs
 
--- src/build.rt:25:1
 returns : tie.Need-returns Inv-loop μ-loop
 returns c = record { each = λ k h. c .before .loop .inv .1 .each k (omega arith) }
 

@@ -12,54 +12,42 @@ use Rattle.polygons.proofs.bins.index_cells.Reads as index-cells-reads
 use Rattle.polygons.proofs.bounds.all_bounds.Reads as all-bounds-reads
 use Rattle.polygons.proofs.build.put_cells.Reads as put-cells-reads
 
--- src/build.rt:103:5
 put-cells-requires : tie.Need-put-cells-requires
 put-cells-requires c κs = search needs
 
--- src/build.rt:104:9
 all-bounds-requires : tie.Need-all-bounds-requires
 all-bounds-requires c κs = search needs
 
--- src/build.rt:105:9
 bin-counts-requires : tie.Need-bin-counts-requires
 bin-counts-requires c κs = search needs
 
--- src/build.rt:106:9
 grid-for-requires : tie.Need-grid-for-requires
 grid-for-requires c κs = search needs
 
 enum-told : tie.Need-enum-told
 enum-told c = search needs
 
--- src/build.rt:109:21
 enum-known-built : tie.Need-enum-known-built
 enum-known-built c = search needs
 
--- src/build.rt:110:13
 index-cells-requires : tie.Need-index-cells-requires
 index-cells-requires c κs = (lent-words _ _ _ (c .before .before .before .before .before .before .before .before .before .before .before .before .before .before .before .before .before .before .before .before .pre .0 .2) (search needs), lent-floats _ _ _ (c .before .before .before .before .before .before .before .before .before .before .before .before .before .before .before .before .before .before .before .before .pre .0 .3) (search needs), c .before .before .before .before .before .grid-for .ensures .1 _ (c .before .before .before .built .given .1), search needs)
 
--- src/build.rt:97:1
 same-length : tie.Need-same-length
 same-length c = search needs
 
--- src/build.rt:97:1
 same-length-2 : tie.Need-same-length-2
 same-length-2 c = search needs
 
--- src/build.rt:97:1
 returns : tie.Need-returns
 returns c = refused-field _ _ _ _ _ _ _ _ _ (c .before .before .before .before .before .before .before .before .before .before .before .put-cells .ensures .0) (c .before .before .before .before .before .before .before .before .before .before .before .put-cells .ensures .1) (c .before .before .before .before .all-bounds .ensures) (c .before .before .before .bin-counts .ensures .counts) (c .before .before .grid-for .ensures .0) _ (c .enum-told .given .1)
 
--- src/build.rt:97:1
 same-length-3 : tie.Need-same-length-3
 same-length-3 c = search needs
 
--- src/build.rt:97:1
 same-length-4 : tie.Need-same-length-4
 same-length-4 c = search needs
 
--- src/build.rt:97:1
 returns-2 : tie.Need-returns-2
 returns-2 c = made-field _ _ _ _ _ _ _ _ _ (c .before .before .before .before .before .before .before .before .before .before .before .before .before .before .before .before .before .put-cells .ensures .0) (c .before .before .before .before .before .before .before .before .before .before .before .before .before .before .before .before .before .put-cells .ensures .1) (c .before .before .before .before .before .before .before .before .before .before .all-bounds .ensures) (c .before .before .before .before .before .before .before .before .before .bin-counts .ensures .counts) (c .before .before .before .before .before .before .before .before .grid-for .ensures .0) _ _ (c .before .before .before .before .before .before .built .given .1) (c .before .before .index-cells .ensures .0) (c .before .before .index-cells .ensures .1) (c .before .before .index-cells .ensures .2)
 

@@ -8,31 +8,24 @@ use Rattle.area.proofs.centre_of.Reads as centre-of-reads
 use Rattle.polygons.proofs.build.sort_corners.Reads as sort-corners-reads
 use Rattle.polygons.proofs.corners.corners.Reads as corners-reads
 
--- src/build.rt:73:9
 corners-requires : tie.Need-corners-requires
 corners-requires c κs = (search needs, few-corners _ _ _ _ _ (c .before .before .before .before .before .before .before .before .pre .1 .1))
 
--- src/build.rt:74:29
 centre-of-requires : tie.Need-centre-of-requires
 centre-of-requires c κs = search needs
 
--- src/build.rt:74:5
 sort-corners-requires : tie.Need-sort-corners-requires
 sort-corners-requires c κs = search needs
 
--- src/build.rt:67:1
 same-length : tie.Need-same-length
 same-length c = search needs
 
--- src/build.rt:67:1
 same-length-2 : tie.Need-same-length-2
 same-length-2 c = search needs
 
--- src/build.rt:67:1
 same-length-3 : tie.Need-same-length-3
 same-length-3 c = search needs
 
--- src/build.rt:67:1
 returns : tie.Need-returns
 returns c = placed _ _ _ _ _ _ _ _ _ _ (c .before .before .before .before .before .before .before .before .before .before .before .corners .ensures .0) (c .before .before .before .before .centre-of .ensures _) (c .before .before .sort-corners .ensures .0) (c .before .before .sort-corners .ensures .1) (c .before .before .before .before .before .before .before .before .before .before .before .corners .ensures .1)
 

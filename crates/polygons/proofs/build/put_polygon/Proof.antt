@@ -6,47 +6,36 @@ use Rattle.polygons.proofs.build.put_polygon.Lts as lts
 use Rattle.polygons.proofs.build.polygon.Reads as polygon-reads
 use Rattle.polygons.proofs.build.store_polygon.Reads as store-polygon-reads
 
--- src/build.rt:98:56
 slice-aggregate-polygon : tie.Need-slice-aggregate-polygon
 slice-aggregate-polygon c = search needs
 
--- src/build.rt:98:65
 slice-aggregate-polygon-2 : tie.Need-slice-aggregate-polygon-2
 slice-aggregate-polygon-2 c = search needs
 
--- src/build.rt:98:74
 slice-aggregate-polygon-3 : tie.Need-slice-aggregate-polygon-3
 slice-aggregate-polygon-3 c = search needs
 
--- src/build.rt:98:9
 polygon-requires : tie.Need-polygon-requires
 polygon-requires c κs = search needs
 
--- src/build.rt:99:40
 slice-aggregate-store-polygon : tie.Need-slice-aggregate-store-polygon
 slice-aggregate-store-polygon c = search needs
 
--- src/build.rt:99:45
 slice-aggregate-store-polygon-2 : tie.Need-slice-aggregate-store-polygon-2
 slice-aggregate-store-polygon-2 c = search needs
 
--- src/build.rt:99:50
 slice-aggregate-store-polygon-3 : tie.Need-slice-aggregate-store-polygon-3
 slice-aggregate-store-polygon-3 c = search needs
 
--- src/build.rt:99:5
 store-polygon-requires : tie.Need-store-polygon-requires
 store-polygon-requires c κs = search needs
 
--- src/build.rt:90:1
 same-length : tie.Need-same-length
 same-length c = search needs
 
--- src/build.rt:90:1
 same-length-2 : tie.Need-same-length-2
 same-length-2 c = search needs
 
--- src/build.rt:90:1
 returns : tie.Need-returns
 returns c = rw (← c .before .before .before .before .before .before .before .before .before .before .before .before .before .polygon .ensures .points) (c .before .before .before .before .store-polygon .ensures)
 

@@ -14,35 +14,27 @@ Inv-loop case points words₀ floats₀ s i₀ words floats i = Building (points
 abbrev μ-loop : tie.MeasureT-loop
 μ-loop case points words₀ floats₀ s i₀ words floats i = s .cells - i
 
--- src/build.rt:90:5
 loop-holds : tie.Need-loop-holds Inv-loop μ-loop
 loop-holds c = building-start _ _ _ _
 
--- src/build.rt:91:9
 put-polygon-requires : tie.Need-put-polygon-requires Inv-loop μ-loop
 put-polygon-requires c κs = (search needs, building-fits _ _ _ _ _ _ _ (c .before .before .before .before .loop .inv) (c .before .before .before .before .before .before .before .before .pre .1))
 
--- src/build.rt:92:9
 add-i : tie.Need-add-i Inv-loop μ-loop
 add-i c = search needs
 
--- src/build.rt:90:5
 loop-less : tie.Need-loop-less Inv-loop μ-loop
 loop-less c = search needs
 
--- src/build.rt:90:5
 loop-again : tie.Need-loop-again Inv-loop μ-loop
 loop-again c = building-turn _ _ _ _ _ _ _ _ _ (c .before .before .before .before .before .before .before .before .before .loop .inv) (c .before .before .before .before .before .before .before .if1 .taken) (search needs) (search needs) (c .before .before .before .before .put-polygon .ensures)
 
--- src/build.rt:83:1
 same-length : tie.Need-same-length Inv-loop μ-loop
 same-length c = search needs
 
--- src/build.rt:83:1
 same-length-2 : tie.Need-same-length-2 Inv-loop μ-loop
 same-length-2 c = search needs
 
--- src/build.rt:83:1
 returns : tie.Need-returns Inv-loop μ-loop
 returns c = building-end _ _ _ _ _ _ _ (c .before .before .loop .inv) (c .if1 .left)
 

@@ -9,51 +9,39 @@ use Rattle.polygons.proofs.build.sort_corners.Lts as lts
 use Rattle.arith.proofs.sort.sort_by_angle.Reads as sort-by-angle-reads
 use Rattle.polygons.proofs.build.angles_about.Reads as angles-about-reads
 
--- src/build.rt:46:37
 slice-aggregate-angles-about : tie.Need-slice-aggregate-angles-about
 slice-aggregate-angles-about c = search needs
 
--- src/build.rt:46:52
 slice-aggregate-angles-about-2 : tie.Need-slice-aggregate-angles-about-2
 slice-aggregate-angles-about-2 c = search needs
 
--- src/build.rt:46:5
 angles-about-requires : tie.Need-angles-about-requires
 angles-about-requires c κs = search needs
 
--- src/build.rt:47:25
 array-share-prefix-quarters : tie.Need-array-share-prefix-quarters
 array-share-prefix-quarters c = search needs
 
--- src/build.rt:47:25
 slice-aggregate-sort-by-angle : tie.Need-slice-aggregate-sort-by-angle
 slice-aggregate-sort-by-angle c = simp length-take (omega arith)
 
--- src/build.rt:47:41
 array-share-prefix-slopes : tie.Need-array-share-prefix-slopes
 array-share-prefix-slopes c = search needs
 
--- src/build.rt:47:41
 slice-aggregate-sort-by-angle-2 : tie.Need-slice-aggregate-sort-by-angle-2
 slice-aggregate-sort-by-angle-2 c = simp length-take (omega arith)
 
--- src/build.rt:47:55
 slice-relend-prefix-sort-by-angle : tie.Need-slice-relend-prefix-sort-by-angle
 slice-relend-prefix-sort-by-angle c = search needs
 
--- src/build.rt:47:55
 slice-aggregate-sort-by-angle-3 : tie.Need-slice-aggregate-sort-by-angle-3
 slice-aggregate-sort-by-angle-3 c = simp length-take (omega arith)
 
--- src/build.rt:47:5
 sort-by-angle-requires : tie.Need-sort-by-angle-requires
 sort-by-angle-requires c κs = simp length-take (omega arith)
 
--- src/build.rt:39:1
 same-length : tie.Need-same-length
 same-length c = search needs
 
--- src/build.rt:39:1
 returns : tie.Need-returns
 returns c = sorted-all _ _ _ _ _ _ (c .before .before .before .before .before .before .before .before .angles-about .ensures) _ _ (simp length-take (omega arith)) (c .before .before .sort-by-angle .ensures)
 

@@ -15,79 +15,60 @@ Inv-loop floats₀ at xs ys places n k₀ floats k = Storing floats₀ floats xs
 abbrev μ-loop : tie.MeasureT-loop
 μ-loop floats₀ at xs ys places n k₀ floats k = n - k
 
--- src/build.rt:57:5
 loop-holds : tie.Need-loop-holds Inv-loop μ-loop
 loop-holds c = storing-start _ _ _ _ _ _
 
--- src/build.rt:58:17
 mul-j : tie.Need-mul-j Inv-loop μ-loop
 mul-j c = search needs
 
--- src/build.rt:58:17
 shared-slice-read-j : tie.Need-shared-slice-read-j Inv-loop μ-loop
 shared-slice-read-j c = search needs
 
--- src/build.rt:59:22
 mul-i : tie.Need-mul-i Inv-loop μ-loop
 mul-i c = search needs
 
--- src/build.rt:59:17
 add-i : tie.Need-add-i Inv-loop μ-loop
 add-i c = search needs
 
--- src/build.rt:60:21
 mul-floats : tie.Need-mul-floats Inv-loop μ-loop
 mul-floats c = omega (arith, c .before .before .before .pre .5 (c .before .before .loop .k) (c .before .loop-test .taken))
 
--- src/build.rt:60:21
 shared-slice-read-floats : tie.Need-shared-slice-read-floats Inv-loop μ-loop
 shared-slice-read-floats c = omega (arith, c .before .before .before .before .pre .5 (c .before .before .before .loop .k) (c .before .before .loop-test .taken))
 
--- src/build.rt:60:9
 mul-floats-2 : tie.Need-mul-floats-2 Inv-loop μ-loop
 mul-floats-2 c = search needs
 
--- src/build.rt:60:9
 slice-write-floats : tie.Need-slice-write-floats Inv-loop μ-loop
 slice-write-floats c = search needs
 
--- src/build.rt:61:25
 mul-floats-3 : tie.Need-mul-floats-3 Inv-loop μ-loop
 mul-floats-3 c = omega (arith, c .before .before .before .before .pre .5 (c .before .before .before .loop .k) (c .before .before .loop-test .taken))
 
--- src/build.rt:61:25
 shared-slice-read-floats-2 : tie.Need-shared-slice-read-floats-2 Inv-loop μ-loop
 shared-slice-read-floats-2 c = omega (arith, c .before .before .before .before .before .pre .5 (c .before .before .before .before .loop .k) (c .before .before .before .loop-test .taken))
 
--- src/build.rt:61:16
 add-floats : tie.Need-add-floats Inv-loop μ-loop
 add-floats c = search needs
 
--- src/build.rt:61:9
 mul-floats-4 : tie.Need-mul-floats-4 Inv-loop μ-loop
 mul-floats-4 c = search needs
 
--- src/build.rt:61:9
 slice-write-floats-2 : tie.Need-slice-write-floats-2 Inv-loop μ-loop
 slice-write-floats-2 c = simp length-set (omega arith)
 
--- src/build.rt:62:9
 add-k : tie.Need-add-k Inv-loop μ-loop
 add-k c = search needs
 
--- src/build.rt:57:5
 loop-less : tie.Need-loop-less Inv-loop μ-loop
 loop-less c = search needs
 
--- src/build.rt:57:5
 loop-again : tie.Need-loop-again Inv-loop μ-loop
 loop-again c = storing-turn _ _ _ _ _ _ _ _ _ (c .before .before .before .before .loop .inv) (c .before .before .before .loop-test .taken) refl (omega arith) (omega arith)
 
--- src/build.rt:51:1
 same-length : tie.Need-same-length Inv-loop μ-loop
 same-length c = search needs
 
--- src/build.rt:51:1
 returns : tie.Need-returns Inv-loop μ-loop
 returns c = storing-end _ _ _ _ _ _ _ _ (c .before .loop .inv) (c .loop-test .left)
 

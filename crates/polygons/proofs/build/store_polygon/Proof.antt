@@ -9,43 +9,33 @@ use Rattle.polygons.proofs.build.store_corners.Reads as store-corners-r
 use Rattle.locate.proofs.floats_at.Reads as floats-at-reads
 use Rattle.locate.proofs.words_at.Reads as words-at-reads
 
--- src/build.rt:84:27
 floats-at-requires : tie.Need-floats-at-requires
 floats-at-requires c κs = search needs
 
--- src/build.rt:84:5
 store-corners-requires : tie.Need-store-corners-requires
 store-corners-requires c κs = search needs
 
--- src/build.rt:85:9
 words-at-requires : tie.Need-words-at-requires
 words-at-requires c κs = search needs
 
--- src/build.rt:86:21
 cast-words : tie.Need-cast-words
 cast-words c = search needs
 
--- src/build.rt:86:11
 add-words : tie.Need-add-words
 add-words c = search needs
 
--- src/build.rt:86:5
 mul-words : tie.Need-mul-words
 mul-words c = search needs
 
--- src/build.rt:86:5
 slice-write-words : tie.Need-slice-write-words
 slice-write-words c = search needs
 
--- src/build.rt:79:1
 same-length : tie.Need-same-length
 same-length c = search needs
 
--- src/build.rt:79:1
 same-length-2 : tie.Need-same-length-2
 same-length-2 c = search needs
 
--- src/build.rt:79:1
 returns : tie.Need-returns
 returns c = store-polygon _ _ _ _ _ _ _ _ _ (c .before .before .before .before .floats-at .ensures) (c .words-at .ensures) (c .before .before .before .store-corners .ensures .0) (c .before .before .before .store-corners .ensures .1) (omega arith) (omega arith)
 

@@ -24,47 +24,36 @@ Inv-loop case points words s f xs₀ ys₀ from count n₀ k₀ xs ys n k = (k �
 abbrev μ-loop : tie.MeasureT-loop
 μ-loop case points words s f xs₀ ys₀ from count n₀ k₀ xs ys n k = count - k
 
--- src/corners.rt:71:9
 vertex-count-requires : tie.Need-vertex-count-requires Inv-loop μ-loop
 vertex-count-requires c κs = search needs
 
--- src/corners.rt:74:5
 loop-holds : tie.Need-loop-holds Inv-loop μ-loop
 loop-holds c = (search needs, search needs, face-start _ _ _ _ _, search needs, search needs)
 
--- src/corners.rt:75:39
 vertex-requires : tie.Need-vertex-requires Inv-loop μ-loop
 vertex-requires c κs = search needs
 
--- src/corners.rt:75:13
 flat-at-requires : tie.Need-flat-at-requires Inv-loop μ-loop
 flat-at-requires c κs = search needs
 
--- src/corners.rt:76:9
 push-requires : tie.Need-push-requires Inv-loop μ-loop
 push-requires c κs = ((search needs, search needs, search needs), face-fits _ _ _ _ _ _ _ _ (c .before .before .before .before .before .before .vertex-count .ensures .0 []) (c .before .before .before .before .before .loop .inv .2) _ _ (c .before .before .before .before .loop-test .taken) (c .before .before .before .vertex .ensures .0 []) (c .before .before .flat-at .ensures) (c .before .before .before .before .before .before .before .before .before .before .before .pre .1))
 
--- src/corners.rt:77:9
 add-k : tie.Need-add-k Inv-loop μ-loop
 add-k c = search needs
 
--- src/corners.rt:74:5
 loop-less : tie.Need-loop-less Inv-loop μ-loop
 loop-less c = search needs
 
--- src/corners.rt:74:5
 loop-again : tie.Need-loop-again Inv-loop μ-loop
 loop-again c = (search needs, search needs, face-turn _ _ _ _ _ _ _ _ (c .before .before .before .before .before .before .before .before .before .before .before .vertex-count .ensures .0 []) (c .before .before .before .before .before .before .before .before .before .before .loop .inv .2) _ _ (c .before .before .before .before .before .before .before .before .before .loop-test .taken) (c .before .before .before .before .before .before .before .before .vertex .ensures .0 []) (c .before .before .before .before .before .before .before .flat-at .ensures) _ (c .before .before .before .before .push .ensures .0), search needs, search needs)
 
--- src/corners.rt:66:1
 same-length : tie.Need-same-length Inv-loop μ-loop
 same-length c = search needs
 
--- src/corners.rt:66:1
 same-length-2 : tie.Need-same-length-2 Inv-loop μ-loop
 same-length-2 c = search needs
 
--- src/corners.rt:66:1
 returns : tie.Need-returns Inv-loop μ-loop
 returns c = (face-end _ _ _ _ _ _ _ _ (c .before .before .vertex-count .ensures .0 []) (c .before .loop .inv .2) (c .loop-test .left), search needs)
 

@@ -4,12 +4,10 @@ use Rattle.polygons.proofs.corners.alike.Tie as tie
 use Rattle.polygons.proofs.corners.alike.Reads as reads
 use Rattle.polygons.proofs.corners.alike.Lts as lts
 
--- src/corners.rt:18:1
 returns : tie.Need-returns
 unfolding alike
 returns c = rw (c .before .if1 .taken)
 
--- src/corners.rt:18:1
 returns-2 : tie.Need-returns-2
 unfolding alike
 returns-2 c = rw (c .if1 .left)

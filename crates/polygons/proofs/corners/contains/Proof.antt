@@ -18,47 +18,36 @@ Inv-loop xs ys n p k₀ k = (k ≤ n) × (any (alike p) (drop k (cornersIn xs ys
 abbrev μ-loop : tie.MeasureT-loop
 μ-loop xs ys n p k₀ k = n - k
 
--- src/corners.rt:30:5
 loop-holds : tie.Need-loop-holds Inv-loop μ-loop
 loop-holds c = search needs
 
--- src/corners.rt:31:21
 mul-alike : tie.Need-mul-alike Inv-loop μ-loop
 mul-alike c = search needs
 
--- src/corners.rt:31:21
 shared-slice-read-alike : tie.Need-shared-slice-read-alike Inv-loop μ-loop
 shared-slice-read-alike c = search needs
 
--- src/corners.rt:31:28
 mul-alike-2 : tie.Need-mul-alike-2 Inv-loop μ-loop
 mul-alike-2 c = search needs
 
--- src/corners.rt:31:28
 shared-slice-read-alike-2 : tie.Need-shared-slice-read-alike-2 Inv-loop μ-loop
 shared-slice-read-alike-2 c = search needs
 
--- src/corners.rt:31:12
 alike-requires : tie.Need-alike-requires Inv-loop μ-loop
 alike-requires c κs = search needs
 
--- src/corners.rt:32:13
 returns : tie.Need-returns Inv-loop μ-loop
 returns c = search (contains-here, needs)
 
--- src/corners.rt:34:9
 add-k : tie.Need-add-k Inv-loop μ-loop
 add-k c = search needs
 
--- src/corners.rt:30:5
 loop-less : tie.Need-loop-less Inv-loop μ-loop
 loop-less c = search needs
 
--- src/corners.rt:30:5
 loop-again : tie.Need-loop-again Inv-loop μ-loop
 loop-again c = (search needs, search (contains-next, needs))
 
--- src/corners.rt:25:1
 returns-2 : tie.Need-returns-2 Inv-loop μ-loop
 returns-2 c = search (contains-end, needs)
 

@@ -23,43 +23,33 @@ Inv-loop case points words s i xs₀ ys₀ count n₀ k₀ xs ys n k = (k ≤ co
 abbrev μ-loop : tie.MeasureT-loop
 μ-loop case points words s i xs₀ ys₀ count n₀ k₀ xs ys n k = count - k
 
--- src/corners.rt:88:9
 face-count-requires : tie.Need-face-count-requires Inv-loop μ-loop
 face-count-requires c κs = search needs
 
--- src/corners.rt:91:5
 loop-holds : tie.Need-loop-holds Inv-loop μ-loop
 loop-holds c = (search needs, search needs, cell-start _ _ _ _ _ _, search needs, search needs)
 
--- src/corners.rt:92:13
 cell-face-requires : tie.Need-cell-face-requires Inv-loop μ-loop
 cell-face-requires c κs = search needs
 
--- src/corners.rt:93:9
 add-face-requires : tie.Need-add-face-requires Inv-loop μ-loop
 add-face-requires c κs = (search needs, cell-fits _ _ _ _ _ _ _ _ (c .before .before .before .before .before .face-count .ensures .0 []) (c .before .before .before .before .loop .inv .2) _ (c .before .before .before .loop-test .taken) (c .before .before .cell-face .ensures .0 []) (c .before .before .before .before .before .before .before .before .before .before .pre .1))
 
--- src/corners.rt:94:9
 add-k : tie.Need-add-k Inv-loop μ-loop
 add-k c = search needs
 
--- src/corners.rt:91:5
 loop-less : tie.Need-loop-less Inv-loop μ-loop
 loop-less c = search needs
 
--- src/corners.rt:91:5
 loop-again : tie.Need-loop-again Inv-loop μ-loop
 loop-again c = (search needs, search needs, cell-turn _ _ _ _ _ _ _ _ (c .before .before .before .before .before .before .before .before .before .before .face-count .ensures .0 []) (c .before .before .before .before .before .before .before .before .before .loop .inv .2) _ (c .before .before .before .before .before .before .before .before .loop-test .taken) (c .before .before .before .before .before .before .before .cell-face .ensures .0 []) _ (c .before .before .before .before .add-face .ensures .0), search needs, search needs)
 
--- src/corners.rt:83:1
 same-length : tie.Need-same-length Inv-loop μ-loop
 same-length c = search needs
 
--- src/corners.rt:83:1
 same-length-2 : tie.Need-same-length-2 Inv-loop μ-loop
 same-length-2 c = search needs
 
--- src/corners.rt:83:1
 returns : tie.Need-returns Inv-loop μ-loop
 returns c = (cell-end _ _ _ _ _ _ _ _ (c .before .before .face-count .ensures .0 []) (c .before .loop .inv .2) (c .loop-test .left), search needs)
 

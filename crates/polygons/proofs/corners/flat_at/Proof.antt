@@ -6,11 +6,9 @@ use Rattle.polygons.proofs.corners.flat_at.Reads as reads
 use Rattle.polygons.proofs.corners.flat_at.Lts as lts
 use Rattle.area.proofs.point_at.Reads as point-at-reads
 
--- src/corners.rt:57:9
 point-at-requires : tie.Need-point-at-requires
 point-at-requires c κs = search needs
 
--- src/corners.rt:53:1
 returns : tie.Need-returns
 unfolding flat
 returns c = rw (c .point-at .ensures)

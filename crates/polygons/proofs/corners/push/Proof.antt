@@ -7,51 +7,39 @@ use Rattle.polygons.proofs.corners.push.Reads as reads
 use Rattle.polygons.proofs.corners.push.Lts as lts
 use Rattle.polygons.proofs.corners.contains.Reads as contains-reads
 
--- src/corners.rt:45:8
 contains-requires : tie.Need-contains-requires
 contains-requires c κs = search needs
 
--- src/corners.rt:46:9
 same-length : tie.Need-same-length
 same-length c = search needs
 
--- src/corners.rt:46:9
 same-length-2 : tie.Need-same-length-2
 same-length-2 c = search needs
 
--- src/corners.rt:46:9
 returns : tie.Need-returns
 returns c = (push-had _ _ _ _ _ (c .before .contains .ensures) (c .if1 .taken), c .before .before .before .before .before .before .pre .0 .0)
 
--- src/corners.rt:48:5
 mul-xs : tie.Need-mul-xs
 mul-xs c = search needs
 
--- src/corners.rt:48:5
 slice-write-xs : tie.Need-slice-write-xs
 slice-write-xs c = omega (arith, push-fits _ _ _ _ _ (c .before .contains .ensures) (c .if1 .left) (c .before .before .before .before .before .before .pre .1))
 
--- src/corners.rt:49:5
 mul-ys : tie.Need-mul-ys
 mul-ys c = search needs
 
--- src/corners.rt:49:5
 slice-write-ys : tie.Need-slice-write-ys
 slice-write-ys c = omega (arith, push-fits _ _ _ _ _ (c .before .contains .ensures) (c .if1 .left) (c .before .before .before .before .before .before .pre .1))
 
--- src/corners.rt:50:5
 add-result : tie.Need-add-result
 add-result c = search needs
 
--- src/corners.rt:40:1
 same-length-3 : tie.Need-same-length-3
 same-length-3 c = search needs
 
--- src/corners.rt:40:1
 same-length-4 : tie.Need-same-length-4
 same-length-4 c = search needs
 
--- src/corners.rt:40:1
 returns-2 : tie.Need-returns-2
 returns-2 c = let h = push-fits _ _ _ _ _ (c .before .contains .ensures) (c .if1 .left) (c .before .before .before .before .before .before .pre .1) in (push-new _ _ _ _ _ (c .before .contains .ensures) (c .if1 .left) (omega arith) (omega arith), omega arith)
 

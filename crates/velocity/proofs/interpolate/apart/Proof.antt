@@ -9,30 +9,24 @@ use Rattle.velocity.proofs.interpolate.apart.Lts as lts
 use Rattle.arith.proofs.Vec3.norm_squared.Reads as norm-squared-reads
 use Rattle.arith.proofs.float.is_finite.Reads as is-finite-reads
 
--- src/interpolate.rt:87:9
 norm-squared-requires : tie.Need-norm-squared-requires
 norm-squared-requires c κs = search needs
 
--- src/interpolate.rt:88:8
 is-finite-requires : tie.Need-is-finite-requires
 is-finite-requires c κs = search needs
 
--- src/interpolate.rt:89:17
 float-from-bits-if2 : tie.Need-float-from-bits-if2
 unfolding ofBits nanBits
 float-from-bits-if2 c = tt
 
--- src/interpolate.rt:84:1
 returns : tie.Need-returns
 unfolding apart
 returns c = rw (sym (c .before .before .before .norm-squared .ensures), sym (c .before .before .is-finite .ensures) ∙ c .before .if1 .taken, c .if2 .taken)
 
--- src/interpolate.rt:84:1
 returns-2 : tie.Need-returns-2
 unfolding apart
 returns-2 c = rw (sym (c .before .before .before .norm-squared .ensures), sym (c .before .before .is-finite .ensures) ∙ c .before .if1 .taken, c .if2 .left)
 
--- src/interpolate.rt:84:1
 returns-3 : tie.Need-returns-3
 unfolding apart
 returns-3 c = rw (sym (c .before .before .norm-squared .ensures), sym (c .before .is-finite .ensures) ∙ c .if1 .left)

@@ -10,39 +10,30 @@ use Rattle.velocity.proofs.interpolate.apart.Reads as apart-reads
 use Rattle.velocity.proofs.interpolate.blended.Reads as blended-reads
 use Rattle.velocity.proofs.interpolate.read_cell.Reads as read-cell-reads
 
--- src/interpolate.rt:107:9
 centre-of-requires : tie.Need-centre-of-requires
 centre-of-requires c κs = search needs
 
--- src/interpolate.rt:108:18
 centre-of-requires-2 : tie.Need-centre-of-requires-2
 centre-of-requires-2 c κs = search needs
 
--- src/interpolate.rt:108:9
 sub-requires : tie.Need-sub-requires
 sub-requires c κs = search needs
 
--- src/interpolate.rt:109:8
 apart-requires : tie.Need-apart-requires
 apart-requires c κs = search needs
 
--- src/interpolate.rt:110:13
 read-cell-requires : tie.Need-read-cell-requires
 read-cell-requires c κs = search needs
 
--- src/interpolate.rt:111:9
 blended-requires : tie.Need-blended-requires
 blended-requires c κs = search needs
 
--- src/interpolate.rt:111:9
 same-length : tie.Need-same-length
 same-length c = search needs
 
--- src/interpolate.rt:111:9
 returns : tie.Need-returns
 returns c = λ g words. beside-read g _ words _ _ _ _ _ _ _ _ _ _ _ (c .before .before .before .before .before .before .before .before .before .centre-of .ensures words) (c .before .before .before .before .before .before .before .before .centre-of2 .ensures words) (c .before .before .before .before .before .before .before .sub .ensures) (c .before .before .before .before .before .before .apart .ensures) (c .before .before .before .before .before .if1 .taken) (c .before .before .before .read-cell .ensures) (c .blended .ensures)
 
--- src/interpolate.rt:103:1
 returns-2 : tie.Need-returns-2
 returns-2 c = λ g words. beside-not g _ words _ _ _ _ _ _ _ _ _ _ _ (c .before .before .before .before .centre-of .ensures words) (c .before .before .before .centre-of2 .ensures words) (c .before .before .sub .ensures) (c .before .apart .ensures) (c .if1 .left)
 

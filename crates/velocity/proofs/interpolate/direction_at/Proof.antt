@@ -10,36 +10,28 @@ use Rattle.velocity.proofs.interpolate.direction_at.Lts as lts
 use Rattle.velocity.proofs.interpolate.unit.Reads as unit-reads
 use Rattle.velocity.proofs.interpolate.velocity_at.Reads as velocity-at-reads
 
--- src/interpolate.rt:167:27
 velocity-at-requires : tie.Need-velocity-at-requires
 velocity-at-requires c κs = search needs
 
--- src/interpolate.rt:167:22
 enum-known-v : tie.Need-enum-known-v
 enum-known-v c = search needs
 
--- src/interpolate.rt:168:9
 enum-told : tie.Need-enum-told
 enum-told c = search needs
 
--- src/interpolate.rt:168:9
 same-length : tie.Need-same-length
 same-length c = search needs
 
--- src/interpolate.rt:168:9
 returns : tie.Need-returns
 unfolding directionAt
 returns c = served-lost (λ v. give (unit _ v)) (c .before .before .before .before .velocity-at .ensures) (c .enum-told .given .1)
 
--- src/interpolate.rt:170:5
 unit-requires : tie.Need-unit-requires
 unit-requires c κs = search needs
 
--- src/interpolate.rt:163:1
 same-length-2 : tie.Need-same-length-2
 same-length-2 c = search needs
 
--- src/interpolate.rt:163:1
 returns-2 : tie.Need-returns-2
 unfolding directionAt
 returns-2 c = rw (c .unit .ensures) (served-found (λ v. give (unit _ v)) (c .before .before .before .before .before .before .velocity-at .ensures) (c .before .before .v .given .1) served-give)

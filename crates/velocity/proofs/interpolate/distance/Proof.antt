@@ -9,19 +9,15 @@ use Rattle.area.proofs.centre_of.Reads as centre-of-reads
 use Rattle.arith.proofs.Vec3.norm_squared.Reads as norm-squared-reads
 use Rattle.arith.proofs.Vec3.sub.Reads as sub-reads
 
--- src/interpolate.rt:43:11
 centre-of-requires : tie.Need-centre-of-requires
 centre-of-requires c κs = search needs
 
--- src/interpolate.rt:43:5
 sub-requires : tie.Need-sub-requires
 sub-requires c κs = search needs
 
--- src/interpolate.rt:43:5
 norm-squared-requires : tie.Need-norm-squared-requires
 norm-squared-requires c κs = search needs
 
--- src/interpolate.rt:39:1
 returns : tie.Need-returns
 unfolding distance centreOf fieldIn
 returns c = λ g words. rw (c .norm-squared .ensures, c .before .sub .ensures, c .before .before .centre-of .ensures words)

@@ -6,19 +6,15 @@ use Rattle.velocity.proofs.interpolate.mark.Tie as tie
 use Rattle.velocity.proofs.interpolate.mark.Reads as reads
 use Rattle.velocity.proofs.interpolate.mark.Lts as lts
 
--- src/interpolate.rt:32:9
 slice-write-marks : tie.Need-slice-write-marks
 slice-write-marks c = search needs
 
--- src/interpolate.rt:28:1
 same-length : tie.Need-same-length
 same-length c = search needs
 
--- src/interpolate.rt:28:1
 returns : tie.Need-returns
 returns c = refl
 
--- src/interpolate.rt:28:1
 returns-2 : tie.Need-returns-2
 returns-2 c = unmarked _ _ (c .if1 .left)
 

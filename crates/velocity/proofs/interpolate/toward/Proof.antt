@@ -8,27 +8,21 @@ use Rattle.area.proofs.neighbour_count.Reads as neighbour-count-reads
 use Rattle.velocity.proofs.interpolate.beside.Reads as beside-reads
 use Rattle.velocity.proofs.interpolate.nearest.Reads as nearest-reads
 
--- src/interpolate.rt:121:8
 neighbour-count-requires : tie.Need-neighbour-count-requires
 neighbour-count-requires c κs = search needs
 
--- src/interpolate.rt:122:9
 returns : tie.Need-returns
 returns c = λ g. toward-none g _ _ _ _ _ _ _ _ _ (c .before .neighbour-count .ensures .0 (c .before .before .before .before .before .before .args .floats .now)) (c .if1 .taken)
 
--- src/interpolate.rt:124:9
 nearest-requires : tie.Need-nearest-requires
 nearest-requires c κs = search needs
 
--- src/interpolate.rt:125:5
 beside-requires : tie.Need-beside-requires
 beside-requires c κs = search needs
 
--- src/interpolate.rt:117:1
 same-length : tie.Need-same-length
 same-length c = search needs
 
--- src/interpolate.rt:117:1
 returns-2 : tie.Need-returns-2
 returns-2 c = λ g. toward-some g _ _ _ _ _ _ _ _ _ _ (c .before .before .before .before .before .before .neighbour-count .ensures .0 (c .before .before .before .before .before .before .before .before .before .before .before .args .floats .now)) (c .before .before .before .before .before .if1 .left) (c .before .before .before .before .nearest .ensures g) (c .before .before .beside .ensures g (c .before .before .before .before .before .before .before .before .before .before .before .args .words .now))
 

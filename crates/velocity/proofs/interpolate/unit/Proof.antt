@@ -8,27 +8,21 @@ use Rattle.arith.proofs.Vec3.div.Reads as div-reads
 use Rattle.arith.proofs.Vec3.norm.Reads as norm-reads
 use Rattle.arith.proofs.float.is_finite.Reads as is-finite-reads
 
--- src/interpolate.rt:146:9
 norm-requires : tie.Need-norm-requires
 norm-requires c κs = search needs
 
--- src/interpolate.rt:147:8
 is-finite-requires : tie.Need-is-finite-requires
 is-finite-requires c κs = search needs
 
--- src/interpolate.rt:149:33
 div-requires : tie.Need-div-requires
 div-requires c κs = search needs
 
--- src/interpolate.rt:149:13
 returns : tie.Need-returns
 returns c = unit-moving _ _ _ _ (c .before .before .before .before .norm .ensures) (c .before .before .before .is-finite .ensures) _ (c .div .ensures) (c .before .before .if1 .taken) (c .before .if2 .taken)
 
--- src/interpolate.rt:143:1
 returns-2 : tie.Need-returns-2
 returns-2 c = unit-still _ _ _ _ (c .before .before .before .norm .ensures) (c .before .before .is-finite .ensures) (c .before .if1 .taken) (c .if2 .left)
 
--- src/interpolate.rt:143:1
 returns-3 : tie.Need-returns-3
 returns-3 c = unit-endless _ _ _ _ (c .before .before .norm .ensures) (c .before .is-finite .ensures) (c .if1 .left)
 

@@ -7,19 +7,15 @@ use Rattle.velocity.proofs.interpolate.velocity_in.Lts as lts
 use Rattle.velocity.proofs.interpolate.read_cell.Reads as read-cell-reads
 use Rattle.velocity.proofs.interpolate.toward.Reads as toward-reads
 
--- src/interpolate.rt:133:9
 read-cell-requires : tie.Need-read-cell-requires
 read-cell-requires c κs = search needs
 
--- src/interpolate.rt:134:5
 toward-requires : tie.Need-toward-requires
 toward-requires c κs = search needs
 
--- src/interpolate.rt:129:1
 same-length : tie.Need-same-length
 same-length c = search needs
 
--- src/interpolate.rt:129:1
 returns : tie.Need-returns
 returns c = λ g. velocity-in g _ _ _ _ _ _ _ (c .before .before .before .before .before .before .read-cell .ensures) (c .before .before .toward .ensures g)
 
