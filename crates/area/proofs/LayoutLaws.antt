@@ -1,21 +1,20 @@
 -- Laws of the layout: a record by its number, and that what follows the mesh's part does not matter. Assumes nothing.
 use Prim.Native.Nat.{ℕ, _+_, _-_, _*_, _≤_, _<_}
 use native.Mathlib.Omega.{arith}
-use mathlib.Core.Path.{_≡_, refl, ap, ap₂, sym, _∙_}
+use mathlib.Core.Path.{_≡_, sym}
 use mathlib.Core.List.{List}
-use lib.ListN.{length, getD, take, drop, length-take, List·getD-eq-default}
+use lib.ListN.{length, getD, take, List·getD-eq-default}
 use lib.Seq.{length-take-le, getD-take}
-use lib.Ieee.{Float, nan}
+use lib.Ieee.{Float}
 use borrow.Author.Tests.{eq-eqb, ne-eqb}
 use Rattle.arith.specs.Bytes.{vecAt}
 use Rattle.arith.specs.Records.{tab}
 use Rattle.arith.specs.Vec.{origin}
 use Rattle.arith.specs.declared.Vec3.{Vec3}
-use Rattle.arith.specs.declared.Found.{Found}
 use Rattle.arith.specs.declared.Found.the-variants.{At, Nothing}
 use Rattle.arith.proofs.RecordLaws.{length-tab, getD-tab}
 use Rattle.area.specs.declared.Sizes.{Sizes}
-use Rattle.area.specs.Tables.{Face, Cell, pointAt, faceAt, cellAt, noFace, noCell}
+use Rattle.area.specs.Tables.{pointAt, faceAt, cellAt, noFace, noCell}
 use Rattle.area.specs.Layout.{pointsIn, meshWords, meshFloats, wordsEnd, floatsEnd, listAt, found, faceIn, cellIn, facesIn, cellsIn, meshIn}
 
 -- ---- points

@@ -1,13 +1,13 @@
 -- Floats to counts: what `floor_usize` and `ceil_usize` find by their tests. Assumes nothing.
 use mathlib.Core.Path.{_≡_, refl, sym, ap, _∙_, subst}
 use Prim.Native.Nat.{ℕ, zero, suc, _+_, _-_, _*_, _/_, _%_, _^_, _≤_, _<_, min, zero-le}
-use native.Mathlib.Nat.{mul-one, mul-comm, mul-right-comm, add-mul, one-mul, add-zero, div-one, mul-lt-mul-of-pos-right, mul-le-mul-right, mul-le-mul-left, div-lt-iff-lt-mul, le-div-iff-mul-le, div-add-mod', mod-lt, le-trans, le-of-suc-le-suc, lt-of-lt-of-le, lt-of-le-of-lt, lt-irrefl, min-eq-left, min-eq-right, not-le-of-lt}
+use native.Mathlib.Nat.{mul-one, mul-right-comm, add-mul, one-mul, add-zero, mul-lt-mul-of-pos-right, mul-le-mul-right, div-lt-iff-lt-mul, le-div-iff-mul-le, div-add-mod', mod-lt}
 use native.Mathlib.Omega.{arith}
-use mathlib.Core.Bool.{Bool, true, false, cond, not, _&&_, _||_, true≢false, false≢true}
+use mathlib.Core.Bool.{Bool, true, false, _&&_, true≢false, false≢true}
 use lib.IntN.{ℤ, pos, negsuc}
 use lib.Dec.{T, eqb, leb, ltb, ltb→lt, lt→ltb, le→leb}
 use lib.Arith.{digits-div}
-use lib.Pow.{pow-mono, pow-pos}
+use lib.Pow.{pow-pos}
 use lib.Ieee.{Float, nan, inf, fin, binary64, up, down, below, lt, toUnsigned, ofInt, inFloat, isNan, fits}
 use lib.Ieee.Fits.{down-pos, and-l, and-r}
 use lib.Ieee.Exact.{HasValue}

@@ -1,6 +1,6 @@
 -- What the tests and operators on floats say of the values, kind by kind. Assumes nothing.
 use mathlib.Core.Path.{_≡_, refl, sym, ap, _∙_, subst}
-use Prim.Native.Nat.{ℕ, zero, suc, _+_, _-_, _*_, _/_, _%_, _^_, _≤_, _<_}
+use Prim.Native.Nat.{ℕ, zero, suc, _+_, _*_, _/_, _%_, _^_, _≤_, _<_}
 use native.Mathlib.Nat.{mul-pos, mul-one, one-mul, zero-lt-suc, not-le-of-lt}
 use native.Mathlib.Omega.{arith}
 use native.Mathlib.Decide.{ℕ-discrete}
@@ -8,7 +8,7 @@ use mathlib.Core.Bool.{Bool, true, false, cond, not, _&&_, _||_, true≢false, f
 use lib.IntN.{ℤ, pos, negsuc}
 use lib.Dec.{T, eqb, leb, ltb, eqb→eq}
 use lib.Ieee.{Float, nan, inf, fin, binary64, up, down, lt, eq, ne, le, neg, odd, fits, isNan, ofFields, ofBits, toBits}
-use lib.Ieee.Fits.{up-pos, down-pos, and-l, and-r}
+use lib.Ieee.Fits.{up-pos}
 use lib.Ieee.Bits.{ofBits-toBits}
 use borrow.Author.Tests.{ltb-true, ltb-false, eq-eqb, ne-eqb, lt-ltb, le-ltb}
 use lib.Ieee.{nanBits}

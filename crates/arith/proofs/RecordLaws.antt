@@ -1,16 +1,16 @@
 -- Laws of `specs.Records`: read back a tabulated area, lend a part, store a record at a stride.
 -- Assumes nothing.
 use mathlib.Core.Path.{_≡_, refl, sym, ap, _∙_, subst}
-use mathlib.Core.List.{List, [], _∷_, _++_, append-assoc, append-nil}
+use mathlib.Core.List.{List, [], _∷_, _++_}
 use mathlib.Core.Logic.{⊎-elim, _≢_, _⊎_, inl, inr}
-use Prim.Native.Nat.{ℕ, zero, suc, _+_, _-_, _*_, _<_, _≤_, min}
-use native.Mathlib.Nat.{add-zero, zero-add, add-suc, suc-add, add-assoc, le-refl, le-trans, lt-of-lt-of-le, le-of-lt, le-of-suc-le-suc, not-suc-le-zero, mul-le-mul-left, mul-suc, eq-or-lt-of-le, suc-ne-zero, add-sub-cancel-left}
+use Prim.Native.Nat.{ℕ, zero, suc, _+_, _-_, _*_, _<_, _≤_}
+use native.Mathlib.Nat.{add-zero, le-refl, le-trans, le-of-lt, le-of-suc-le-suc, not-suc-le-zero, mul-le-mul-left, mul-suc, eq-or-lt-of-le, suc-ne-zero, add-sub-cancel-left}
 use mathlib.Core.Bool.{Bool, true, false, cond}
 use native.Mathlib.Decide.{decLt}
-use native.Mathlib.Numerals.{add-one, one-add}
+use native.Mathlib.Numerals.{add-one}
 use native.Mathlib.Omega.{arith}
-use lib.ListN.{length, getD, take, drop, set, length-append, length-take, length-drop, length-set, List·getD-append}
-use lib.Seq.{drop-cons, getD-take, getD-drop, getD-append-add, getD-append-seam, sets, sets-eq, length-take-le, take-append-seam, drop-drop, getD-set-same, getD-set-other, ext-getD, drop-append-seam, drop-append-le, take-set-le, take-nil, take-at, drop-at}
+use lib.ListN.{length, getD, take, drop, set, length-append, length-drop, length-set, List·getD-append}
+use lib.Seq.{drop-cons, getD-take, getD-drop, getD-append-seam, length-take-le, drop-drop, getD-set-same, getD-set-other, take-set-le, take-nil, take-at, drop-at}
 use borrow.Rule.Slice.PartMut.{drop-put}
 use Rattle.arith.specs.Records.{tab, part, puts, putsFrom, chunk, patch}
 

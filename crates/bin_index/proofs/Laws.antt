@@ -3,8 +3,8 @@ use mathlib.Core.Path.{_≡_, refl, sym, ap, _∙_}
 use mathlib.Core.Bool.{Bool, true, false, _&&_}
 use mathlib.Core.List.{List}
 use mathlib.Core.Logic.{_≢_, _⊎_, inl, inr}
-use Prim.Native.Nat.{ℕ, zero, suc, _+_, _-_, _*_, _/_, _%_, _<_, _≤_}
-use native.Mathlib.Nat.{not-suc-le-zero, lt-irrefl, le-refl, sub-zero, sub-self}
+use Prim.Native.Nat.{ℕ, _+_, _-_, _*_, _<_, _≤_}
+use native.Mathlib.Nat.{not-suc-le-zero, lt-irrefl, le-refl}
 use native.Mathlib.Decide.{ℕ-discrete}
 use native.Mathlib.Omega.{arith}
 use borrow.Author.Tests.{lt-ltb, le-ltb, le-leb, lt-leb, eq-eqb, ne-eqb}
@@ -12,7 +12,7 @@ use lib.Dec.{eqb, ltb, leb, lit≤}
 use lib.ListN.{length, getD, set}
 use lib.Seq.{getD-set-same, getD-set-other, take-set-le}
 use Rattle.arith.proofs.RecordLaws.{stride-le, lt-or-ge, same-below}
-use Rattle.bin_index.specs.Index.{slotIn, inBin, flagIn, place, poolIn, headIn, Same, PoolSet, FlagSet, Pushed, Chain, none, node, Chains, Ranged, Indexed, passed, within, Grown, Filled, Built}
+use Rattle.bin_index.specs.Index.{slotIn, inBin, place, poolIn, headIn, Same, PoolSet, FlagSet, Pushed, Chain, none, node, Chains, Ranged, Indexed, passed, within, Grown, Filled, Built}
 
 -- ---- the records
 

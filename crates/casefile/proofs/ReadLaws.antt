@@ -4,10 +4,9 @@ use native.Mathlib.Nat.{mul-suc, mul-zero, add-zero, zero-add}
 use native.Mathlib.Omega.{arith}
 use mathlib.Core.Path.{_≡_, refl, ap, ap₂, sym, _∙_}
 use mathlib.Core.List.{List, _∷_}
-use lib.ListN.{length, getD, take, drop, length-take, length-drop, List·getD-eq-default}
+use lib.ListN.{length, getD, take, drop, length-take, length-drop}
 use lib.Seq.{getD-take, getD-drop}
-use Rattle.arith.specs.Bytes.{le32, vecAt, readAll}
-use Rattle.arith.specs.Vec.{origin}
+use Rattle.arith.specs.Bytes.{le32, readAll}
 use Rattle.casefile.specs.Trailer.{wordsIn}
 
 module _ {A : Type 0} (f : ℕ → A) (stride : ℕ) where

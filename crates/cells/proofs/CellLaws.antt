@@ -15,11 +15,11 @@ use Rattle.arith.specs.Records.{tab, puts}
 use Rattle.arith.specs.declared.Vec3.{Vec3}
 use Rattle.arith.proofs.ListLaws.{foldl-next}
 use Rattle.arith.proofs.RecordLaws.{length-tab, tab-next, tab-same, length-puts, take-puts, getD-puts-out, getD-puts-at}
-use Rattle.reading.specs.Result.{Result, refused, fine, _>>=_, refuse, steps}
+use Rattle.reading.specs.Result.{refused, fine, _>>=_, refuse, steps}
 use Rattle.reading.proofs.ResultLaws.{steps-next, steps-refused}
 use Rattle.definitions.specs.Faces.{Definition, polygon, facesOf, faceCount, addFaceCount, facesCounted}
 use Rattle.definitions.specs.Definitions.{definition, definitions}
-use Rattle.definitions.specs.Walker.{readOf, definitionAt, headOf, stepAt, Headed}
+use Rattle.definitions.specs.Walker.{readOf, definitionAt, headOf, stepAt}
 use Rattle.definitions.specs.declared.Head.{Head}
 use Rattle.definitions.specs.declared.Cursor.{Cursor}
 use Rattle.definitions.specs.declared.Step.the-variants.{Record, Wrong}
@@ -27,7 +27,7 @@ use Rattle.definitions.proofs.RecordLaws.{steps-to}
 use Rattle.definitions.proofs.FaceLaws.{headed}
 use Rattle.definitions.proofs.Walking.{length-definitions, never-wrong, CellRead, cell-read, head-faces}
 use Rattle.area.specs.declared.Sizes.{Sizes}
-use Rattle.area.specs.Layout.{LentWords, LentFloats, listAt, vecFrom, facesIn, meshWords}
+use Rattle.area.specs.Layout.{listAt, vecFrom, facesIn, meshWords}
 use Rattle.face_table.specs.Chains.{Chained}
 use Rattle.face_table.proofs.RecordParts.{read-count}
 use Rattle.faces.specs.Using.{sized}

@@ -12,7 +12,7 @@ use Rattle.arith.proofs.RecordLaws.{tab-next, tab-same}
 use Rattle.reading.specs.Result.{Result, refused, fine, _>>=_, steps}
 use Rattle.reading.proofs.ResultLaws.{steps-next, steps-refused}
 use Rattle.definitions.specs.Faces.{facesOf}
-use Rattle.definitions.specs.Walker.{definitionAt, faceAt, Headed, AtFace, FaceCopied}
+use Rattle.definitions.specs.Walker.{definitionAt, faceAt, AtFace, FaceCopied}
 use Rattle.definitions.specs.declared.Head.{Head}
 use Rattle.definitions.specs.declared.FaceCursor.{FaceCursor}
 use Rattle.definitions.proofs.FaceLaws.{at-first}
@@ -20,7 +20,7 @@ use Rattle.definitions.proofs.Walking.{head-faces}
 use Rattle.area.specs.declared.Sizes.{Sizes}
 use Rattle.area.specs.Layout.{LentWords, LentFloats, listAt, facesIn}
 use Rattle.area.proofs.LayoutLaws.{length-facesIn}
-use Rattle.geometry.specs.Faces.{Oriented, orientedFace}
+use Rattle.geometry.specs.Faces.{orientedFace}
 use Rattle.geometry.specs.Answers.{faceOf, Turning}
 use Rattle.geometry.specs.declared.FaceGeometry.{FaceGeometry}
 use Rattle.geometry.specs.declared.TurnedFace.{TurnedFace}

@@ -1,5 +1,5 @@
 -- Refusals 11 and 12, and the distinct point numbers of a record: one turn and the end of each loop. Assumes nothing.
-use Prim.Native.Nat.{ℕ, zero, suc, _+_, _-_, _*_, _≤_, _<_}
+use Prim.Native.Nat.{ℕ, _+_, _-_, _*_, _≤_, _<_}
 use native.Mathlib.Omega.{arith}
 use mathlib.Core.Path.{_≡_, refl, ap, sym, _∙_}
 use mathlib.Core.Bool.{Bool, true, false, not, _||_}
@@ -13,12 +13,12 @@ use Rattle.arith.specs.declared.Vec3.{Vec3}
 use Rattle.arith.proofs.ListLaws.{left-at}
 use Rattle.reading.specs.Result.{Result, refused, fine, _>>=_, refuse, steps}
 use Rattle.reading.proofs.ResultLaws.{steps-next, steps-refused}
-use Rattle.definitions.specs.Faces.{Definition, polygon, solid, polyhedron, facesOf}
+use Rattle.definitions.specs.Faces.{Definition, facesOf}
 use Rattle.definitions.specs.Walker.{definitionAt, faceAt, Headed, AtFace, nextFace, FaceCopied}
 use Rattle.definitions.specs.declared.Head.{Head}
 use Rattle.definitions.specs.declared.FaceCursor.{FaceCursor}
 use Rattle.definitions.proofs.FaceLaws.{PolygonHead, HeadCase, polygon-head, solid-head, polyhedron-head, head-case, at-first}
-use Rattle.definitions.proofs.Walking.{HeadFaces, head-faces}
+use Rattle.definitions.proofs.Walking.{head-faces}
 use Rattle.geometry.specs.Faces.{insertNew, rising, average}
 use Rattle.geometry.specs.Answers.{Inserted}
 use Rattle.collect.specs.Collect.{wrongKind, missing, referenceOf, insertBelow, numbersIn, Collecting, checked, referenceCase}

@@ -1,18 +1,17 @@
 -- Points held in three slices, as a list. Assumes nothing.
-use Prim.Native.Nat.{ℕ, zero, suc, _+_, _≤_, _<_}
+use Prim.Native.Nat.{ℕ, _+_, _≤_, _<_}
 use native.Mathlib.Omega.{arith}
-use mathlib.Core.Path.{_≡_, refl, ap, ap₂, sym, _∙_}
+use mathlib.Core.Path.{_≡_, ap₂, sym, _∙_}
 use mathlib.Core.Bool.{Bool, true, false}
 use mathlib.Core.List.{List, [], _∷_, _++_}
-use lib.ListN.{length, getD, drop, set}
+use lib.ListN.{length, drop}
 use lib.Seq.{getD-set-same, getD-set-other}
 use lib.Ieee.{Float, nan}
 use Rattle.arith.specs.Lists.{foldl, any, addNew, Side, windows}
 use Rattle.arith.specs.Records.{tab}
-use Rattle.arith.specs.Vec.{vec}
 use Rattle.arith.specs.declared.Vec3.{Vec3}
 use Rattle.cutting_plane.proofs.Turns.{Here, Past, window-turn}
-use Rattle.arith.proofs.RecordLaws.{length-tab, getD-tab, drop-tab, tab-next, tab-same}
+use Rattle.arith.proofs.RecordLaws.{length-tab, drop-tab, tab-next, tab-same}
 use Rattle.crossings.specs.Work.{pointIn, heldIn, Holds, Stored, Listed}
 
 module _ (x y z : List Float) (n : ℕ) where

@@ -1,17 +1,16 @@
 -- A point in the plane, within the tolerance, is not beyond it. Assumes nothing.
 use Prim.Native.Nat.{ℕ, _+_, _*_, _≤_}
 use native.Mathlib.Omega.{arith}
-use mathlib.Core.Path.{_≡_, refl, ap, sym, _∙_}
-use mathlib.Core.Bool.{Bool, true, false, not, cond, _&&_, _||_, true≢false, false≢true}
+use mathlib.Core.Path.{_≡_, refl}
+use mathlib.Core.Bool.{Bool, true, false, cond, _&&_, _||_, true≢false, false≢true}
 use mathlib.Core.List.{List}
 use lib.Dec.{ltb, eqb}
 use lib.Ieee.{Float, nan, inf, fin, lt, le, eq, neg, up, down}
-use borrow.Author.Tests.{ltb-true, ltb-false, le-ltb, eqb-true}
+use borrow.Author.Tests.{ltb-true, le-ltb, eqb-true}
 use Rattle.arith.specs.F64.{abs}
 use Rattle.arith.specs.Lists.{addNew}
 use Rattle.arith.specs.declared.Vec3.{Vec3}
 use Rattle.cutting_plane.specs.declared.Cut.{Cut}
-use Rattle.crossings.specs.declared.Meeting.{Meeting}
 use Rattle.crossings.specs.declared.Meeting.the-variants.{Point, None}
 use Rattle.cutting_plane.specs.Cut.{height, near, below, above}
 use Rattle.crossings.specs.Crossings.{rises, parted, close, between, addEnd, addBetween, addMeeting}

@@ -3,12 +3,12 @@ use Prim.Native.Nat.{ℕ, zero, suc, _+_, _-_, _*_, _/_, _%_, _≤_, _<_}
 use native.Mathlib.Numerals.{add-one}
 use native.Mathlib.Omega.{arith}
 use mathlib.Core.Path.{_≡_, refl, ap, sym, _∙_}
-use mathlib.Core.Bool.{Bool, true, false, cond, _&&_}
+use mathlib.Core.Bool.{Bool, true, cond, _&&_}
 use mathlib.Core.List.{List, [], _∷_, _++_, map, append-assoc}
 use lib.Dec.{leb, ltb, eqb}
 use lib.ListN.{length, getD, take, drop, set, length-drop}
 use lib.Seq.{length-take-le, take-all, take-suc, take-at, set-at}
-use borrow.Author.Tests.{eqb-true, ltb-true, leb-true, eqb-false, eq-eqb}
+use borrow.Author.Tests.{eqb-true, ltb-true, leb-true, eq-eqb}
 use Rattle.arith.specs.Lists.{Side, sides, after}
 use Rattle.arith.proofs.ListLaws.{left-at, length-sides, sides-at}
 use Rattle.arith.proofs.RoundLaws.{after-less}

@@ -9,7 +9,6 @@ use borrow.Author.Tests.{eq-eqb, eqb-true}
 use lib.ListN.{length, getD, take, drop}
 use lib.Seq.{length-take-le}
 use Rattle.arith.specs.Lists.{same, sorted}
-use Rattle.arith.specs.Records.{chunk}
 use Rattle.arith.proofs.RecordLaws.{chunk-lent, length-chunk}
 use Rattle.keys.specs.Keys.{total}
 use Rattle.keys.proofs.KeyLaws.{same-true}

@@ -1,10 +1,10 @@
 -- Laws of one record, and of a record that was lent and is back. Assumes nothing.
-use mathlib.Core.Path.{_≡_, refl, sym, ap, ap₂, _∙_}
+use mathlib.Core.Path.{_≡_, refl, sym, ap, _∙_}
 use mathlib.Core.Bool.{Bool, false}
 use mathlib.Core.Logic.{_≢_}
-use mathlib.Core.List.{List, [], _∷_, _++_}
+use mathlib.Core.List.{List, [], _∷_}
 use Prim.Native.Nat.{ℕ, zero, suc, _+_, _-_, _*_, _<_, _≤_}
-use native.Mathlib.Nat.{add-sub-cancel-left, le-antisymm, add-zero}
+use native.Mathlib.Nat.{add-sub-cancel-left, le-antisymm}
 use native.Mathlib.Numerals.{add-one}
 use native.Mathlib.Omega.{arith}
 use borrow.Author.Tests.{eqb-false}
@@ -15,11 +15,10 @@ use lib.Seq.{take-suc, take-suc-set, drop-set-lt, drop-set-add, take-set-le, tak
 use lib.Ieee.{Float, nan}
 use Rattle.arith.specs.Lists.{same, sorted}
 use Rattle.arith.specs.Records.{part, patch, puts, chunk, tab}
-use Rattle.arith.proofs.RecordLaws.{chunk-lent, chunk-same, chunk-other, length-chunk, getD-chunk, length-part, getD-puts-at, take-drop-take, tab-same}
-use Rattle.area.specs.Tables.{Face}
+use Rattle.arith.proofs.RecordLaws.{chunk-lent, chunk-same, chunk-other, length-chunk, getD-chunk, length-part, getD-puts-at, take-drop-take}
 use Rattle.area.specs.Layout.{faceIn, listAt, vecFrom}
 use Rattle.face_table.specs.declared.Measured.{Measured}
-use Rattle.face_table.specs.Records.{Body, bodyOf, bodyIn, measuredOf, measuredIn, faceOf, tableIn, headIn, fresh, joined, FaceStored, MeasuredStored}
+use Rattle.face_table.specs.Records.{Body, bodyOf, bodyIn, measuredOf, measuredIn, faceOf, headIn, fresh, joined, FaceStored, MeasuredStored}
 
 -- ---- has_key
 

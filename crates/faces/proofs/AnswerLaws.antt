@@ -1,5 +1,5 @@
 -- What an answer says of the table, for a caller. Assumes nothing.
-use mathlib.Core.Path.{_≡_, refl, sym, ap, _∙_}
+use mathlib.Core.Path.{_≡_, ap}
 use mathlib.Core.Bool.{Bool, true, false}
 use mathlib.Core.List.{List, [], _∷_, reverse}
 use Prim.Native.Nat.{ℕ, suc, _+_, _<_}
@@ -12,8 +12,7 @@ use Rattle.area.specs.Tables.{Face, faceAt}
 use Rattle.keys.proofs.OrderLaws.{sorted-reverse}
 use Rattle.face_table.specs.declared.Measured.{Measured}
 use Rattle.faces.specs.Table.{hasKey, lookup, joining, settled, adding}
-use Rattle.faces.specs.declared.Added.{Added}
-use Rattle.faces.specs.declared.Added.the-variants.{New, Second, Third}
+use Rattle.faces.specs.declared.Added.the-variants.{New, Second}
 
 -- a face that is turned has the same key
 pub lookup-turned : (l : List ℕ) (fs : List Face) → lookup (sorted (reverse l)) fs ≡ lookup (sorted l) fs

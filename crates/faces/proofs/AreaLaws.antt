@@ -1,8 +1,8 @@
 -- Laws of the table in the lent area: the mesh's part lent and back, an empty table, and what leaves a table as it is. Assumes nothing.
-use mathlib.Core.Path.{_≡_, refl, sym, ap, ap₂, _∙_}
+use mathlib.Core.Path.{_≡_, refl, sym, ap, _∙_}
 use mathlib.Core.List.{List, _++_}
-use Prim.Native.Nat.{ℕ, _+_, _-_, _*_, _<_, _≤_}
-use native.Mathlib.Nat.{not-suc-le-zero, le-refl}
+use Prim.Native.Nat.{ℕ, _+_, _*_, _<_, _≤_}
+use native.Mathlib.Nat.{not-suc-le-zero}
 use native.Mathlib.Decide.{ℕ-discrete}
 use native.Mathlib.Omega.{arith}
 use lib.ListN.{length, getD, take, drop, set, length-set, take-append-drop}
@@ -20,7 +20,6 @@ use Rattle.face_table.specs.Records.{bodyOf, bodyIn, measuredOf, measuredIn, fa
 use Rattle.face_table.specs.Chains.{last, Chains, Chained}
 use Rattle.face_table.proofs.RecordParts.{face-parts, read-count}
 use Rattle.face_table.proofs.ChainLaws.{chains-same}
-use Rattle.faces.specs.Table.{adding}
 use Rattle.faces.specs.declared.Added.{Added}
 use Rattle.faces.specs.declared.Added.the-variants.{New, Second, Third}
 use Rattle.faces.specs.Using.{Ready, Settled, after, sized, Usable, Used, Cleared}

@@ -5,13 +5,11 @@ use Prim.Native.Nat.{ℕ}
 use Rattle.arith.specs.F64.{0·0}
 use Rattle.arith.specs.Vec.{origin}
 use Rattle.arith.specs.Lists.{foldl, insert, sort, sorted, same, firstFrom}
-use Rattle.arith.specs.declared.Found.{Found}
-use Rattle.arith.specs.declared.Found.the-variants.{At, Nothing}
 use Rattle.area.specs.Tables.{Face, faceAt}
 use Rattle.reading.specs.Result.{refused}
 use Rattle.face_table.specs.declared.Measured.{Measured}
 use Rattle.faces.specs.Table.{hasKey, lookup, newFace, withNeighbour, joining, settled, adding, placed, addFace}
-use Rattle.faces.specs.declared.Added.the-variants.{New, Second, Third}
+use Rattle.faces.specs.declared.Added.the-variants.{New, Second}
 
 computing : ℕ
 unfolding foldl insert sort sorted same firstFrom faceAt hasKey lookup newFace withNeighbour joining settled adding placed addFace

@@ -15,11 +15,9 @@ use lib.Seq.{getD-set-same, getD-set-other, getD-drop, drop-drop, drop-set-lt, d
 use lib.Ieee.{Float}
 use Rattle.arith.specs.Lists.{firstFrom, same, sorted}
 use Rattle.arith.specs.Records.{chunk, tab}
-use Rattle.arith.specs.declared.Found.{Found}
 use Rattle.arith.specs.declared.Found.the-variants.{At, Nothing}
 use Rattle.arith.proofs.RecordLaws.{tab-next, tab-same, getD-tab, length-tab}
 use Rattle.area.specs.Tables.{Face, faceAt, noFace}
-use Rattle.area.specs.Layout.{found}
 use Rattle.area.proofs.LayoutLaws.{found-none, found-one}
 use Rattle.keys.specs.Keys.{total}
 use Rattle.keys.proofs.KeyLaws.{same-true, same-self}

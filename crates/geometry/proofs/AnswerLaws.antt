@@ -1,13 +1,13 @@
 -- What the parts of `measured` and `oriented_face` answer, put together. Assumes nothing.
 use Prim.Native.Nat.{ℕ}
-use mathlib.Core.Path.{_≡_, refl, ap, sym, _∙_}
+use mathlib.Core.Path.{_≡_, ap, sym, _∙_}
 use mathlib.Core.Bool.{true, false}
 use mathlib.Core.List.{List, reverse}
 use lib.Ieee.{Float}
 use Rattle.arith.specs.F64.{_≺_, 0·0}
 use Rattle.arith.specs.Vec.{minus, over, dot, norm}
 use Rattle.arith.specs.declared.Vec3.{Vec3}
-use Rattle.reading.specs.Result.{Result, refused, fine, _>>=_}
+use Rattle.reading.specs.Result.{refused, fine, _>>=_}
 use Rattle.geometry.specs.declared.FaceVector.{FaceVector}
 use Rattle.geometry.specs.declared.FaceVector.the-variants as Of
 use Rattle.geometry.specs.declared.FaceGeometry.{FaceGeometry}

@@ -5,7 +5,7 @@ use mathlib.Core.Path.{_≡_, ap, sym, _∙_}
 use mathlib.Core.List.{List, [], _∷_, _++_, List·Memᴰ}
 use lib.ListN.{length, getD, drop, replicate, length-replicate}
 use lib.Seq.{getD-append-add, getD-drop}
-use Rattle.reading.specs.Result.{Result, refused, fine}
+use Rattle.reading.specs.Result.{Result, fine}
 use Rattle.reading.specs.Asks.{Asks, reads}
 use Rattle.reading.specs.Marks.{cleared}
 use Rattle.reading.specs.After.{done, Named}

@@ -1,19 +1,17 @@
 -- The whole job, from what `prepare` and `run` promise. Assumes nothing.
 use Prim.Native.Nat.{ℕ, _*_, _/_, _≤_}
-use native.Mathlib.Omega.{arith}
 use mathlib.Core.Path.{_≡_, refl, ap, sym, _∙_}
 use mathlib.Core.List.{List}
 use lib.ListN.{length}
 use lib.Ieee.{Float}
-use Rattle.reading.specs.Result.{Result, refused, fine, _>>=_}
-use Rattle.reading.specs.After.{After, done, Left}
+use Rattle.reading.specs.Result.{fine, _>>=_}
+use Rattle.reading.specs.After.{done, Left}
 use Rattle.casefile.specs.declared.Counts.{Counts}
-use Rattle.casefile.specs.declared.Opened.the-variants.{Case}
-use Rattle.casefile.specs.Trailer.{opened, openedCase, countsOf}
+use Rattle.casefile.specs.Trailer.{openedCase, countsOf}
 use Rattle.casefile.specs.Field.{outside, cellsOf, valuesOf}
 use Rattle.casefile.proofs.OutsideLaws.{outside-counts}
 use Rattle.requests.specs.Requests.{requestsIn}
-use Rattle.prepare.specs.Room.{Room, Lent, prepared}
+use Rattle.prepare.specs.Room.{Lent, prepared}
 use Rattle.prepare.specs.declared.Place.{Place}
 use Rattle.prepare.specs.declared.Prepared.{Prepared}
 use Rattle.prepare.specs.declared.Prepared.the-variants as Prepared

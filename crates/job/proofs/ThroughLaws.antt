@@ -1,9 +1,9 @@
 -- The loop over the requests. Assumes nothing.
 use Prim.Native.Nat.{ℕ, _+_, _-_, _*_, _/_, _≤_, _<_}
 use native.Mathlib.Omega.{arith}
-use mathlib.Core.Path.{_≡_, refl, ap, sym, _∙_}
-use mathlib.Core.List.{List, []}
-use lib.ListN.{length, getD}
+use mathlib.Core.Path.{_≡_, refl}
+use mathlib.Core.List.{List}
+use lib.ListN.{length}
 use Rattle.reading.specs.declared.Values.{Values}
 use Rattle.requests.specs.Requests.{wordsAt, requestsIn}
 use Rattle.requests.proofs.Laws.{requests-count, requests-at}

@@ -1,11 +1,11 @@
 -- From a line to the answer of a job: the refusals 34 and 35, the seeds of a rake and its lines. Assumes nothing.
-use Prim.Native.Nat.{ℕ, zero, suc, _+_, _-_, _*_, _≤_, _<_}
+use Prim.Native.Nat.{ℕ, suc, _+_, _≤_, _<_}
 use native.Mathlib.Omega.{arith}
 use native.Mathlib.Numerals.{add-one}
 use mathlib.Core.Path.{_≡_, refl, ap, sym, _∙_, fun-ext}
 use mathlib.Core.Bool.{Bool, true, false, not}
 use mathlib.Core.List.{List, [], _∷_, _++_, append-assoc, append-nil}
-use lib.ListN.{length, set, getD, drop, length-append}
+use lib.ListN.{length, set, getD, drop}
 use lib.Seq.{sets}
 use lib.Ieee.{Float}
 use Rattle.arith.specs.Lists.{any}
@@ -29,10 +29,9 @@ use Rattle.locate.specs.Field.{StreamlineField}
 use Rattle.locate.specs.Layout.{cellPolygonsIn, fieldIn}
 use Rattle.velocity.proofs.VelocityLaws.{locate-in}
 use Rattle.rk4.specs.declared.StreamlineOptions.{StreamlineOptions}
-use Rattle.lines.specs.declared.Traced.{Traced}
 use Rattle.lines.specs.declared.Traced.the-variants.{Words, Refused}
 use Rattle.lines.specs.declared.StreamlineDirection.{StreamlineDirection}
-use Rattle.lines.specs.Line.{areGood, isNowhere, nowhere, lineAnswer, integrate}
+use Rattle.lines.specs.Line.{isNowhere, nowhere, lineAnswer}
 use Rattle.lines.specs.Rake.{seedAt, seeds, linesWords}
 use Rattle.lines.specs.Written.{Written}
 use Rattle.lines.specs.Answered.{Answered, tracedOf, readsOf, wordsOf}

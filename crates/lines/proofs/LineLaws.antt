@@ -1,9 +1,9 @@
 -- A turn of a line's loop, over plain values: what is left to serve, and what was written. Assumes nothing.
-use Prim.Native.Nat.{ℕ, zero, suc, _+_, _-_, _*_, _≤_, _<_}
+use Prim.Native.Nat.{ℕ, suc, _+_, _-_, _*_, _<_}
 use native.Mathlib.Nat.{sub-zero}
 use native.Mathlib.Numerals.{add-one}
 use native.Mathlib.Omega.{arith}
-use mathlib.Core.Path.{_≡_, refl, ap, sym, _∙_, subst, fun-ext}
+use mathlib.Core.Path.{_≡_, refl, ap, sym, _∙_, fun-ext}
 use mathlib.Core.List.{List, [], _∷_, _++_, append-assoc, append-nil}
 use lib.ListN.{length, set, length-append}
 use lib.Seq.{sets}
@@ -15,7 +15,7 @@ use Rattle.reading.specs.Asks.{Asks, give, run, reads, _>>=_}
 use Rattle.reading.specs.Marks.{markAll}
 use Rattle.reading.specs.Served.{Served, Going}
 use Rattle.reading.proofs.AsksLaws.{bind-assoc, bind-give, run-bind, reads-bind}
-use Rattle.reading.proofs.ServedLaws.{going-start, going-part, going-end, served-then, served-give}
+use Rattle.reading.proofs.ServedLaws.{going-start, going-part, going-end}
 use Rattle.writing.specs.Words.{vecWords, pointWords}
 use Rattle.writing.proofs.WordLaws.{sets-append, sets-set, length-vec, length-points}
 use Rattle.locate.specs.Field.{StreamlineField}

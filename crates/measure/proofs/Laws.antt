@@ -1,11 +1,11 @@
 -- Laws of the loops over points, faces of a record and faces of the table. Assumes nothing.
-use Prim.Native.Nat.{ℕ, suc, _+_, _≤_, _<_}
+use Prim.Native.Nat.{ℕ, _+_, _≤_, _<_}
 use native.Mathlib.Omega.{arith}
 use mathlib.Core.Path.{_≡_, refl, ap, sym, _∙_, subst}
 use borrow.Author.Tests.{eq-eqb, ne-eqb}
-use mathlib.Core.Bool.{Bool, true, false, not, _||_}
-use mathlib.Core.List.{List, [], _∷_, map}
-use lib.ListN.{length, getD, take, drop, length-map, List·getD-eq-default, drop-of-length-le}
+use mathlib.Core.Bool.{Bool, true, false}
+use mathlib.Core.List.{List, [], _∷_}
+use lib.ListN.{length, getD, drop, length-map, drop-of-length-le}
 use lib.Ieee.{Float}
 use Rattle.arith.specs.Lists.{foldl, all, any, sides}
 use Rattle.arith.specs.Vec.{origin}
@@ -14,11 +14,10 @@ use Rattle.arith.proofs.ListLaws.{foldl-next, all-here, all-next, any-here, any
 use Rattle.reading.specs.Result.{Result, refused, fine, _>>=_, steps}
 use Rattle.reading.proofs.ResultLaws.{steps-next, steps-refused}
 use Rattle.definitions.specs.Faces.{Definition, polygon, solid, polyhedron, facesOf, faceCount}
-use Rattle.definitions.specs.Definitions.{definition}
-use Rattle.definitions.specs.Walker.{definitionAt, readOf, faceAt, AtFace, Headed, headOf, stepAt}
+use Rattle.definitions.specs.Walker.{definitionAt, readOf, faceAt, Headed, headOf}
 use Rattle.definitions.specs.declared.Head.{Head}
 use Rattle.definitions.specs.declared.FaceCursor.{FaceCursor}
-use Rattle.definitions.proofs.RecordLaws.{StepsTo, steps-to}
+use Rattle.definitions.proofs.RecordLaws.{steps-to}
 use Rattle.area.specs.Tables.{pointAt, Face, faceAt as tableAt, noFace}
 use Rattle.area.specs.Layout.{pointsIn, facesIn}
 use Rattle.area.specs.declared.Sizes.{Sizes}
@@ -26,7 +25,6 @@ use Rattle.area.proofs.LayoutLaws.{length-points, length-facesIn}
 use Rattle.volumes.specs.declared.Weight.{Weight}
 use Rattle.volumes.specs.Geometry.{addTriangle, addFace3D, weightless, centre2D, centre3D, geometryIn, cellGeometry}
 use Rattle.area.specs.Tables.{Cell, cellAt}
-use Rattle.arith.specs.declared.Found.{Found}
 use Rattle.arith.specs.declared.Found.the-variants.{At, Nothing}
 use Rattle.measure.specs.declared.Weighed.{Weighed}
 use Rattle.measure.specs.declared.Fanned.{Fanned}

@@ -2,20 +2,16 @@
 use Prim.Native.Nat.{ℕ, zero, suc, _+_, _-_, _*_, _≤_, _<_}
 use native.Mathlib.Omega.{arith}
 use mathlib.Core.Path.{_≡_, refl, ap, ap₂, sym, _∙_, subst}
-use mathlib.Core.Bool.{Bool, true, false, not}
-use mathlib.Core.List.{List, [], _∷_, map}
-use lib.ListN.{length, getD, take, drop, length-drop}
-use lib.Seq.{getD-take, take-take}
-use lib.Ieee.{Float, nan}
-use lib.Dec.{eqb, ltb}
+use mathlib.Core.Bool.{Bool, true, false}
+use mathlib.Core.List.{List, [], _∷_}
+use lib.ListN.{length, getD, length-drop}
+use lib.Ieee.{Float}
 use borrow.Author.Tests.{eq-eqb, ne-eqb, lt-ltb, le-ltb}
 use Rattle.arith.specs.Lists.{any, all, foldl}
-use Rattle.arith.specs.Records.{tab}
 use Rattle.arith.specs.declared.Vec3.{Vec3}
-use Rattle.arith.proofs.RecordLaws.{tab-same, same-below}
 use Rattle.reading.specs.Result.{Result, refused, fine, _>>=_, refuse, mapAll}
 use Rattle.definitions.specs.Faces.{Definition, faceCount, addFaceCount, facesCounted}
-use Rattle.definitions.specs.Definitions.{definition, definitions}
+use Rattle.definitions.specs.Definitions.{definitions}
 use Rattle.casefile.specs.Trailer.{opened, openedCase, wordsOf}
 use Rattle.definitions.specs.Walker.{walked}
 use Rattle.casefile.specs.declared.Counts.{Counts}
@@ -25,22 +21,22 @@ use Rattle.definitions.specs.declared.Walked.{Walked}
 use Rattle.definitions.specs.declared.Walked.the-variants as Walked
 use Rattle.area.specs.declared.Sizes.{Sizes}
 use Rattle.area.specs.Tables.{Face, Cell, Mesh}
-use Rattle.area.specs.Layout.{wordsEnd, floatsEnd, meshWords, meshFloats, vecFrom, faceIn, facesIn, cellsIn, meshIn, LentWords, LentFloats, pointsIn}
+use Rattle.area.specs.Layout.{facesIn, cellsIn, meshIn, LentWords, LentFloats, pointsIn}
 use Rattle.area.proofs.LayoutLaws.{mesh-same}
 use Rattle.measure.specs.Orientation.{misplaced}
 use Rattle.connection.specs.Neighbours.{linked, Linked}
 use Rattle.connection.specs.Connection.{connectedCells}
 use Rattle.connection.specs.Search.{Connected}
 use Rattle.mesh.specs.Mesh.{joined}
-use Rattle.mesh.specs.Case.{Surveyed-case, surveyOf, areaShort, meshOf, meshFrom, Surveying, surveyed, refusing, Building, built, barred}
+use Rattle.mesh.specs.Case.{surveyOf, areaShort, meshOf, meshFrom, Surveying, surveyed, refusing, Building, built, barred}
 use Rattle.arith.specs.Bytes.{le32}
 use Rattle.arith.specs.F64.{finite, within}
 use Rattle.arith.specs.Vec.{each3}
 use Rattle.reading.proofs.ResultLaws.{bound}
 use Rattle.casefile.specs.Trailer.{wordsFrom}
-use Rattle.definitions.proofs.RecordLaws.{DefinitionRead, definition-read}
+use Rattle.definitions.proofs.RecordLaws.{definition-read}
 use Rattle.casefile.proofs.ReadLaws.{length-readAll}
-use Rattle.casefile.proofs.TrailerLaws.{Opens, opens}
+use Rattle.casefile.proofs.TrailerLaws.{opens}
 use Rattle.connection.specs.Neighbours.{Laid}
 use Rattle.faces.specs.Using.{sized}
 use Rattle.cells.specs.Cells.{Draft, Drafts, drafts}

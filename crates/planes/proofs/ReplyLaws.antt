@@ -1,14 +1,13 @@
 -- From what was kept to the answer. Assumes nothing.
-use Prim.Native.Nat.{ℕ, suc, _+_}
-use mathlib.Core.Path.{_≡_, refl, ap, sym, _∙_}
+use Prim.Native.Nat.{ℕ}
+use mathlib.Core.Path.{_≡_, refl, sym, _∙_}
 use mathlib.Core.Bool.{Bool, true, false, cond}
 use mathlib.Core.List.{List, [], _∷_}
 use lib.ListN.{length}
 use lib.Seq.{sets}
-use lib.Ieee.{Float}
 use Rattle.arith.specs.F64.{_≺_, _⊖_, 0·0, word}
 use Rattle.arith.specs.declared.Vec2.{Vec2}
-use Rattle.reading.specs.Result.{Result, refused, fine}
+use Rattle.reading.specs.Result.{refused, fine}
 use Rattle.planes.specs.declared.Answered.{Answered}
 use Rattle.planes.specs.declared.Answered.the-variants.{Words, Refused}
 use Rattle.tallies.specs.declared.Sums.{Sums}

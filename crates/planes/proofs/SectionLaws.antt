@@ -1,5 +1,5 @@
 -- Code 5 writes its polygons while it reads them. Assumes nothing.
-use Prim.Native.Nat.{ℕ, zero, suc, _+_}
+use Prim.Native.Nat.{ℕ, suc, _+_}
 use native.Mathlib.Omega.{arith}
 use mathlib.Core.Path.{_≡_, refl, ap, ap₂, sym, _∙_}
 use mathlib.Core.Logic.{_⊎_, inl, inr}
@@ -8,7 +8,6 @@ use mathlib.Core.List.{List, [], _∷_, _++_, map}
 use lib.ListN.{length, set, length-append}
 use lib.Seq.{sets}
 use Rattle.arith.specs.Lists.{foldl, concat}
-use Rattle.arith.specs.declared.Vec3.{Vec3}
 use Rattle.reading.specs.declared.Values.{Values}
 use Rattle.reading.specs.Result as result
 use Rattle.reading.specs.Result.{Result, refused, fine}
@@ -19,13 +18,11 @@ use Rattle.cutting_plane.specs.declared.Cut.{Cut}
 use Rattle.cutting_plane.specs.declared.Plane.{Plane}
 use Rattle.sections.specs.Intersect.{PlaneCell, intersect}
 use Rattle.planes.specs.declared.Answered.{Answered}
-use Rattle.planes.specs.declared.Answered.the-variants.{Words, Refused}
 use Rattle.tallies.specs.declared.Tally.{Tally}
 use Rattle.tallies.specs.declared.Tally.the-variants.{Section}
 use Rattle.samples.specs.declared.Tallied.{Tallied}
 use Rattle.samples.specs.declared.Tallied.the-variants.{Done, Bad}
 use Rattle.tallies.specs.Sample.{Sample, sound}
-use Rattle.samples.specs.Sampling.{sample}
 use Rattle.planes.specs.Answers.{sampled, sectionWords, sectionOf}
 use Rattle.tallies.specs.Words.{sampleWords}
 use Rattle.samples.specs.Stream.{Stream, stream, Streamed}

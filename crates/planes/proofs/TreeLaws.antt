@@ -1,10 +1,10 @@
 -- What the stream of samples leaves, against the trees. Assumes nothing.
-use Prim.Native.Nat.{ℕ, suc, _+_}
+use Prim.Native.Nat.{ℕ}
 use native.Mathlib.Omega.{arith}
 use mathlib.Core.Path.{_≡_, refl, ap, sym, _∙_}
 use mathlib.Core.Logic.{_⊎_, inl, inr}
 use mathlib.Core.Bool.{Bool, true, false, cond}
-use mathlib.Core.List.{List, [], _∷_, _++_, append-nil}
+use mathlib.Core.List.{List, [], _∷_, append-nil}
 use lib.ListN.{length, set}
 use lib.Seq.{sets}
 use lib.Ieee.{Float}
@@ -16,7 +16,7 @@ use Rattle.arith.specs.declared.Vec3.{Vec3}
 use Rattle.reading.specs.declared.Values.{Values}
 use Rattle.reading.specs.Result as result
 use Rattle.reading.specs.Result.{Result, refused, fine, steps}
-use Rattle.reading.specs.Asks.{Asks, give, ask, run, reads, _>>=_}
+use Rattle.reading.specs.Asks.{give, run, reads, _>>=_}
 use Rattle.reading.specs.Marks.{markAll}
 use Rattle.reading.proofs.AsksLaws.{run-bind, reads-bind}
 use Rattle.area.specs.Tables.{Mesh}
@@ -26,7 +26,7 @@ use Rattle.cutting_plane.specs.Cut.{cutOf}
 use Rattle.sections.specs.Intersect.{PlaneCell, intersect}
 use Rattle.cutting_plane.specs.Plane.{normalOf}
 use Rattle.planes.specs.declared.Answered.{Answered}
-use Rattle.planes.specs.declared.Answered.the-variants.{Words, Refused}
+use Rattle.planes.specs.declared.Answered.the-variants.{Words}
 use Rattle.tallies.specs.declared.Sums.{Sums}
 use Rattle.tallies.specs.declared.Integral.{Integral}
 use Rattle.tallies.specs.declared.Summed.{Summed}

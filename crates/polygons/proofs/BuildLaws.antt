@@ -1,5 +1,5 @@
 -- The polygons of all cells, and the field. Assumes nothing.
-use Prim.Native.Nat.{ℕ, zero, suc, _+_, _*_, _≤_, _<_, min}
+use Prim.Native.Nat.{ℕ, _+_, _*_, _≤_, _<_, min}
 use native.Mathlib.Nat.{le-antisymm}
 use native.Mathlib.Omega.{arith}
 use mathlib.Core.Path.{_≡_, refl, sym, ap, ap₂, _∙_, subst}
@@ -12,9 +12,9 @@ use Rattle.arith.specs.Records.{tab}
 use Rattle.arith.specs.declared.Vec2.{Vec2}
 use Rattle.arith.specs.declared.Vec3.{Vec3}
 use Rattle.arith.proofs.RecordLaws.{tab-next, tab-same, same-below}
-use Rattle.reading.specs.Result.{Result, refused, fine, _>>=_}
+use Rattle.reading.specs.Result.{fine, _>>=_}
 use Rattle.area.specs.declared.Sizes.{Sizes}
-use Rattle.area.specs.Tables.{Mesh, cellAt}
+use Rattle.area.specs.Tables.{cellAt}
 use Rattle.area.specs.Layout.{LentWords, LentFloats, wordsEnd, floatsEnd, meshWords, meshFloats, cellIn, cellsIn, meshIn}
 use Rattle.area.proofs.LayoutLaws.{cell-in, mesh-same, length-cellsIn}
 use Rattle.locate.specs.declared.Box.{Box}
@@ -24,7 +24,6 @@ use Rattle.polygons.specs.declared.Built.{Built}
 use Rattle.polygons.specs.declared.Built.the-variants.{Made, Refused}
 use Rattle.polygons.specs.Corners.{turnsAbout, cornersOf, polygonOf}
 use Rattle.polygons.specs.Bounds.{boundsOf}
-use Rattle.locate.specs.Bins.{Binned}
 use Rattle.polygons.specs.Bins.{binCounts, listedIn}
 use Rattle.polygons.specs.Field.{Few, polygonsOf, gridFor, gridOf, fieldOf, builtGrid}
 use Rattle.locate.specs.Layout.{wordsAt, floatsAt, countIn, polygonIn, cellPolygonsIn, fieldIn, Searchable}

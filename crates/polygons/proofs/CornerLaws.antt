@@ -1,7 +1,7 @@
 -- One turn of the loops that collect a cell's points. Assumes nothing.
-use Prim.Native.Nat.{ℕ, zero, suc, _+_, _*_, _≤_, _<_}
+use Prim.Native.Nat.{ℕ, _+_, _≤_, _<_}
 use native.Mathlib.Omega.{arith}
-use mathlib.Core.Path.{_≡_, refl, sym, ap, ap₂, _∙_, subst, fun-ext}
+use mathlib.Core.Path.{_≡_, refl, sym, ap, ap₂, _∙_, fun-ext}
 use mathlib.Core.Logic.{⊎-elim}
 use mathlib.Core.Bool.{Bool, true, false, cond}
 use mathlib.Core.List.{List, [], _∷_, _++_}
@@ -16,7 +16,7 @@ use Rattle.arith.specs.declared.Vec3.{Vec3}
 use Rattle.arith.proofs.ListLaws.{foldl-next, any-here, any-next}
 use Rattle.arith.proofs.RecordLaws.{length-tab, getD-tab, tab-next, tab-same, drop-end, lt-or-ge}
 use Rattle.area.specs.declared.Sizes.{Sizes}
-use Rattle.area.specs.Tables.{Mesh, Cell, pointAt, faceAt, cellAt}
+use Rattle.area.specs.Tables.{Mesh, pointAt, faceAt, cellAt}
 use Rattle.area.specs.Layout.{facesIn, cellsIn, meshIn, faceIn, cellIn}
 use Rattle.area.proofs.LayoutLaws.{face-in, face-out, cell-in, cell-out}
 use Rattle.locate.specs.Locate.{flat}

@@ -1,25 +1,24 @@
 -- The grid by cases, and one turn of the loops that bound and list the cells. Assumes nothing.
-use Prim.Native.Nat.{ℕ, zero, suc, _+_, _*_, _≤_, _<_, max, min}
+use Prim.Native.Nat.{ℕ, zero, suc, _+_, _*_, _≤_, _<_}
 use native.Mathlib.Nat.{le-antisymm}
 use native.Mathlib.Omega.{arith}
 use mathlib.Core.Path.{_≡_, refl, sym, ap, ap₂, _∙_, subst}
-use mathlib.Core.Logic.{⊎-elim, _⊎_, inl, inr}
-use mathlib.Core.Bool.{Bool, true, false}
+use mathlib.Core.Logic.{_⊎_, inl, inr}
+use mathlib.Core.Bool.{true, false}
 use mathlib.Core.List.{List, [], _∷_, _++_, map, map-append}
-use lib.ListN.{length, getD, take, drop, length-set, length-append}
+use lib.ListN.{length, getD, take, drop}
 use lib.Seq.{take-take}
-use lib.Dec.{ltb}
-use lib.Ieee.{Float, nan}
+use lib.Ieee.{Float}
 use borrow.Author.Tests.{lt-ltb, le-ltb}
 use Rattle.arith.specs.Lists.{foldl, concat}
 use Rattle.arith.specs.Records.{tab, puts}
 use Rattle.arith.specs.declared.Vec2.{Vec2}
-use Rattle.arith.proofs.ListLaws.{left-at, foldl-next}
-use Rattle.arith.proofs.RecordLaws.{length-tab, getD-tab, tab-next, tab-same, drop-tab, drop-end, same-below, lt-or-ge, length-puts, getD-puts-out, getD-puts-at, getD-puts-first, take-puts}
+use Rattle.arith.proofs.ListLaws.{foldl-next}
+use Rattle.arith.proofs.RecordLaws.{length-tab, getD-tab, tab-next, tab-same, drop-tab, drop-end, same-below, lt-or-ge, getD-puts-out, getD-puts-at, take-puts}
 use Rattle.arith.proofs.SortLaws.{foldl-append}
-use Rattle.reading.specs.Result.{Result, refused, fine, refuse, _>>=_}
+use Rattle.reading.specs.Result.{refuse, _>>=_}
 use Rattle.area.specs.declared.Sizes.{Sizes}
-use Rattle.area.specs.Layout.{wordsEnd, floatsEnd}
+use Rattle.area.specs.Layout.{wordsEnd}
 use Rattle.locate.specs.declared.Box.{Box}
 use Rattle.locate.specs.declared.Bin.{Bin}
 use Rattle.locate.specs.declared.Grid.{Grid}

@@ -1,5 +1,5 @@
 -- A cell's points in angle order, and their storing. Assumes nothing.
-use Prim.Native.Nat.{ℕ, zero, suc, _+_, _*_, _≤_, _<_, min}
+use Prim.Native.Nat.{ℕ, zero, suc, _+_, _*_, _≤_, _<_}
 use native.Mathlib.Nat.{le-antisymm}
 use native.Mathlib.Decide.{ℕ-discrete}
 use native.Mathlib.Numerals.{add-one}
@@ -8,18 +8,18 @@ use mathlib.Core.Path.{_≡_, refl, sym, ap, ap₂, _∙_, subst}
 use mathlib.Core.Bool.{Bool, true, false}
 use mathlib.Core.List.{List, [], _∷_, _++_, map, map-append}
 use lib.ListN.{length, getD, take, drop, set, length-set}
-use lib.Seq.{getD-set-same, getD-set-other, getD-take, take-suc, take-set-le, take-take, length-take-le, take-at}
+use lib.Seq.{getD-set-same, getD-set-other, getD-take, take-suc, take-set-le, take-at}
 use lib.Ieee.{Float, nan}
 use Rattle.arith.specs.F64.{_⊖_}
 use Rattle.arith.specs.Lists.{insert, sort}
 use Rattle.arith.specs.Records.{tab, upTo}
-use Rattle.arith.specs.Angle.{angleOf, precedes, turnsBefore}
+use Rattle.arith.specs.Angle.{angleOf, turnsBefore}
 use Rattle.arith.specs.Sort.{angleAt, earlier, sortedPlaces}
 use Rattle.arith.specs.Vec.{pair}
 use Rattle.arith.specs.declared.Angle.{Angle}
 use Rattle.arith.specs.declared.Vec2.{Vec2}
 use Rattle.arith.specs.declared.Vec3.{Vec3}
-use Rattle.arith.proofs.All.{All, all-more}
+use Rattle.arith.proofs.All.{All}
 use Rattle.arith.proofs.RecordLaws.{length-tab, tab-next, tab-same}
 use Rattle.arith.proofs.SortLaws.{sort-snoc, length-sort, all-insert, map-sort, place-below}
 use Rattle.polygons.specs.Corners.{about, turnsAbout}

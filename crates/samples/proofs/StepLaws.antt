@@ -2,7 +2,7 @@
 use Prim.Native.Nat.{ℕ, zero, suc, _+_, _*_, _≤_, _<_}
 use native.Mathlib.Numerals.{add-one}
 use native.Mathlib.Omega.{arith}
-use mathlib.Core.Path.{_≡_, refl, ap, sym, _∙_, subst}
+use mathlib.Core.Path.{_≡_, ap, sym, _∙_, subst}
 use mathlib.Core.Bool.{Bool, true, false}
 use mathlib.Core.List.{List, [], _∷_, _++_}
 use lib.ListN.{length, set, drop}
@@ -20,16 +20,16 @@ use Rattle.sections.specs.declared.Piece.{Piece}
 use Rattle.sections.specs.declared.Piece.the-variants.{Of, Empty}
 use Rattle.cutting_plane.specs.Cut.{cutOf}
 use Rattle.sections.specs.Intersect.{PlaneCell, pieceOf, piecesFrom, intersect}
-use Rattle.crossings.specs.Work.{heldIn, Holds}
+use Rattle.crossings.specs.Work.{Holds}
 use Rattle.cutting_plane.specs.Work.{bare}
-use Rattle.sections.specs.Work.{pieceIn, verticesOf, Full, Pieced}
+use Rattle.sections.specs.Work.{pieceIn, verticesOf, Pieced}
 use Rattle.crossings.proofs.HeldLaws.{length-held}
 use Rattle.sections.proofs.PieceLaws.{same-piece}
 use Rattle.tallies.specs.declared.Tally.{Tally}
 use Rattle.samples.specs.declared.Tallied.{Tallied}
 use Rattle.samples.specs.declared.Tallied.the-variants.{Done, Bad}
-use Rattle.tallies.specs.Sample.{Sample, sound}
-use Rattle.samples.specs.Stream.{Stream, stream, Grown, Streamed, Stepped, Ready}
+use Rattle.tallies.specs.Sample.{sound}
+use Rattle.samples.specs.Stream.{Stream, stream, Streamed, Stepped, Ready}
 use Rattle.tallies.specs.Kept.{addTo, written, cellIn, sampleIn, sizeOf, Added}
 use Rattle.samples.proofs.StreamLaws.{stream-nil, stream-sound, stream-bad, stream-then, stream-stop}
 use Rattle.tallies.proofs.TallyLaws.{added-grows}

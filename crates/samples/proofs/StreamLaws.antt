@@ -5,16 +5,13 @@ use mathlib.Core.Bool.{Bool, true, false}
 use mathlib.Core.List.{List, [], _∷_, _++_}
 use native.Mathlib.Omega.{arith}
 use lib.ListN.{set}
-use Rattle.arith.specs.Lists.{foldl}
 use Rattle.reading.specs.declared.Values.{Values}
-use Rattle.reading.specs.Result.{Result, refused, fine}
-use Rattle.reading.specs.Asks.{Asks, give, ask, run, reads, _>>=_}
+use Rattle.reading.specs.Asks.{give, reads}
 use Rattle.reading.specs.Marks.{markAll}
-use Rattle.reading.proofs.AsksLaws.{run-bind, reads-bind}
+use Rattle.reading.proofs.AsksLaws.{reads-bind}
 use Rattle.cutting_plane.specs.declared.Cut.{Cut}
 use Rattle.sections.specs.Intersect.{PlaneCell}
 use Rattle.tallies.specs.declared.Tally.{Tally}
-use Rattle.samples.specs.declared.Tallied.{Tallied}
 use Rattle.samples.specs.declared.Tallied.the-variants.{Done, Bad}
 use Rattle.tallies.specs.Sample.{Sample, sound}
 use Rattle.samples.specs.Sampling.{before, onward, sample}

@@ -15,7 +15,7 @@ use Rattle.arith.specs.Angle.{precedes, turnsBefore}
 use Rattle.arith.specs.declared.Angle.{Angle}
 use Rattle.arith.specs.declared.Vec3.{Vec3}
 use Rattle.arith.proofs.All.{All, all-append, all-getD, all-more}
-use Rattle.arith.proofs.SortLaws.{map-sort, all-insert, places-below, length-sort}
+use Rattle.arith.proofs.SortLaws.{map-sort, all-insert, places-below}
 use Rattle.cutting_plane.specs.declared.Plane.{Plane}
 use Rattle.sections.specs.Intersect.{earlierOn}
 use Rattle.crossings.specs.Work.{Holds, heldIn, pointIn}

@@ -1,15 +1,14 @@
 -- The piece of a cell: by its points, by its signs, and whatever the area's measures are. Assumes nothing.
 use Prim.Native.Nat.{ℕ, _≤_, _<_}
 use native.Mathlib.Omega.{arith}
-use mathlib.Core.Path.{_≡_, refl, ap, ap₂, sym, _∙_, fun-ext}
+use mathlib.Core.Path.{_≡_, refl, ap, sym, _∙_, fun-ext}
 use mathlib.Core.Logic.{⊎-elim, _⊎_, inl, inr}
-use mathlib.Core.Bool.{Bool, true, false, not, cond, _&&_, _||_, true≢false}
+use mathlib.Core.Bool.{Bool, true, false, cond, _&&_, _||_, true≢false}
 use mathlib.Core.List.{List, [], _∷_, _++_}
-use lib.Dec.{leb, eqb}
 use lib.ListN.{length, drop}
 use lib.Ieee.{Float}
 use borrow.Author.Tests.{lt-leb, le-leb}
-use Rattle.arith.specs.Lists.{foldl, any, all, only, sort, Side, sidesWith, sides, windows}
+use Rattle.arith.specs.Lists.{foldl, any, only, sort, sidesWith, sides, windows}
 use Rattle.arith.specs.declared.Vec3.{Vec3}
 use Rattle.arith.proofs.All.{All, all-append}
 use Rattle.arith.proofs.RecordLaws.{lt-or-ge}
@@ -23,8 +22,8 @@ use Rattle.crossings.proofs.HeldLaws.{held-left}
 use Rattle.sections.specs.declared.Piece.{Piece}
 use Rattle.sections.specs.declared.Piece.the-variants.{Of, Empty}
 use Rattle.cutting_plane.specs.Cut.{near, below, above}
-use Rattle.crossings.specs.Crossings.{rises, parted, addEnd, addBetween, addMeeting, shared, onPlane, foreign, addSide, addFace, meetings}
-use Rattle.sections.specs.Intersect.{PlaneCell, earlierOn, addArea, areaOf, middle, wide, pieceAbout, pieceOf}
+use Rattle.crossings.specs.Crossings.{rises, parted, addEnd, addBetween, addMeeting, onPlane, foreign, addSide, addFace, meetings}
+use Rattle.sections.specs.Intersect.{earlierOn, addArea, areaOf, middle, wide, pieceAbout, pieceOf}
 use Rattle.crossings.specs.Work.{heldIn, pointIn, Bounded}
 use Rattle.cutting_plane.specs.Work.{signWith, addSign, faceSigns, signsOf, noSigns, mayMeet, bare}
 use Rattle.sections.specs.Work.{pieceIn, verticesOf, PiecedAbout, Pieced}

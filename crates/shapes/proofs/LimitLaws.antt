@@ -9,7 +9,7 @@ use Rattle.arith.proofs.All.{All}
 use Rattle.arith.proofs.ListLaws.{length-sides}
 use Rattle.reading.specs.Result.{fine}
 use Rattle.reading.proofs.ResultLaws.{bound}
-use Rattle.definitions.specs.Faces.{Definition, solid, polyhedron, tetrahedron, hexahedron, prism, pyramid, ends, picked, facesOf}
+use Rattle.definitions.specs.Faces.{Definition, solid, tetrahedron, hexahedron, prism, pyramid, ends, picked, facesOf}
 use Rattle.definitions.specs.Definitions.{Taken, faceLists, definition, definitions}
 use Rattle.definitions.proofs.WalkLaws.{face-first, faces-read}
 use Rattle.definitions.proofs.RecordLaws.{IsSolid, is-tetrahedron, is-hexahedron, is-prism, is-pyramid, RecordCase, a-polygon, a-solid, a-polyhedron, record-case}

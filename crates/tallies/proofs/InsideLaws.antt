@@ -1,14 +1,13 @@
 -- One turn of the loop over a polygon's sides. Assumes nothing.
-use Prim.Native.Nat.{ℕ, zero, suc, _+_, _%_, _≤_, _<_}
+use Prim.Native.Nat.{ℕ, _+_, _%_, _≤_, _<_}
 use native.Mathlib.Nat.{zero-add}
 use native.Mathlib.Omega.{arith}
-use mathlib.Core.Path.{_≡_, refl, ap, sym, _∙_}
+use mathlib.Core.Path.{_≡_, refl, _∙_}
 use mathlib.Core.Bool.{Bool, true, false, not, cond}
-use mathlib.Core.List.{List, [], _∷_, map}
+use mathlib.Core.List.{List, []}
 use lib.Dec.{eqb}
 use lib.ListN.{length, getD, drop}
 use lib.Ieee.{Float}
-use borrow.Author.Tests.{eqb-false, eq-eqb, ne-eqb}
 use Rattle.arith.specs.declared.Vec2.{Vec2}
 use Rattle.arith.specs.Lists.{Side, sides, after, count}
 use Rattle.arith.specs.Records.{tab}

@@ -1,7 +1,7 @@
 -- How the promises of the parts of a velocity make its own. Assumes nothing.
-use Prim.Native.Nat.{ℕ, zero, suc, _+_, _≤_, _<_}
+use Prim.Native.Nat.{ℕ, _+_, _≤_, _<_}
 use native.Mathlib.Omega.{arith}
-use mathlib.Core.Path.{_≡_, refl, sym, ap, _∙_, subst}
+use mathlib.Core.Path.{_≡_, refl, sym, ap, _∙_}
 use mathlib.Core.Bool.{Bool, true, false}
 use mathlib.Core.List.{List, [], _∷_}
 use lib.ListN.{length, getD, drop, set}
@@ -28,7 +28,7 @@ use Rattle.locate.specs.Field.{StreamlineField}
 use Rattle.locate.specs.Layout.{cellPolygonsIn, fieldIn}
 use Rattle.velocity.specs.declared.Vector.{Vector}
 use Rattle.velocity.specs.declared.Vector.the-variants.{Here, Nowhere}
-use Rattle.velocity.specs.Velocity.{locateIn, centreOf, neighboursOf, distance, nearerOf, blended, apart, beside, toward, velocityIn, velocityWhere, velocityAt, from, unit, directionAt}
+use Rattle.velocity.specs.Velocity.{locateIn, centreOf, neighboursOf, distance, nearerOf, blended, apart, beside, toward, velocityIn, velocityWhere, velocityAt, from, unit}
 
 -- ---- what was found, and what was not
 

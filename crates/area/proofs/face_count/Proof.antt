@@ -1,6 +1,6 @@
-use mathlib.Core.Path.{_≡_, sym, ap, _∙_}
+use mathlib.Core.Path.{sym, ap, _∙_}
 use lib.ListN.{length}
-use Rattle.area.specs.Tables.{Face, Cell}
+use Rattle.area.specs.Tables.{Cell}
 use Rattle.area.proofs.LayoutLaws.{cell-in, cell-out, length-listAt}
 use Rattle.area.specs.Layout.{cellIn}
 use borrow.Author.Needs.{needs}

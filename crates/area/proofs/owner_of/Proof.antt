@@ -1,5 +1,5 @@
-use mathlib.Core.Path.{_≡_, sym, ap, _∙_}
-use Rattle.area.specs.Tables.{Face, Cell}
+use mathlib.Core.Path.{sym, ap, _∙_}
+use Rattle.area.specs.Tables.{Face}
 use Rattle.area.proofs.LayoutLaws.{face-in, face-out}
 use Rattle.area.specs.Layout.{faceIn}
 use borrow.Author.Needs.{needs}

@@ -1,6 +1,6 @@
-use mathlib.Core.Path.{_≡_, sym, ap, _∙_}
+use mathlib.Core.Path.{sym, ap, _∙_}
 use lib.ListN.{getD}
-use Rattle.area.specs.Tables.{Face, Cell}
+use Rattle.area.specs.Tables.{Face}
 use Rattle.area.proofs.LayoutLaws.{face-in, face-out, listAt-from, listAt-out}
 use Rattle.area.specs.Layout.{faceIn}
 use borrow.Author.Needs.{needs}

@@ -1,5 +1,5 @@
-use mathlib.Core.Path.{_≡_, sym, ap, _∙_}
-use Rattle.area.specs.Tables.{Face, Cell}
+use mathlib.Core.Path.{sym, ap, _∙_}
+use Rattle.area.specs.Tables.{Cell}
 use Rattle.area.proofs.LayoutLaws.{cell-in, cell-out}
 use Rattle.area.specs.Layout.{cellIn, meshFloats}
 use borrow.Author.Needs.{needs}

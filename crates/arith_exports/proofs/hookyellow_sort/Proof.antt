@@ -1,4 +1,3 @@
-use mathlib.Core.Path.{refl}
 use Rattle.arith_exports.proofs.Laws.{too-long, other-second, other-places, fits}
 use borrow.Author.Needs.{needs}
 use Rattle.arith_exports.proofs.hookyellow_sort.Statement.{statement}

@@ -1,11 +1,7 @@
-use Rattle.bin_index.proofs.Laws.{pools, build-done-one, build-done-zero}
+use Rattle.bin_index.proofs.Laws.{build-done-one, build-done-zero}
 use borrow.Author.Needs.{needs}
 use Rattle.bin_index.proofs.build.Statement.{statement}
 use Rattle.bin_index.proofs.build.Tie as tie
-use Rattle.bin_index.proofs.build.Reads as reads
-use Rattle.bin_index.proofs.build.Lts as lts
-use Rattle.bin_index.proofs.chain_all.Reads as chain-all-reads
-use Rattle.bin_index.proofs.set_flag.Reads as set-flag-reads
 
 chain-all-requires : tie.Need-chain-all-requires
 chain-all-requires c κs = search needs

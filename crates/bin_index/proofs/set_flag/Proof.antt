@@ -1,9 +1,7 @@
-use Rattle.bin_index.proofs.Laws.{pools, build-done-one, build-done-zero}
+use Rattle.bin_index.proofs.Laws.{pools}
 use borrow.Author.Needs.{needs}
 use Rattle.bin_index.proofs.set_flag.Statement.{statement}
 use Rattle.bin_index.proofs.set_flag.Tie as tie
-use Rattle.bin_index.proofs.set_flag.Reads as reads
-use Rattle.bin_index.proofs.set_flag.Lts as lts
 
 mul-words : tie.Need-mul-words
 mul-words c = search needs

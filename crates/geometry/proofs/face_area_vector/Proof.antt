@@ -1,6 +1,5 @@
-use mathlib.Core.Path.{_∙_, ap}
 use borrow.Author.Tests.{eq-eqb, ne-eqb, le-leb, lt-leb}
-use Rattle.geometry.specs.Faces.{faceAreaVector, areaVector, vectorIn, enough, longEnough}
+use Rattle.geometry.specs.Faces.{faceAreaVector, areaVector, vectorIn, enough}
 use Rattle.geometry.specs.Answers.{vectorOf}
 use borrow.Author.Needs.{needs}
 use Rattle.geometry.proofs.face_area_vector.Statement.{statement}

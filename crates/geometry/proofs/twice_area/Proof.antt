@@ -1,5 +1,5 @@
-use Prim.Native.Nat.{_+_, _-_, _≤_}
-use mathlib.Core.Path.{_≡_, refl}
+use Prim.Native.Nat.{_-_, _≤_}
+use mathlib.Core.Path.{_≡_}
 use lib.ListN.{length, drop}
 use Rattle.arith.specs.Lists.{foldl, sides}
 use Rattle.arith.specs.Vec.{origin}

@@ -3,10 +3,6 @@ use Rattle.inside.specs.Contains.{between}
 use borrow.Author.Needs.{needs}
 use Rattle.inside.proofs.between.Statement.{statement}
 use Rattle.inside.proofs.between.Tie as tie
-use Rattle.inside.proofs.between.Reads as reads
-use Rattle.inside.proofs.between.Lts as lts
-use Rattle.arith.proofs.float.max.Reads as max-reads
-use Rattle.arith.proofs.float.min.Reads as min-reads
 
 min-requires : tie.Need-min-requires
 min-requires c κs = search needs

@@ -1,8 +1,6 @@
 use Rattle.arith.specs.Polygon.{crosses}
 use Rattle.inside.proofs.crosses.Statement.{statement}
 use Rattle.inside.proofs.crosses.Tie as tie
-use Rattle.inside.proofs.crosses.Reads as reads
-use Rattle.inside.proofs.crosses.Lts as lts
 
 returns : tie.Need-returns
 unfolding crosses

@@ -3,10 +3,6 @@ use Rattle.inside.specs.Contains.{onEdge}
 use borrow.Author.Needs.{needs}
 use Rattle.inside.proofs.on_edge.Statement.{statement}
 use Rattle.inside.proofs.on_edge.Tie as tie
-use Rattle.inside.proofs.on_edge.Reads as reads
-use Rattle.inside.proofs.on_edge.Lts as lts
-use Rattle.inside.proofs.between.Reads as between-reads
-use Rattle.inside.proofs.on_line.Reads as on-line-reads
 
 on-line-requires : tie.Need-on-line-requires
 on-line-requires c κs = search needs

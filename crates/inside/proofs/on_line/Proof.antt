@@ -1,11 +1,8 @@
 use mathlib.Core.Path.{sym}
 use Rattle.inside.specs.Contains.{onLine}
 use Rattle.arith.proofs.Floats.{abs-within}
-use borrow.Author.Needs.{needs}
 use Rattle.inside.proofs.on_line.Statement.{statement}
 use Rattle.inside.proofs.on_line.Tie as tie
-use Rattle.inside.proofs.on_line.Reads as reads
-use Rattle.inside.proofs.on_line.Lts as lts
 
 returns : tie.Need-returns
 unfolding onLine

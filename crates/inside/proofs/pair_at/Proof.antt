@@ -3,8 +3,6 @@ use Rattle.inside.specs.Vertices.{pairFrom}
 use borrow.Author.Needs.{needs}
 use Rattle.inside.proofs.pair_at.Statement.{statement}
 use Rattle.inside.proofs.pair_at.Tie as tie
-use Rattle.inside.proofs.pair_at.Reads as reads
-use Rattle.inside.proofs.pair_at.Lts as lts
 
 mul-t3 : tie.Need-mul-t3
 mul-t3 c = search needs

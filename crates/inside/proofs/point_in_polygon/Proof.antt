@@ -8,11 +8,6 @@ use Rattle.inside.proofs.Laws.{rest, few-sides, rest-start, rest-here, 
 use borrow.Author.Needs.{needs}
 use Rattle.inside.proofs.point_in_polygon.Statement.{statement}
 use Rattle.inside.proofs.point_in_polygon.Tie as tie
-use Rattle.inside.proofs.point_in_polygon.Reads as reads
-use Rattle.inside.proofs.point_in_polygon.Lts as lts
-use Rattle.inside.proofs.crosses.Reads as crosses-reads
-use Rattle.inside.proofs.on_edge.Reads as on-edge-reads
-use Rattle.inside.proofs.side_at.Reads as side-at-reads
 
 abbrev Inv-loop : tie.InvT-loop
 Inv-loop q floats at n inside₀ i₀ inside i = (i ≤ n) × (rest q (sides (pairsFrom floats at n)) inside i ≡ contains q (pairsFrom floats at n))

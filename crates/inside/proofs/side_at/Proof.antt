@@ -2,10 +2,6 @@ use Rattle.inside.specs.Vertices.{sideFrom}
 use borrow.Author.Needs.{needs}
 use Rattle.inside.proofs.side_at.Statement.{statement}
 use Rattle.inside.proofs.side_at.Tie as tie
-use Rattle.inside.proofs.side_at.Reads as reads
-use Rattle.inside.proofs.side_at.Lts as lts
-use Rattle.arith.proofs.number.next_of.Reads as next-of-reads
-use Rattle.inside.proofs.pair_at.Reads as pair-at-reads
 
 mul-pair-at : tie.Need-mul-pair-at
 mul-pair-at c = search needs

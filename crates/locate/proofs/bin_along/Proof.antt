@@ -6,10 +6,6 @@ use Rattle.locate.specs.Bins.{binAlong}
 use borrow.Author.Needs.{needs}
 use Rattle.locate.proofs.bin_along.Statement.{statement}
 use Rattle.locate.proofs.bin_along.Tie as tie
-use Rattle.locate.proofs.bin_along.Reads as reads
-use Rattle.locate.proofs.bin_along.Lts as lts
-use Rattle.arith.proofs.float.clamp.Reads as clamp-reads
-use Rattle.arith.proofs.float.floor_usize.Reads as floor-usize-reads
 
 clamp-requires : tie.Need-clamp-requires
 clamp-requires c κs = search needs

@@ -2,9 +2,6 @@ use Rattle.locate.specs.Layout.{binFrom}
 use borrow.Author.Needs.{needs}
 use Rattle.locate.proofs.bin_at.Statement.{statement}
 use Rattle.locate.proofs.bin_at.Tie as tie
-use Rattle.locate.proofs.bin_at.Reads as reads
-use Rattle.locate.proofs.bin_at.Lts as lts
-use Rattle.arith.proofs.number.wide.Reads as wide-reads
 
 mul-wide : tie.Need-mul-wide
 mul-wide c = search needs

@@ -3,9 +3,6 @@ use Rattle.locate.specs.Bins.{binFor}
 use borrow.Author.Needs.{needs}
 use Rattle.locate.proofs.bin_for.Statement.{statement}
 use Rattle.locate.proofs.bin_for.Tie as tie
-use Rattle.locate.proofs.bin_for.Reads as reads
-use Rattle.locate.proofs.bin_for.Lts as lts
-use Rattle.locate.proofs.bin_along.Reads as bin-along-reads
 
 bin-along-requires : tie.Need-bin-along-requires
 bin-along-requires c κs = search needs

@@ -3,10 +3,6 @@ use Rattle.locate.specs.Layout.{countIn}
 use borrow.Author.Needs.{needs}
 use Rattle.locate.proofs.count_in.Statement.{statement}
 use Rattle.locate.proofs.count_in.Tie as tie
-use Rattle.locate.proofs.count_in.Reads as reads
-use Rattle.locate.proofs.count_in.Lts as lts
-use Rattle.arith.proofs.number.wide.Reads as wide-reads
-use Rattle.locate.proofs.words_at.Reads as words-at-reads
 
 words-at-requires : tie.Need-words-at-requires
 words-at-requires c κs = search needs

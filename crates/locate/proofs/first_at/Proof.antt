@@ -1,12 +1,6 @@
 use borrow.Author.Needs.{needs}
 use Rattle.locate.proofs.first_at.Statement.{statement}
 use Rattle.locate.proofs.first_at.Tie as tie
-use Rattle.locate.proofs.first_at.Reads as reads
-use Rattle.locate.proofs.first_at.Lts as lts
-use Rattle.locate.proofs.bin_for.Reads as bin-for-reads
-use Rattle.locate.proofs.is_indexed.Reads as is-indexed-reads
-use Rattle.locate.proofs.first_listed.Reads as first-listed-reads
-use Rattle.locate.proofs.first_holding.Reads as first-holding-reads
 
 bin-for-requires : tie.Need-bin-for-requires
 bin-for-requires c κs = search needs

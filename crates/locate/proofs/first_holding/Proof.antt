@@ -8,9 +8,6 @@ use Prim.Native.Nat.{_-_}
 use borrow.Author.Needs.{needs}
 use Rattle.locate.proofs.first_holding.Statement.{statement}
 use Rattle.locate.proofs.first_holding.Tie as tie
-use Rattle.locate.proofs.first_holding.Reads as reads
-use Rattle.locate.proofs.first_holding.Lts as lts
-use Rattle.locate.proofs.holds.Reads as holds-reads
 
 abbrev Inv-loop : tie.InvT-loop
 Inv-loop words floats s b q i₀ i = firstFrom (holds b q) i (drop i (cellPolygonsIn s words floats)) ≡ firstFrom (holds b q) 0 (cellPolygonsIn s words floats)

@@ -5,11 +5,6 @@ use native.Mathlib.Omega.{arith}
 use borrow.Author.Needs.{needs}
 use Rattle.locate.proofs.first_listed.Statement.{statement}
 use Rattle.locate.proofs.first_listed.Tie as tie
-use Rattle.locate.proofs.first_listed.Reads as reads
-use Rattle.locate.proofs.first_listed.Lts as lts
-use Rattle.locate.proofs.has_point.Reads as has-point-reads
-use Rattle.bin_index.proofs.pool.Reads as pool-reads
-use Rattle.bin_index.proofs.bin_of.Reads as bin-of-reads
 
 abbrev Inv-loop : tie.InvT-loop
 Inv-loop words floats s nx ny x y q base h₀ h = Going s words floats (record { x = nx; y = ny }) (record { x = x; y = y }) q h

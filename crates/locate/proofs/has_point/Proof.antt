@@ -3,13 +3,6 @@ use Rattle.locate.proofs.LocateLaws.{missed-cell}
 use borrow.Author.Needs.{needs}
 use Rattle.locate.proofs.has_point.Statement.{statement}
 use Rattle.locate.proofs.has_point.Tie as tie
-use Rattle.locate.proofs.has_point.Reads as reads
-use Rattle.locate.proofs.has_point.Lts as lts
-use Rattle.inside.proofs.point_in_polygon.Reads as point-in-polygon-reads
-use Rattle.inside.proofs.extent.limits_at.Reads as limits-at-reads
-use Rattle.inside.proofs.extent.misses.Reads as misses-reads
-use Rattle.locate.proofs.count_in.Reads as count-in-reads
-use Rattle.locate.proofs.floats_at.Reads as floats-at-reads
 
 floats-at-requires : tie.Need-floats-at-requires
 floats-at-requires c κs = search needs

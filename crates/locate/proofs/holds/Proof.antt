@@ -4,10 +4,6 @@ use Rattle.locate.specs.Layout.{cellPolygonIn}
 use borrow.Author.Needs.{needs}
 use Rattle.locate.proofs.holds.Statement.{statement}
 use Rattle.locate.proofs.holds.Tie as tie
-use Rattle.locate.proofs.holds.Reads as reads
-use Rattle.locate.proofs.holds.Lts as lts
-use Rattle.locate.proofs.has_point.Reads as has-point-reads
-use Rattle.locate.proofs.is_listed.Reads as is-listed-reads
 
 is-listed-requires : tie.Need-is-listed-requires
 is-listed-requires c κs = search needs

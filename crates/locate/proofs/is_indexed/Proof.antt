@@ -2,9 +2,6 @@ use Rattle.locate.proofs.IndexLaws.{flag-stands, flag-off}
 use borrow.Author.Needs.{needs}
 use Rattle.locate.proofs.is_indexed.Statement.{statement}
 use Rattle.locate.proofs.is_indexed.Tie as tie
-use Rattle.locate.proofs.is_indexed.Reads as reads
-use Rattle.locate.proofs.is_indexed.Lts as lts
-use Rattle.bin_index.proofs.flag.Reads as flag-reads
 
 mul-flag : tie.Need-mul-flag
 mul-flag c = search needs

@@ -4,11 +4,6 @@ use Rattle.locate.specs.Layout.{cellPolygonIn}
 use borrow.Author.Needs.{needs}
 use Rattle.locate.proofs.is_listed.Statement.{statement}
 use Rattle.locate.proofs.is_listed.Tie as tie
-use Rattle.locate.proofs.is_listed.Reads as reads
-use Rattle.locate.proofs.is_listed.Lts as lts
-use Rattle.locate.proofs.bin_at.Reads as bin-at-reads
-use Rattle.locate.proofs.reaches.Reads as reaches-reads
-use Rattle.locate.proofs.words_at.Reads as words-at-reads
 
 words-at-requires : tie.Need-words-at-requires
 words-at-requires c κs = search needs

@@ -4,10 +4,6 @@ use Rattle.locate.specs.Locate.{locate, locateWhere}
 use borrow.Author.Needs.{needs}
 use Rattle.locate.proofs.locate_cell.Statement.{statement}
 use Rattle.locate.proofs.locate_cell.Tie as tie
-use Rattle.locate.proofs.locate_cell.Reads as reads
-use Rattle.locate.proofs.locate_cell.Lts as lts
-use Rattle.arith.proofs.float.is_finite.Reads as is-finite-reads
-use Rattle.locate.proofs.first_at.Reads as first-at-reads
 
 is-finite-requires : tie.Need-is-finite-requires
 is-finite-requires c κs = search needs

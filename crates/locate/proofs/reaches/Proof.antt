@@ -2,8 +2,6 @@ use borrow.Author.Tests.{le-leb, lt-leb}
 use Rattle.locate.specs.Bins.{reaches}
 use Rattle.locate.proofs.reaches.Statement.{statement}
 use Rattle.locate.proofs.reaches.Tie as tie
-use Rattle.locate.proofs.reaches.Reads as reads
-use Rattle.locate.proofs.reaches.Lts as lts
 
 returns : tie.Need-returns
 unfolding reaches

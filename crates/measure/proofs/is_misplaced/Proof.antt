@@ -1,5 +1,5 @@
 use Prim.Native.Nat.{ℕ}
-use mathlib.Core.Path.{_≡_, refl, sym, ap, _∙_}
+use mathlib.Core.Path.{sym, ap, _∙_}
 use Rattle.arith.specs.declared.Vec3.{Vec3}
 use Rattle.area.specs.Tables.{cellAt}
 use Rattle.area.specs.Layout.{cellsIn}

@@ -1,8 +1,7 @@
-use mathlib.Core.Path.{_≡_, refl, sym, ap, _∙_, subst}
-use lib.ListN.{length}
+use mathlib.Core.Path.{refl, sym}
 use native.Mathlib.Omega.{arith}
-use Rattle.casefile.specs.Trailer.{wordsFrom, wordsOf}
-use Rattle.casefile.proofs.TrailerLaws.{Opens, opens}
+use Rattle.casefile.specs.Trailer.{wordsFrom}
+use Rattle.casefile.proofs.TrailerLaws.{opens}
 use Rattle.definitions.proofs.Walking.{length-definitions}
 use Rattle.mesh.specs.Case.{barred}
 use Rattle.mesh.proofs.Laws.{from-refused, from-filled, faces-few, length-wordsOf, built-as}

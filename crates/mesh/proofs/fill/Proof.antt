@@ -1,4 +1,4 @@
-use mathlib.Core.Path.{_≡_, refl, sym, ap, _∙_, subst}
+use mathlib.Core.Path.{ap, _∙_}
 use Rattle.finish.proofs.HeldLaws.{held-finishable}
 use Rattle.mesh.specs.Mesh.{completed}
 use Rattle.mesh.specs.Case.{barred}

@@ -1,5 +1,5 @@
 use mathlib.Core.Path.{sym}
-use Rattle.casefile.proofs.TrailerLaws.{Opens, opens}
+use Rattle.casefile.proofs.TrailerLaws.{opens}
 use Rattle.mesh.specs.Case.{barred}
 use Rattle.mesh.proofs.Laws.{survey-case, survey-refused, faces-few, short-words, short-floats, long-enough, mesh-shut, built-as}
 use native.Mathlib.Omega.{arith}

@@ -1,4 +1,4 @@
-use mathlib.Core.Path.{_≡_, refl, sym, ap, _∙_, subst}
+use mathlib.Core.Path.{sym, _∙_}
 use Rattle.mesh.specs.Case.{barred}
 use Rattle.mesh.proofs.Laws.{join-16, joined-17, joined-mesh}
 use borrow.Author.Needs.{needs}

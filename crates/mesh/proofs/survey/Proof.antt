@@ -1,10 +1,8 @@
-use mathlib.Core.Path.{_≡_, refl, sym, ap, _∙_, subst}
+use mathlib.Core.Path.{sym, _∙_}
 use native.Mathlib.Omega.{arith}
 use Rattle.casefile.specs.Trailer.{wordsFrom}
-use Rattle.definitions.specs.Definitions.{definitions}
-use Rattle.definitions.specs.Walker.{walked}
-use Rattle.casefile.proofs.TrailerLaws.{Opens, opens}
-use Rattle.definitions.proofs.Walking.{Walks, walks}
+use Rattle.casefile.proofs.TrailerLaws.{opens}
+use Rattle.definitions.proofs.Walking.{walks}
 use Rattle.mesh.specs.Case.{surveyed, refusing}
 use Rattle.mesh.proofs.Laws.{survey-shut, survey-wrong, walked-wrong}
 use native.Mathlib.Omega.{arith}

@@ -1,4 +1,4 @@
-use mathlib.Core.Path.{_≡_, refl, sym, ap, _∙_, subst}
+use mathlib.Core.Path.{sym, _∙_}
 use borrow.Author.Tests.{not-true, not-false}
 use Rattle.mesh.proofs.Laws.{accept-8, accept-9, accept-10, accept-all}
 use borrow.Author.Needs.{needs}

@@ -7,12 +7,6 @@ use Rattle.reading.specs.Asks.{give}
 use borrow.Author.Needs.{needs}
 use Rattle.rk4.proofs.fourth.Statement.{statement}
 use Rattle.rk4.proofs.fourth.Tie as tie
-use Rattle.rk4.proofs.fourth.Reads as reads
-use Rattle.rk4.proofs.fourth.Lts as lts
-use Rattle.arith.proofs.Vec3.add.Reads as add-reads
-use Rattle.arith.proofs.Vec3.scale.Reads as scale-reads
-use Rattle.rk4.proofs.weighed.Reads as weighed-reads
-use Rattle.velocity.proofs.interpolate.direction_at.Reads as direction-at-reads
 
 scale-requires : tie.Need-scale-requires
 scale-requires c κs = search needs

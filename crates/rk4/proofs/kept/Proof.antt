@@ -2,11 +2,6 @@ use Rattle.rk4.proofs.StepLaws.{kept-too-long, kept-on, kept-endless}
 use borrow.Author.Needs.{needs}
 use Rattle.rk4.proofs.kept.Statement.{statement}
 use Rattle.rk4.proofs.kept.Tie as tie
-use Rattle.rk4.proofs.kept.Reads as reads
-use Rattle.rk4.proofs.kept.Lts as lts
-use Rattle.arith.proofs.Vec3.norm.Reads as norm-reads
-use Rattle.arith.proofs.Vec3.sub.Reads as sub-reads
-use Rattle.arith.proofs.float.is_finite.Reads as is-finite-reads
 
 sub-requires : tie.Need-sub-requires
 sub-requires c κs = search needs

@@ -2,10 +2,6 @@ use Rattle.rk4.proofs.StepLaws.{step-ended, step-kept}
 use borrow.Author.Needs.{needs}
 use Rattle.rk4.proofs.line_step.Statement.{statement}
 use Rattle.rk4.proofs.line_step.Tie as tie
-use Rattle.rk4.proofs.line_step.Reads as reads
-use Rattle.rk4.proofs.line_step.Lts as lts
-use Rattle.rk4.proofs.kept.Reads as kept-reads
-use Rattle.rk4.proofs.rk4_step.Reads as rk4-step-reads
 
 rk4-step-requires : tie.Need-rk4-step-requires
 rk4-step-requires c κs = search needs

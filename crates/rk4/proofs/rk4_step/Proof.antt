@@ -2,10 +2,6 @@ use Rattle.rk4.proofs.StepLaws.{rk4-lost, rk4-outside, rk4-inside}
 use borrow.Author.Needs.{needs}
 use Rattle.rk4.proofs.rk4_step.Statement.{statement}
 use Rattle.rk4.proofs.rk4_step.Tie as tie
-use Rattle.rk4.proofs.rk4_step.Reads as reads
-use Rattle.rk4.proofs.rk4_step.Lts as lts
-use Rattle.rk4.proofs.runge_kutta.Reads as runge-kutta-reads
-use Rattle.locate.proofs.locate_cell.Reads as locate-cell-reads
 
 runge-kutta-requires : tie.Need-runge-kutta-requires
 runge-kutta-requires c κs = search needs

@@ -3,10 +3,6 @@ use Rattle.rk4.specs.RungeKutta.{rungeKutta, second}
 use borrow.Author.Needs.{needs}
 use Rattle.rk4.proofs.runge_kutta.Statement.{statement}
 use Rattle.rk4.proofs.runge_kutta.Tie as tie
-use Rattle.rk4.proofs.runge_kutta.Reads as reads
-use Rattle.rk4.proofs.runge_kutta.Lts as lts
-use Rattle.rk4.proofs.second.Reads as second-reads
-use Rattle.velocity.proofs.interpolate.direction_at.Reads as direction-at-reads
 
 direction-at-requires : tie.Need-direction-at-requires
 direction-at-requires c κs = search needs

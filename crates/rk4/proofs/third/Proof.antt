@@ -5,12 +5,6 @@ use Rattle.rk4.specs.RungeKutta.{third, fourth}
 use borrow.Author.Needs.{needs}
 use Rattle.rk4.proofs.third.Statement.{statement}
 use Rattle.rk4.proofs.third.Tie as tie
-use Rattle.rk4.proofs.third.Reads as reads
-use Rattle.rk4.proofs.third.Lts as lts
-use Rattle.arith.proofs.Vec3.add.Reads as add-reads
-use Rattle.arith.proofs.Vec3.scale.Reads as scale-reads
-use Rattle.rk4.proofs.fourth.Reads as fourth-reads
-use Rattle.velocity.proofs.interpolate.direction_at.Reads as direction-at-reads
 
 scale-requires : tie.Need-scale-requires
 scale-requires c κs = search needs

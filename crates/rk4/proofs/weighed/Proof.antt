@@ -2,10 +2,6 @@ use Rattle.rk4.specs.RungeKutta.{weighed}
 use borrow.Author.Needs.{needs}
 use Rattle.rk4.proofs.weighed.Statement.{statement}
 use Rattle.rk4.proofs.weighed.Tie as tie
-use Rattle.rk4.proofs.weighed.Reads as reads
-use Rattle.rk4.proofs.weighed.Lts as lts
-use Rattle.arith.proofs.Vec3.add.Reads as add-reads
-use Rattle.arith.proofs.Vec3.scale.Reads as scale-reads
 
 scale-requires : tie.Need-scale-requires
 scale-requires c κs = search needs

@@ -1,5 +1,5 @@
 use Rattle.arith.specs.Vec.{each3}
-use mathlib.Core.Path.{sym, ap, _∙_}
+use mathlib.Core.Path.{sym, _∙_}
 use borrow.Author.Needs.{needs}
 use Rattle.arith.proofs.Vec3.is_finite.Statement.{statement}
 use Rattle.arith.proofs.Vec3.is_finite.Tie as tie

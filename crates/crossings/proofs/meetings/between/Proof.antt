@@ -1,4 +1,3 @@
-use mathlib.Core.Path.{sym}
 use Rattle.crossings.specs.Crossings.{between}
 use borrow.Author.Needs.{needs}
 use Rattle.crossings.proofs.meetings.between.Statement.{statement}

@@ -1,4 +1,3 @@
-use Rattle.crossings.specs.Work.{TrueHeight}
 use borrow.Author.Needs.{needs}
 use Rattle.crossings.proofs.meetings.end_at.Statement.{statement}
 use Rattle.crossings.proofs.meetings.end_at.Tie as tie

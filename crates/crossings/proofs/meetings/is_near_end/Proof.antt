@@ -1,6 +1,5 @@
 use Rattle.arith.proofs.Floats.{abs-within}
 use Rattle.cutting_plane.specs.Cut.{near}
-use borrow.Author.Needs.{needs}
 use Rattle.crossings.proofs.meetings.is_near_end.Statement.{statement}
 use Rattle.crossings.proofs.meetings.is_near_end.Tie as tie
 

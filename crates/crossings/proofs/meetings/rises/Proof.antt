@@ -1,7 +1,6 @@
-use mathlib.Core.Path.{sym, ap, _∙_}
+use mathlib.Core.Path.{sym}
 use Rattle.crossings.specs.Crossings.{rises}
 use Rattle.cutting_plane.specs.Cut.{below, above}
-use borrow.Author.Needs.{needs}
 use Rattle.crossings.proofs.meetings.rises.Statement.{statement}
 use Rattle.crossings.proofs.meetings.rises.Tie as tie
 

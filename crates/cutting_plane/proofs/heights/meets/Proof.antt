@@ -1,6 +1,5 @@
 use mathlib.Core.Path.{refl}
 use Rattle.cutting_plane.specs.Work.{mayMeet}
-use borrow.Author.Needs.{needs}
 use Rattle.cutting_plane.proofs.heights.meets.Statement.{statement}
 use Rattle.cutting_plane.proofs.heights.meets.Tie as tie
 

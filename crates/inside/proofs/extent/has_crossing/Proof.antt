@@ -3,12 +3,6 @@ use Rattle.inside.specs.Extent.{crossingWithin}
 use borrow.Author.Needs.{needs}
 use Rattle.inside.proofs.extent.has_crossing.Statement.{statement}
 use Rattle.inside.proofs.extent.has_crossing.Tie as tie
-use Rattle.inside.proofs.extent.has_crossing.Reads as reads
-use Rattle.inside.proofs.extent.has_crossing.Lts as lts
-use Rattle.arith.proofs.float.is_finite.Reads as is-finite-reads
-use Rattle.arith.proofs.float.max.Reads as max-reads
-use Rattle.inside.proofs.extent.is_level.Reads as is-level-reads
-use Rattle.inside.proofs.extent.run.Reads as run-reads
 
 is-level-requires : tie.Need-is-level-requires
 is-level-requires c κs = search needs

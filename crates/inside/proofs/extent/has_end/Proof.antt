@@ -2,8 +2,6 @@ use mathlib.Core.Path.{refl}
 use Rattle.inside.specs.Extent.{endWithin}
 use Rattle.inside.proofs.extent.has_end.Statement.{statement}
 use Rattle.inside.proofs.extent.has_end.Tie as tie
-use Rattle.inside.proofs.extent.has_end.Reads as reads
-use Rattle.inside.proofs.extent.has_end.Lts as lts
 
 returns : tie.Need-returns
 unfolding endWithin

@@ -3,10 +3,6 @@ use Rattle.inside.specs.Extent.{sideWithin}
 use borrow.Author.Needs.{needs}
 use Rattle.inside.proofs.extent.has_side.Statement.{statement}
 use Rattle.inside.proofs.extent.has_side.Tie as tie
-use Rattle.inside.proofs.extent.has_side.Reads as reads
-use Rattle.inside.proofs.extent.has_side.Lts as lts
-use Rattle.inside.proofs.extent.has_end.Reads as has-end-reads
-use Rattle.inside.proofs.extent.has_crossing.Reads as has-crossing-reads
 
 has-end-requires : tie.Need-has-end-requires
 has-end-requires c κs = search needs

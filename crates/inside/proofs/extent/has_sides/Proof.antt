@@ -8,10 +8,6 @@ use Rattle.inside.proofs.LimitLaws.{within-next, within-not, within-end
 use borrow.Author.Needs.{needs}
 use Rattle.inside.proofs.extent.has_sides.Statement.{statement}
 use Rattle.inside.proofs.extent.has_sides.Tie as tie
-use Rattle.inside.proofs.extent.has_sides.Reads as reads
-use Rattle.inside.proofs.extent.has_sides.Lts as lts
-use Rattle.inside.proofs.extent.has_side.Reads as has-side-reads
-use Rattle.inside.proofs.side_at.Reads as side-at-reads
 
 abbrev Inv-loop : tie.InvT-loop
 Inv-loop l floats at n i₀ i = (i ≤ n) × (all (sideWithin l) (drop i (sides (pairsFrom floats at n))) ≡ all (sideWithin l) (sides (pairsFrom floats at n)))

@@ -2,8 +2,6 @@ use mathlib.Core.Path.{refl}
 use Rattle.inside.specs.Extent.{isLevel}
 use Rattle.inside.proofs.extent.is_level.Statement.{statement}
 use Rattle.inside.proofs.extent.is_level.Tie as tie
-use Rattle.inside.proofs.extent.is_level.Reads as reads
-use Rattle.inside.proofs.extent.is_level.Lts as lts
 
 returns : tie.Need-returns
 unfolding isLevel

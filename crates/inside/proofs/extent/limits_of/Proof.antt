@@ -2,11 +2,6 @@ use Rattle.inside.proofs.LimitLaws.{limits-kept, limits-none}
 use borrow.Author.Needs.{needs}
 use Rattle.inside.proofs.extent.limits_of.Statement.{statement}
 use Rattle.inside.proofs.extent.limits_of.Tie as tie
-use Rattle.inside.proofs.extent.limits_of.Reads as reads
-use Rattle.inside.proofs.extent.limits_of.Lts as lts
-use Rattle.inside.proofs.extent.has_sides.Reads as has-sides-reads
-use Rattle.inside.proofs.extent.narrowest.Reads as narrowest-reads
-use Rattle.inside.proofs.extent.unlimited.Reads as unlimited-reads
 
 narrowest-requires : tie.Need-narrowest-requires
 narrowest-requires c κs = search needs

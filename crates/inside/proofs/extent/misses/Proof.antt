@@ -1,8 +1,6 @@
 use Rattle.inside.specs.Extent.{misses}
 use Rattle.inside.proofs.extent.misses.Statement.{statement}
 use Rattle.inside.proofs.extent.misses.Tie as tie
-use Rattle.inside.proofs.extent.misses.Reads as reads
-use Rattle.inside.proofs.extent.misses.Lts as lts
 
 returns : tie.Need-returns
 unfolding misses

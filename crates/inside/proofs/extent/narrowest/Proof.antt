@@ -8,11 +8,6 @@ use Rattle.inside.proofs.LimitLaws.{widened-turn, narrowed}
 use borrow.Author.Needs.{needs}
 use Rattle.inside.proofs.extent.narrowest.Statement.{statement}
 use Rattle.inside.proofs.extent.narrowest.Tie as tie
-use Rattle.inside.proofs.extent.narrowest.Reads as reads
-use Rattle.inside.proofs.extent.narrowest.Lts as lts
-use Rattle.inside.proofs.extent.sideless.Reads as sideless-reads
-use Rattle.inside.proofs.extent.widened.Reads as widened-reads
-use Rattle.inside.proofs.side_at.Reads as side-at-reads
 
 abbrev Inv-loop : tie.InvT-loop
 Inv-loop floats at n l₀ i₀ l i = (i ≤ n) × (foldl widened l (drop i (sides (pairsFrom floats at n))) ≡ foldl widened l₀ (sides (pairsFrom floats at n)))

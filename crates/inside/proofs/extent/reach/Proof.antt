@@ -3,11 +3,6 @@ use Rattle.inside.specs.Extent.{reach}
 use borrow.Author.Needs.{needs}
 use Rattle.inside.proofs.extent.reach.Statement.{statement}
 use Rattle.inside.proofs.extent.reach.Tie as tie
-use Rattle.inside.proofs.extent.reach.Reads as reads
-use Rattle.inside.proofs.extent.reach.Lts as lts
-use Rattle.arith.proofs.float.max.Reads as max-reads
-use Rattle.inside.proofs.extent.is_level.Reads as is-level-reads
-use Rattle.inside.proofs.extent.run.Reads as run-reads
 
 is-level-requires : tie.Need-is-level-requires
 is-level-requires c κs = search needs

@@ -3,8 +3,6 @@ use lib.Ieee.{ofBits, neg, nanBits}
 use Rattle.inside.specs.Extent.{sideless}
 use Rattle.inside.proofs.extent.sideless.Statement.{statement}
 use Rattle.inside.proofs.extent.sideless.Tie as tie
-use Rattle.inside.proofs.extent.sideless.Reads as reads
-use Rattle.inside.proofs.extent.sideless.Lts as lts
 
 float-from-bits-top : tie.Need-float-from-bits-top
 unfolding nanBits

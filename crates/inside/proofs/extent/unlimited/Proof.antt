@@ -3,8 +3,6 @@ use lib.Ieee.{ofBits, neg, nanBits}
 use Rattle.inside.specs.Extent.{unlimited}
 use Rattle.inside.proofs.extent.unlimited.Statement.{statement}
 use Rattle.inside.proofs.extent.unlimited.Tie as tie
-use Rattle.inside.proofs.extent.unlimited.Reads as reads
-use Rattle.inside.proofs.extent.unlimited.Lts as lts
 
 float-from-bits-top : tie.Need-float-from-bits-top
 unfolding nanBits

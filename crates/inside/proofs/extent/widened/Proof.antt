@@ -2,11 +2,6 @@ use Rattle.inside.specs.Extent.{widened}
 use borrow.Author.Needs.{needs}
 use Rattle.inside.proofs.extent.widened.Statement.{statement}
 use Rattle.inside.proofs.extent.widened.Tie as tie
-use Rattle.inside.proofs.extent.widened.Reads as reads
-use Rattle.inside.proofs.extent.widened.Lts as lts
-use Rattle.arith.proofs.float.max.Reads as max-reads
-use Rattle.arith.proofs.float.min.Reads as min-reads
-use Rattle.inside.proofs.extent.reach.Reads as reach-reads
 
 min-requires : tie.Need-min-requires
 min-requires c κs = search needs

@@ -4,10 +4,6 @@ use Rattle.lines.specs.Line.{areGood}
 use borrow.Author.Needs.{needs}
 use Rattle.lines.proofs.integrate.are_good.Statement.{statement}
 use Rattle.lines.proofs.integrate.are_good.Tie as tie
-use Rattle.lines.proofs.integrate.are_good.Reads as reads
-use Rattle.lines.proofs.integrate.are_good.Lts as lts
-use Rattle.lines.proofs.integrate.is_length.Reads as is-length-reads
-use Rattle.lines.proofs.integrate.is_speed.Reads as is-speed-reads
 
 is-length-requires : tie.Need-is-length-requires
 is-length-requires c κs = search needs

@@ -3,11 +3,6 @@ use Rattle.lines.specs.Line.{integrate}
 use borrow.Author.Needs.{needs}
 use Rattle.lines.proofs.integrate.integrate.Statement.{statement}
 use Rattle.lines.proofs.integrate.integrate.Tie as tie
-use Rattle.lines.proofs.integrate.integrate.Reads as reads
-use Rattle.lines.proofs.integrate.integrate.Lts as lts
-use Rattle.lines.proofs.integrate.are_good.Reads as are-good-reads
-use Rattle.lines.proofs.integrate.is_nowhere.Reads as is-nowhere-reads
-use Rattle.lines.proofs.line.trace.Reads as trace-reads
 
 are-good-requires : tie.Need-are-good-requires
 are-good-requires c κs = search needs

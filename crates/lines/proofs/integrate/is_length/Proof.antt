@@ -3,9 +3,6 @@ use Rattle.lines.specs.Line.{isLength}
 use borrow.Author.Needs.{needs}
 use Rattle.lines.proofs.integrate.is_length.Statement.{statement}
 use Rattle.lines.proofs.integrate.is_length.Tie as tie
-use Rattle.lines.proofs.integrate.is_length.Reads as reads
-use Rattle.lines.proofs.integrate.is_length.Lts as lts
-use Rattle.arith.proofs.float.is_finite.Reads as is-finite-reads
 
 is-finite-requires : tie.Need-is-finite-requires
 is-finite-requires c κs = search needs

@@ -2,9 +2,6 @@ use Rattle.lines.proofs.JobLaws.{nowhere-not, nowhere-so}
 use borrow.Author.Needs.{needs}
 use Rattle.lines.proofs.integrate.is_nowhere.Statement.{statement}
 use Rattle.lines.proofs.integrate.is_nowhere.Tie as tie
-use Rattle.lines.proofs.integrate.is_nowhere.Reads as reads
-use Rattle.lines.proofs.integrate.is_nowhere.Lts as lts
-use Rattle.locate.proofs.locate_cell.Reads as locate-cell-reads
 
 locate-cell-requires : tie.Need-locate-cell-requires
 locate-cell-requires c κs = search needs

@@ -3,9 +3,6 @@ use Rattle.lines.specs.Line.{isSpeed}
 use borrow.Author.Needs.{needs}
 use Rattle.lines.proofs.integrate.is_speed.Statement.{statement}
 use Rattle.lines.proofs.integrate.is_speed.Tie as tie
-use Rattle.lines.proofs.integrate.is_speed.Reads as reads
-use Rattle.lines.proofs.integrate.is_speed.Lts as lts
-use Rattle.arith.proofs.float.is_finite.Reads as is-finite-reads
 
 is-finite-requires : tie.Need-is-finite-requires
 is-finite-requires c κs = search needs

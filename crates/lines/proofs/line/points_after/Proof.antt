@@ -11,14 +11,11 @@ use lib.Seq.{sets}
 use lib.ListN.{length, length-append}
 use mathlib.Core.List.{List, [], _∷_, _++_}
 use mathlib.Core.Path.{_≡_, refl}
-use Prim.Native.Nat.{ℕ, _≤_, _-_, _+_}
+use Prim.Native.Nat.{_≤_, _-_, _+_}
 use native.Mathlib.Omega.{arith}
 use borrow.Author.Needs.{needs}
 use Rattle.lines.proofs.line.points_after.Statement.{statement}
 use Rattle.lines.proofs.line.points_after.Tie as tie
-use Rattle.lines.proofs.line.points_after.Reads as reads
-use Rattle.lines.proofs.line.points_after.Lts as lts
-use Rattle.rk4.proofs.line_step.Reads as line-step-reads
 
 abbrev Inv-loop : tie.InvT-loop
 Inv-loop case n words floats s g marks₀ out₀ at h options most total₀ p₀ k₀ marks out total p k = record { done : List Vec3; count : k ≡ length done; below : k ≤ most; kept : length marks ≡ length marks₀; as-long : length out ≡ length out₀; written : out ≡ sets out₀ at (pointWords done); going : Going (lineFrom (fieldIn g s words floats) options h most p₀ 0·0) (valuesOf case) marks₀ (left (fieldIn g s words floats) options h done (most - k) p total) marks }

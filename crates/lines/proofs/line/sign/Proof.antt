@@ -3,8 +3,6 @@ use Rattle.lines.specs.Line.{sign}
 use borrow.Author.Needs.{needs}
 use Rattle.lines.proofs.line.sign.Statement.{statement}
 use Rattle.lines.proofs.line.sign.Tie as tie
-use Rattle.lines.proofs.line.sign.Reads as reads
-use Rattle.lines.proofs.line.sign.Lts as lts
 
 enum-told : tie.Need-enum-told
 enum-told c = search needs

@@ -4,10 +4,6 @@ use native.Mathlib.Omega.{arith}
 use borrow.Author.Needs.{needs}
 use Rattle.lines.proofs.line.trace.Statement.{statement}
 use Rattle.lines.proofs.line.trace.Tie as tie
-use Rattle.lines.proofs.line.trace.Reads as reads
-use Rattle.lines.proofs.line.trace.Lts as lts
-use Rattle.lines.proofs.line.points_after.Reads as points-after-reads
-use Rattle.lines.proofs.line.sign.Reads as sign-reads
 
 sign-requires : tie.Need-sign-requires
 sign-requires c κs = search needs

@@ -9,10 +9,6 @@ use Prim.Native.Nat.{_≤_, _-_}
 use borrow.Author.Needs.{needs}
 use Rattle.lines.proofs.rake.any_nowhere.Statement.{statement}
 use Rattle.lines.proofs.rake.any_nowhere.Tie as tie
-use Rattle.lines.proofs.rake.any_nowhere.Reads as reads
-use Rattle.lines.proofs.rake.any_nowhere.Lts as lts
-use Rattle.lines.proofs.integrate.is_nowhere.Reads as is-nowhere-reads
-use Rattle.lines.proofs.rake.seed_at.Reads as seed-at-reads
 
 abbrev Inv-loop : tie.InvT-loop
 Inv-loop words floats s g start end count i₀ i = (i ≤ count) × (any (nowhere (fieldIn g s words floats)) (drop i (seeds start end count)) ≡ any (nowhere (fieldIn g s words floats)) (seeds start end count))

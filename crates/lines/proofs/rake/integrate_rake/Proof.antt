@@ -3,11 +3,6 @@ use Rattle.lines.specs.Rake.{integrateRake}
 use borrow.Author.Needs.{needs}
 use Rattle.lines.proofs.rake.integrate_rake.Statement.{statement}
 use Rattle.lines.proofs.rake.integrate_rake.Tie as tie
-use Rattle.lines.proofs.rake.integrate_rake.Reads as reads
-use Rattle.lines.proofs.rake.integrate_rake.Lts as lts
-use Rattle.lines.proofs.integrate.are_good.Reads as are-good-reads
-use Rattle.lines.proofs.rake.any_nowhere.Reads as any-nowhere-reads
-use Rattle.lines.proofs.rake.trace_all.Reads as trace-all-reads
 
 are-good-requires : tie.Need-are-good-requires
 are-good-requires c κs = search needs

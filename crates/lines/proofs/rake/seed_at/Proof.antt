@@ -4,11 +4,6 @@ use native.Mathlib.Omega.{arith}
 use borrow.Author.Needs.{needs}
 use Rattle.lines.proofs.rake.seed_at.Statement.{statement}
 use Rattle.lines.proofs.rake.seed_at.Tie as tie
-use Rattle.lines.proofs.rake.seed_at.Reads as reads
-use Rattle.lines.proofs.rake.seed_at.Lts as lts
-use Rattle.arith.proofs.Vec3.add.Reads as add-reads
-use Rattle.arith.proofs.Vec3.scale.Reads as scale-reads
-use Rattle.arith.proofs.Vec3.sub.Reads as sub-reads
 
 int-to-float-t : tie.Need-int-to-float-t
 int-to-float-t c = whole-in _ (omega arith)

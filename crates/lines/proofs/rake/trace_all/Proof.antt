@@ -12,10 +12,6 @@ use native.Mathlib.Omega.{arith}
 use borrow.Author.Needs.{needs}
 use Rattle.lines.proofs.rake.trace_all.Statement.{statement}
 use Rattle.lines.proofs.rake.trace_all.Tie as tie
-use Rattle.lines.proofs.rake.trace_all.Reads as reads
-use Rattle.lines.proofs.rake.trace_all.Lts as lts
-use Rattle.lines.proofs.line.trace.Reads as trace-reads
-use Rattle.lines.proofs.rake.seed_at.Reads as seed-at-reads
 
 abbrev Inv-loop : tie.InvT-loop
 Inv-loop case n words floats s g marks₀ out₀ start end count d options written₀ i₀ marks out written i = record { done : List ℕ; as-many : written ≡ length done; below : i ≤ count; few : written ≤ 196612 * i; kept : length marks ≡ length marks₀; as-long : length out ≡ length out₀; stand : out ≡ sets out₀ 1 done; going : Going (linesWords (fieldIn g s words floats) options d (seeds start end count)) (valuesOf case) marks₀ (left (fieldIn g s words floats) options d done (drop i (seeds start end count))) marks }

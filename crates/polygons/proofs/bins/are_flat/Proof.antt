@@ -3,9 +3,6 @@ use Rattle.polygons.specs.Bins.{areFlat}
 use borrow.Author.Needs.{needs}
 use Rattle.polygons.proofs.bins.are_flat.Statement.{statement}
 use Rattle.polygons.proofs.bins.are_flat.Tie as tie
-use Rattle.polygons.proofs.bins.are_flat.Reads as reads
-use Rattle.polygons.proofs.bins.are_flat.Lts as lts
-use Rattle.arith.proofs.float.is_finite.Reads as is-finite-reads
 
 is-finite-requires : tie.Need-is-finite-requires
 is-finite-requires c κs = search needs

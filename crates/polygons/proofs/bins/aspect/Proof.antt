@@ -2,8 +2,6 @@ use mathlib.Core.Path.{refl}
 use Rattle.polygons.specs.Bins.{aspect}
 use Rattle.polygons.proofs.bins.aspect.Statement.{statement}
 use Rattle.polygons.proofs.bins.aspect.Tie as tie
-use Rattle.polygons.proofs.bins.aspect.Reads as reads
-use Rattle.polygons.proofs.bins.aspect.Lts as lts
 
 returns : tie.Need-returns
 unfolding aspect

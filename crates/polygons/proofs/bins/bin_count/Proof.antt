@@ -1,12 +1,6 @@
-use mathlib.Core.Path.{refl}
 use borrow.Author.Needs.{needs}
 use Rattle.polygons.proofs.bins.bin_count.Statement.{statement}
 use Rattle.polygons.proofs.bins.bin_count.Tie as tie
-use Rattle.polygons.proofs.bins.bin_count.Reads as reads
-use Rattle.polygons.proofs.bins.bin_count.Lts as lts
-use Rattle.arith.proofs.float.ceil_usize.Reads as ceil-usize-reads
-use Rattle.polygons.proofs.bins.at_least_one.Reads as at-least-one-reads
-use Rattle.root.proofs.sqrt.Reads as sqrt-reads
 
 sqrt-requires : tie.Need-sqrt-requires
 sqrt-requires c κs = search needs

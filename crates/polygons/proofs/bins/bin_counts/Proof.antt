@@ -4,11 +4,6 @@ use Rattle.polygons.specs.Bins.{binCounts, aspect}
 use borrow.Author.Needs.{needs}
 use Rattle.polygons.proofs.bins.bin_counts.Statement.{statement}
 use Rattle.polygons.proofs.bins.bin_counts.Tie as tie
-use Rattle.polygons.proofs.bins.bin_counts.Reads as reads
-use Rattle.polygons.proofs.bins.bin_counts.Lts as lts
-use Rattle.polygons.proofs.bins.aspect.Reads as aspect-reads
-use Rattle.polygons.proofs.bins.at_least_one.Reads as at-least-one-reads
-use Rattle.polygons.proofs.bins.bin_count.Reads as bin-count-reads
 
 at-least-one-requires : tie.Need-at-least-one-requires
 at-least-one-requires c κs = search needs

@@ -3,9 +3,6 @@ use Rattle.polygons.proofs.GridLaws.{grid-flat, grid-wide, grid-high, g
 use borrow.Author.Needs.{needs}
 use Rattle.polygons.proofs.bins.grid_for.Statement.{statement}
 use Rattle.polygons.proofs.bins.grid_for.Tie as tie
-use Rattle.polygons.proofs.bins.grid_for.Reads as reads
-use Rattle.polygons.proofs.bins.grid_for.Lts as lts
-use Rattle.polygons.proofs.bins.are_flat.Reads as are-flat-reads
 
 are-flat-requires : tie.Need-are-flat-requires
 are-flat-requires c κs = search needs

@@ -3,10 +3,6 @@ use Rattle.polygons.proofs.RangeLaws.{ranged, indexed-cells, none-index
 use borrow.Author.Needs.{needs}
 use Rattle.polygons.proofs.bins.index_cells.Statement.{statement}
 use Rattle.polygons.proofs.bins.index_cells.Tie as tie
-use Rattle.polygons.proofs.bins.index_cells.Reads as reads
-use Rattle.polygons.proofs.bins.index_cells.Lts as lts
-use Rattle.polygons.proofs.bins.list_cells.Reads as list-cells-reads
-use Rattle.bin_index.proofs.build.Reads as build-reads
 
 list-cells-requires : tie.Need-list-cells-requires
 list-cells-requires c κs = search needs

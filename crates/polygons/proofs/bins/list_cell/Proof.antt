@@ -3,15 +3,6 @@ use Rattle.polygons.proofs.GridLaws.{listed-by}
 use borrow.Author.Needs.{needs}
 use Rattle.polygons.proofs.bins.list_cell.Statement.{statement}
 use Rattle.polygons.proofs.bins.list_cell.Tie as tie
-use Rattle.polygons.proofs.bins.list_cell.Reads as reads
-use Rattle.polygons.proofs.bins.list_cell.Lts as lts
-use Rattle.polygons.proofs.bins.put_bins.Reads as put-bins-reads
-use Rattle.polygons.proofs.bounds.boundless.Reads as boundless-reads
-use Rattle.polygons.proofs.bounds.widened_by.Reads as widened-by-reads
-use Rattle.locate.proofs.bin_for.Reads as bin-for-reads
-use Rattle.locate.proofs.count_in.Reads as count-in-reads
-use Rattle.locate.proofs.floats_at.Reads as floats-at-reads
-use Rattle.locate.proofs.words_at.Reads as words-at-reads
 
 count-in-requires : tie.Need-count-in-requires
 count-in-requires c κs = search needs

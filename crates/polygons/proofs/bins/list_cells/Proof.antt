@@ -1,11 +1,8 @@
 use Rattle.polygons.proofs.GridLaws.{Listing, listing-start, listing-turn, listing-end}
-use Prim.Native.Nat.{_≤_, _-_}
+use Prim.Native.Nat.{_-_}
 use borrow.Author.Needs.{needs}
 use Rattle.polygons.proofs.bins.list_cells.Statement.{statement}
 use Rattle.polygons.proofs.bins.list_cells.Tie as tie
-use Rattle.polygons.proofs.bins.list_cells.Reads as reads
-use Rattle.polygons.proofs.bins.list_cells.Lts as lts
-use Rattle.polygons.proofs.bins.list_cell.Reads as list-cell-reads
 
 abbrev Inv-loop : tie.InvT-loop
 Inv-loop words₀ floats s g i₀ words i = Listing g s words₀ words floats i

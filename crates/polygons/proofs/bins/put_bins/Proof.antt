@@ -3,8 +3,6 @@ use lib.ListN.{length-set}
 use borrow.Author.Needs.{needs}
 use Rattle.polygons.proofs.bins.put_bins.Statement.{statement}
 use Rattle.polygons.proofs.bins.put_bins.Tie as tie
-use Rattle.polygons.proofs.bins.put_bins.Reads as reads
-use Rattle.polygons.proofs.bins.put_bins.Lts as lts
 
 cast-words : tie.Need-cast-words
 cast-words c = search needs

@@ -8,12 +8,6 @@ use Prim.Native.Nat.{_≤_, _-_}
 use borrow.Author.Needs.{needs}
 use Rattle.polygons.proofs.bounds.all_bounds.Statement.{statement}
 use Rattle.polygons.proofs.bounds.all_bounds.Tie as tie
-use Rattle.polygons.proofs.bounds.all_bounds.Reads as reads
-use Rattle.polygons.proofs.bounds.all_bounds.Lts as lts
-use Rattle.polygons.proofs.bounds.boundless.Reads as boundless-reads
-use Rattle.polygons.proofs.bounds.widened_by.Reads as widened-by-reads
-use Rattle.locate.proofs.count_in.Reads as count-in-reads
-use Rattle.locate.proofs.floats_at.Reads as floats-at-reads
 
 abbrev Inv-loop : tie.InvT-loop
 Inv-loop words floats s b₀ i₀ b i = (i ≤ s .cells) × (foldl widened b (concat (drop i (polygonsIn s words floats))) ≡ boundsOf (concat (polygonsIn s words floats)))

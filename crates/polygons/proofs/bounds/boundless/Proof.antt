@@ -3,8 +3,6 @@ use Rattle.polygons.specs.Bounds.{boundless}
 use lib.Ieee.{ofBits, neg, nanBits}
 use Rattle.polygons.proofs.bounds.boundless.Statement.{statement}
 use Rattle.polygons.proofs.bounds.boundless.Tie as tie
-use Rattle.polygons.proofs.bounds.boundless.Reads as reads
-use Rattle.polygons.proofs.bounds.boundless.Lts as lts
 
 float-from-bits-top : tie.Need-float-from-bits-top
 unfolding ofBits neg nanBits

@@ -2,10 +2,6 @@ use Rattle.polygons.specs.Bounds.{widened}
 use borrow.Author.Needs.{needs}
 use Rattle.polygons.proofs.bounds.widened.Statement.{statement}
 use Rattle.polygons.proofs.bounds.widened.Tie as tie
-use Rattle.polygons.proofs.bounds.widened.Reads as reads
-use Rattle.polygons.proofs.bounds.widened.Lts as lts
-use Rattle.arith.proofs.float.max.Reads as max-reads
-use Rattle.arith.proofs.float.min.Reads as min-reads
 
 min-requires : tie.Need-min-requires
 min-requires c κs = search needs

@@ -8,10 +8,6 @@ use Prim.Native.Nat.{_≤_, _-_}
 use borrow.Author.Needs.{needs}
 use Rattle.polygons.proofs.bounds.widened_by.Statement.{statement}
 use Rattle.polygons.proofs.bounds.widened_by.Tie as tie
-use Rattle.polygons.proofs.bounds.widened_by.Reads as reads
-use Rattle.polygons.proofs.bounds.widened_by.Lts as lts
-use Rattle.polygons.proofs.bounds.widened.Reads as widened-reads
-use Rattle.inside.proofs.pair_at.Reads as pair-at-reads
 
 abbrev Inv-loop : tie.InvT-loop
 Inv-loop floats at n b₀ k₀ b k = (k ≤ n) × (foldl widened b (drop k (pairsFrom floats at n)) ≡ foldl widened b₀ (pairsFrom floats at n))

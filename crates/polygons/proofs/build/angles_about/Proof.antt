@@ -7,9 +7,6 @@ use native.Mathlib.Omega.{arith}
 use borrow.Author.Needs.{needs}
 use Rattle.polygons.proofs.build.angles_about.Statement.{statement}
 use Rattle.polygons.proofs.build.angles_about.Tie as tie
-use Rattle.polygons.proofs.build.angles_about.Reads as reads
-use Rattle.polygons.proofs.build.angles_about.Lts as lts
-use Rattle.arith.proofs.angles.angle_of.Reads as angle-of-reads
 
 abbrev Inv-loop : tie.InvT-loop
 Inv-loop xs ys n centre quarters₀ slopes₀ k₀ quarters slopes k = (k ≤ n) × (AnglesAbout centre xs ys quarters slopes k) × (length quarters ≡ length quarters₀) × (length slopes ≡ length slopes₀)

@@ -1,16 +1,8 @@
 use Rattle.polygons.proofs.BuildLaws.{lent-words, lent-floats}
-use native.Mathlib.Omega.{arith}
 use Rattle.polygons.proofs.BuildLaws.{refused-field, made-field}
 use borrow.Author.Needs.{needs}
 use Rattle.polygons.proofs.build.from_dataset.Statement.{statement}
 use Rattle.polygons.proofs.build.from_dataset.Tie as tie
-use Rattle.polygons.proofs.build.from_dataset.Reads as reads
-use Rattle.polygons.proofs.build.from_dataset.Lts as lts
-use Rattle.polygons.proofs.bins.bin_counts.Reads as bin-counts-reads
-use Rattle.polygons.proofs.bins.grid_for.Reads as grid-for-reads
-use Rattle.polygons.proofs.bins.index_cells.Reads as index-cells-reads
-use Rattle.polygons.proofs.bounds.all_bounds.Reads as all-bounds-reads
-use Rattle.polygons.proofs.build.put_cells.Reads as put-cells-reads
 
 put-cells-requires : tie.Need-put-cells-requires
 put-cells-requires c κs = search needs

@@ -3,12 +3,6 @@ use Rattle.polygons.proofs.LimitLaws.{limit-stored}
 use borrow.Author.Needs.{needs}
 use Rattle.polygons.proofs.build.limit_cell.Statement.{statement}
 use Rattle.polygons.proofs.build.limit_cell.Tie as tie
-use Rattle.polygons.proofs.build.limit_cell.Reads as reads
-use Rattle.polygons.proofs.build.limit_cell.Lts as lts
-use Rattle.locate.proofs.floats_at.Reads as floats-at-reads
-use Rattle.locate.proofs.count_in.Reads as count-in-reads
-use Rattle.polygons.proofs.build.put_limits.Reads as put-limits-reads
-use Rattle.inside.proofs.extent.limits_of.Reads as limits-of-reads
 
 floats-at-requires : tie.Need-floats-at-requires
 floats-at-requires c κs = search needs

@@ -3,9 +3,6 @@ use Prim.Native.Nat.{_-_}
 use borrow.Author.Needs.{needs}
 use Rattle.polygons.proofs.build.limit_cells.Statement.{statement}
 use Rattle.polygons.proofs.build.limit_cells.Tie as tie
-use Rattle.polygons.proofs.build.limit_cells.Reads as reads
-use Rattle.polygons.proofs.build.limit_cells.Lts as lts
-use Rattle.polygons.proofs.build.limit_cell.Reads as limit-cell-reads
 
 abbrev Inv-loop : tie.InvT-loop
 Inv-loop words floats₀ s i₀ floats i = Limiting s words floats₀ floats i

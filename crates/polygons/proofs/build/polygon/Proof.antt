@@ -2,11 +2,6 @@ use Rattle.polygons.proofs.BuildLaws.{few-corners, placed}
 use borrow.Author.Needs.{needs}
 use Rattle.polygons.proofs.build.polygon.Statement.{statement}
 use Rattle.polygons.proofs.build.polygon.Tie as tie
-use Rattle.polygons.proofs.build.polygon.Reads as reads
-use Rattle.polygons.proofs.build.polygon.Lts as lts
-use Rattle.area.proofs.centre_of.Reads as centre-of-reads
-use Rattle.polygons.proofs.build.sort_corners.Reads as sort-corners-reads
-use Rattle.polygons.proofs.corners.corners.Reads as corners-reads
 
 corners-requires : tie.Need-corners-requires
 corners-requires c κs = (search needs, few-corners _ _ _ _ _ (c .before .before .before .before .before .before .before .before .pre .1 .1))

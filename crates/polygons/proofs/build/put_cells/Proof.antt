@@ -2,10 +2,6 @@ use Rattle.polygons.proofs.LimitLaws.{cells-put}
 use borrow.Author.Needs.{needs}
 use Rattle.polygons.proofs.build.put_cells.Statement.{statement}
 use Rattle.polygons.proofs.build.put_cells.Tie as tie
-use Rattle.polygons.proofs.build.put_cells.Reads as reads
-use Rattle.polygons.proofs.build.put_cells.Lts as lts
-use Rattle.polygons.proofs.build.put_polygons.Reads as put-polygons-reads
-use Rattle.polygons.proofs.build.limit_cells.Reads as limit-cells-reads
 
 put-polygons-requires : tie.Need-put-polygons-requires
 put-polygons-requires c κs = search needs

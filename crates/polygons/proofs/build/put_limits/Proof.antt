@@ -3,8 +3,6 @@ use lib.ListN.{length-set}
 use borrow.Author.Needs.{needs}
 use Rattle.polygons.proofs.build.put_limits.Statement.{statement}
 use Rattle.polygons.proofs.build.put_limits.Tie as tie
-use Rattle.polygons.proofs.build.put_limits.Reads as reads
-use Rattle.polygons.proofs.build.put_limits.Lts as lts
 
 mul-floats : tie.Need-mul-floats
 mul-floats c = search needs

@@ -1,10 +1,6 @@
 use borrow.Author.Needs.{needs}
 use Rattle.polygons.proofs.build.put_polygon.Statement.{statement}
 use Rattle.polygons.proofs.build.put_polygon.Tie as tie
-use Rattle.polygons.proofs.build.put_polygon.Reads as reads
-use Rattle.polygons.proofs.build.put_polygon.Lts as lts
-use Rattle.polygons.proofs.build.polygon.Reads as polygon-reads
-use Rattle.polygons.proofs.build.store_polygon.Reads as store-polygon-reads
 
 slice-aggregate-polygon : tie.Need-slice-aggregate-polygon
 slice-aggregate-polygon c = search needs

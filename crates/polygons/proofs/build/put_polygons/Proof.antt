@@ -1,12 +1,9 @@
 use Rattle.polygons.proofs.BuildLaws.{Building, building-start, building-fits, building-turn, building-end}
 use Rattle.area.specs.Layout.{pointsIn}
-use Prim.Native.Nat.{_≤_, _-_}
+use Prim.Native.Nat.{_-_}
 use borrow.Author.Needs.{needs}
 use Rattle.polygons.proofs.build.put_polygons.Statement.{statement}
 use Rattle.polygons.proofs.build.put_polygons.Tie as tie
-use Rattle.polygons.proofs.build.put_polygons.Reads as reads
-use Rattle.polygons.proofs.build.put_polygons.Lts as lts
-use Rattle.polygons.proofs.build.put_polygon.Reads as put-polygon-reads
 
 abbrev Inv-loop : tie.InvT-loop
 Inv-loop case points words₀ floats₀ s i₀ words floats i = Building (pointsIn case points) s words₀ words floats₀ floats i

@@ -4,10 +4,6 @@ use lib.ListN.{length-take}
 use borrow.Author.Needs.{needs}
 use Rattle.polygons.proofs.build.sort_corners.Statement.{statement}
 use Rattle.polygons.proofs.build.sort_corners.Tie as tie
-use Rattle.polygons.proofs.build.sort_corners.Reads as reads
-use Rattle.polygons.proofs.build.sort_corners.Lts as lts
-use Rattle.arith.proofs.sort.sort_by_angle.Reads as sort-by-angle-reads
-use Rattle.polygons.proofs.build.angles_about.Reads as angles-about-reads
 
 slice-aggregate-angles-about : tie.Need-slice-aggregate-angles-about
 slice-aggregate-angles-about c = search needs

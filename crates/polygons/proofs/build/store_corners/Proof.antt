@@ -1,13 +1,11 @@
 use mathlib.Core.Path.{refl}
 use Rattle.polygons.proofs.PolygonLaws.{Storing, storing-start, storing-turn, storing-end}
-use lib.ListN.{length, length-set}
-use Prim.Native.Nat.{_≤_, _-_}
+use lib.ListN.{length-set}
+use Prim.Native.Nat.{_-_}
 use native.Mathlib.Omega.{arith}
 use borrow.Author.Needs.{needs}
 use Rattle.polygons.proofs.build.store_corners.Statement.{statement}
 use Rattle.polygons.proofs.build.store_corners.Tie as tie
-use Rattle.polygons.proofs.build.store_corners.Reads as reads
-use Rattle.polygons.proofs.build.store_corners.Lts as lts
 
 abbrev Inv-loop : tie.InvT-loop
 Inv-loop floats₀ at xs ys places n k₀ floats k = Storing floats₀ floats xs ys places at n k

@@ -3,11 +3,6 @@ use native.Mathlib.Omega.{arith}
 use borrow.Author.Needs.{needs}
 use Rattle.polygons.proofs.build.store_polygon.Statement.{statement}
 use Rattle.polygons.proofs.build.store_polygon.Tie as tie
-use Rattle.polygons.proofs.build.store_polygon.Reads as reads
-use Rattle.polygons.proofs.build.store_polygon.Lts as lts
-use Rattle.polygons.proofs.build.store_corners.Reads as store-corners-reads
-use Rattle.locate.proofs.floats_at.Reads as floats-at-reads
-use Rattle.locate.proofs.words_at.Reads as words-at-reads
 
 floats-at-requires : tie.Need-floats-at-requires
 floats-at-requires c κs = search needs

@@ -11,12 +11,6 @@ use Prim.Native.Nat.{_≤_, _-_}
 use borrow.Author.Needs.{needs}
 use Rattle.polygons.proofs.corners.add_face.Statement.{statement}
 use Rattle.polygons.proofs.corners.add_face.Tie as tie
-use Rattle.polygons.proofs.corners.add_face.Reads as reads
-use Rattle.polygons.proofs.corners.add_face.Lts as lts
-use Rattle.area.proofs.vertex.Reads as vertex-reads
-use Rattle.area.proofs.vertex_count.Reads as vertex-count-reads
-use Rattle.polygons.proofs.corners.flat_at.Reads as flat-at-reads
-use Rattle.polygons.proofs.corners.push.Reads as push-reads
 
 abbrev Inv-loop : tie.InvT-loop
 Inv-loop case points words s f xs₀ ys₀ from count n₀ k₀ xs ys n k = (k ≤ count) × (n ≤ 24) × (foldl (addCorner (meshIn (pointsIn case points) s words [])) (cornersIn xs ys n) (drop k (faceAt (facesIn s words []) f .vertices)) ≡ addCorners (meshIn (pointsIn case points) s words []) (cornersIn xs₀ ys₀ n₀) f) × (length xs ≡ length xs₀) × (length ys ≡ length ys₀)

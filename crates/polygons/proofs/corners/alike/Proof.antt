@@ -1,8 +1,6 @@
 use Rattle.polygons.specs.Corners.{alike}
 use Rattle.polygons.proofs.corners.alike.Statement.{statement}
 use Rattle.polygons.proofs.corners.alike.Tie as tie
-use Rattle.polygons.proofs.corners.alike.Reads as reads
-use Rattle.polygons.proofs.corners.alike.Lts as lts
 
 returns : tie.Need-returns
 unfolding alike

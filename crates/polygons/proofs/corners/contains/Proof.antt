@@ -8,9 +8,6 @@ use Prim.Native.Nat.{_≤_, _-_}
 use borrow.Author.Needs.{needs}
 use Rattle.polygons.proofs.corners.contains.Statement.{statement}
 use Rattle.polygons.proofs.corners.contains.Tie as tie
-use Rattle.polygons.proofs.corners.contains.Reads as reads
-use Rattle.polygons.proofs.corners.contains.Lts as lts
-use Rattle.polygons.proofs.corners.alike.Reads as alike-reads
 
 abbrev Inv-loop : tie.InvT-loop
 Inv-loop xs ys n p k₀ k = (k ≤ n) × (any (alike p) (drop k (cornersIn xs ys n)) ≡ any (alike p) (cornersIn xs ys n))

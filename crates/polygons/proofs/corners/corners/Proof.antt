@@ -11,11 +11,6 @@ use Prim.Native.Nat.{_≤_, _-_}
 use borrow.Author.Needs.{needs}
 use Rattle.polygons.proofs.corners.corners.Statement.{statement}
 use Rattle.polygons.proofs.corners.corners.Tie as tie
-use Rattle.polygons.proofs.corners.corners.Reads as reads
-use Rattle.polygons.proofs.corners.corners.Lts as lts
-use Rattle.area.proofs.cell_face.Reads as cell-face-reads
-use Rattle.area.proofs.face_count.Reads as face-count-reads
-use Rattle.polygons.proofs.corners.add_face.Reads as add-face-reads
 
 abbrev Inv-loop : tie.InvT-loop
 Inv-loop case points words s i xs₀ ys₀ count n₀ k₀ xs ys n k = (k ≤ count) × (n ≤ 24) × (foldl (addCorners (meshIn (pointsIn case points) s words [])) (cornersIn xs ys n) (drop k (cellAt (cellsIn s words []) i .faces)) ≡ cornersOf (meshIn (pointsIn case points) s words []) (cellAt (cellsIn s words []) i)) × (length xs ≡ length xs₀) × (length ys ≡ length ys₀)

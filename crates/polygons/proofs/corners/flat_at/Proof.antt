@@ -2,9 +2,6 @@ use Rattle.locate.specs.Locate.{flat}
 use borrow.Author.Needs.{needs}
 use Rattle.polygons.proofs.corners.flat_at.Statement.{statement}
 use Rattle.polygons.proofs.corners.flat_at.Tie as tie
-use Rattle.polygons.proofs.corners.flat_at.Reads as reads
-use Rattle.polygons.proofs.corners.flat_at.Lts as lts
-use Rattle.area.proofs.point_at.Reads as point-at-reads
 
 point-at-requires : tie.Need-point-at-requires
 point-at-requires c κs = search needs

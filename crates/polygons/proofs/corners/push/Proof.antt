@@ -3,9 +3,6 @@ use native.Mathlib.Omega.{arith}
 use borrow.Author.Needs.{needs}
 use Rattle.polygons.proofs.corners.push.Statement.{statement}
 use Rattle.polygons.proofs.corners.push.Tie as tie
-use Rattle.polygons.proofs.corners.push.Reads as reads
-use Rattle.polygons.proofs.corners.push.Lts as lts
-use Rattle.polygons.proofs.corners.contains.Reads as contains-reads
 
 contains-requires : tie.Need-contains-requires
 contains-requires c κs = search needs

@@ -1,4 +1,3 @@
-use native.Mathlib.Omega.{arith}
 use mathlib.Core.Path.{sym}
 use Rattle.crossings.proofs.HeldLaws.{length-held}
 use Rattle.sections.proofs.PieceLaws.{piece-few, piece-wide, piece-flat}

@@ -4,10 +4,6 @@ use lib.Ieee.{ofBits, nanBits}
 use borrow.Author.Needs.{needs}
 use Rattle.velocity.proofs.interpolate.apart.Statement.{statement}
 use Rattle.velocity.proofs.interpolate.apart.Tie as tie
-use Rattle.velocity.proofs.interpolate.apart.Reads as reads
-use Rattle.velocity.proofs.interpolate.apart.Lts as lts
-use Rattle.arith.proofs.Vec3.norm_squared.Reads as norm-squared-reads
-use Rattle.arith.proofs.float.is_finite.Reads as is-finite-reads
 
 norm-squared-requires : tie.Need-norm-squared-requires
 norm-squared-requires c κs = search needs

@@ -2,13 +2,6 @@ use Rattle.velocity.proofs.VelocityLaws.{beside-not, beside-read}
 use borrow.Author.Needs.{needs}
 use Rattle.velocity.proofs.interpolate.beside.Statement.{statement}
 use Rattle.velocity.proofs.interpolate.beside.Tie as tie
-use Rattle.velocity.proofs.interpolate.beside.Reads as reads
-use Rattle.velocity.proofs.interpolate.beside.Lts as lts
-use Rattle.area.proofs.centre_of.Reads as centre-of-reads
-use Rattle.arith.proofs.Vec3.sub.Reads as sub-reads
-use Rattle.velocity.proofs.interpolate.apart.Reads as apart-reads
-use Rattle.velocity.proofs.interpolate.blended.Reads as blended-reads
-use Rattle.velocity.proofs.interpolate.read_cell.Reads as read-cell-reads
 
 centre-of-requires : tie.Need-centre-of-requires
 centre-of-requires c κs = search needs

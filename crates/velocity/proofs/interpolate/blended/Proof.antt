@@ -2,14 +2,6 @@ use Rattle.velocity.specs.Velocity.{blended}
 use borrow.Author.Needs.{needs}
 use Rattle.velocity.proofs.interpolate.blended.Statement.{statement}
 use Rattle.velocity.proofs.interpolate.blended.Tie as tie
-use Rattle.velocity.proofs.interpolate.blended.Reads as reads
-use Rattle.velocity.proofs.interpolate.blended.Lts as lts
-use Rattle.arith.proofs.Vec3.add.Reads as add-reads
-use Rattle.arith.proofs.Vec3.dot.Reads as dot-reads
-use Rattle.arith.proofs.Vec3.norm_squared.Reads as norm-squared-reads
-use Rattle.arith.proofs.Vec3.scale.Reads as scale-reads
-use Rattle.arith.proofs.Vec3.sub.Reads as sub-reads
-use Rattle.arith.proofs.float.clamp.Reads as clamp-reads
 
 sub-requires : tie.Need-sub-requires
 sub-requires c κs = search needs

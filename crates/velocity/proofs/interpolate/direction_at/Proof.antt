@@ -5,10 +5,6 @@ use Rattle.reading.proofs.ServedLaws.{served-give}
 use borrow.Author.Needs.{needs}
 use Rattle.velocity.proofs.interpolate.direction_at.Statement.{statement}
 use Rattle.velocity.proofs.interpolate.direction_at.Tie as tie
-use Rattle.velocity.proofs.interpolate.direction_at.Reads as reads
-use Rattle.velocity.proofs.interpolate.direction_at.Lts as lts
-use Rattle.velocity.proofs.interpolate.unit.Reads as unit-reads
-use Rattle.velocity.proofs.interpolate.velocity_at.Reads as velocity-at-reads
 
 velocity-at-requires : tie.Need-velocity-at-requires
 velocity-at-requires c κs = search needs

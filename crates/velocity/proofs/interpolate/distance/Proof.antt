@@ -3,11 +3,6 @@ use Rattle.velocity.specs.Velocity.{distance, centreOf}
 use borrow.Author.Needs.{needs}
 use Rattle.velocity.proofs.interpolate.distance.Statement.{statement}
 use Rattle.velocity.proofs.interpolate.distance.Tie as tie
-use Rattle.velocity.proofs.interpolate.distance.Reads as reads
-use Rattle.velocity.proofs.interpolate.distance.Lts as lts
-use Rattle.area.proofs.centre_of.Reads as centre-of-reads
-use Rattle.arith.proofs.Vec3.norm_squared.Reads as norm-squared-reads
-use Rattle.arith.proofs.Vec3.sub.Reads as sub-reads
 
 centre-of-requires : tie.Need-centre-of-requires
 centre-of-requires c κs = search needs

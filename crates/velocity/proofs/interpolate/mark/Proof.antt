@@ -3,8 +3,6 @@ use mathlib.Core.Path.{refl}
 use borrow.Author.Needs.{needs}
 use Rattle.velocity.proofs.interpolate.mark.Statement.{statement}
 use Rattle.velocity.proofs.interpolate.mark.Tie as tie
-use Rattle.velocity.proofs.interpolate.mark.Reads as reads
-use Rattle.velocity.proofs.interpolate.mark.Lts as lts
 
 slice-write-marks : tie.Need-slice-write-marks
 slice-write-marks c = search needs

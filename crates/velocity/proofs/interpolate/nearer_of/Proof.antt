@@ -2,10 +2,6 @@ use Rattle.velocity.proofs.VelocityLaws.{nearer-taken, nearer-left}
 use borrow.Author.Needs.{needs}
 use Rattle.velocity.proofs.interpolate.nearer_of.Statement.{statement}
 use Rattle.velocity.proofs.interpolate.nearer_of.Tie as tie
-use Rattle.velocity.proofs.interpolate.nearer_of.Reads as reads
-use Rattle.velocity.proofs.interpolate.nearer_of.Lts as lts
-use Rattle.arith.proofs.float.nearer.Reads as nearer-reads
-use Rattle.velocity.proofs.interpolate.distance.Reads as distance-reads
 
 distance-requires : tie.Need-distance-requires
 distance-requires c κs = search needs

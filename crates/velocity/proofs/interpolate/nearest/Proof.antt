@@ -4,19 +4,12 @@ use Rattle.locate.specs.Layout.{fieldIn}
 use Rattle.locate.specs.declared.Grid.{Grid}
 use Rattle.arith.specs.Lists.{foldl}
 use lib.ListN.{getD, drop}
-use mathlib.Core.Path.{_≡_, refl}
+use mathlib.Core.Path.{_≡_}
 use mathlib.Core.List.{List}
-use Prim.Native.Nat.{ℕ, _≤_, _-_}
-use native.Mathlib.Omega.{arith}
+use Prim.Native.Nat.{ℕ, _-_}
 use borrow.Author.Needs.{needs}
 use Rattle.velocity.proofs.interpolate.nearest.Statement.{statement}
 use Rattle.velocity.proofs.interpolate.nearest.Tie as tie
-use Rattle.velocity.proofs.interpolate.nearest.Reads as reads
-use Rattle.velocity.proofs.interpolate.nearest.Lts as lts
-use Rattle.area.proofs.neighbour.Reads as neighbour-reads
-use Rattle.area.proofs.neighbour_count.Reads as neighbour-count-reads
-use Rattle.velocity.proofs.interpolate.nearer_of.Reads as nearer-of-reads
-use Rattle.velocity.proofs.interpolate.distance.Reads as distance-reads
 
 abbrev Inv-loop : tie.InvT-loop
 Inv-loop words floats s p i count first best₀ k₀ best k =

@@ -2,11 +2,6 @@ use Rattle.velocity.proofs.VelocityLaws.{toward-none, toward-some}
 use borrow.Author.Needs.{needs}
 use Rattle.velocity.proofs.interpolate.toward.Statement.{statement}
 use Rattle.velocity.proofs.interpolate.toward.Tie as tie
-use Rattle.velocity.proofs.interpolate.toward.Reads as reads
-use Rattle.velocity.proofs.interpolate.toward.Lts as lts
-use Rattle.area.proofs.neighbour_count.Reads as neighbour-count-reads
-use Rattle.velocity.proofs.interpolate.beside.Reads as beside-reads
-use Rattle.velocity.proofs.interpolate.nearest.Reads as nearest-reads
 
 neighbour-count-requires : tie.Need-neighbour-count-requires
 neighbour-count-requires c κs = search needs

@@ -2,11 +2,6 @@ use Rattle.velocity.proofs.VelocityLaws.{unit-moving, unit-still, unit-
 use borrow.Author.Needs.{needs}
 use Rattle.velocity.proofs.interpolate.unit.Statement.{statement}
 use Rattle.velocity.proofs.interpolate.unit.Tie as tie
-use Rattle.velocity.proofs.interpolate.unit.Reads as reads
-use Rattle.velocity.proofs.interpolate.unit.Lts as lts
-use Rattle.arith.proofs.Vec3.div.Reads as div-reads
-use Rattle.arith.proofs.Vec3.norm.Reads as norm-reads
-use Rattle.arith.proofs.float.is_finite.Reads as is-finite-reads
 
 norm-requires : tie.Need-norm-requires
 norm-requires c κs = search needs

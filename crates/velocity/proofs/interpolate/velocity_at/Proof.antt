@@ -2,10 +2,6 @@ use Rattle.velocity.proofs.VelocityLaws.{velocity-nowhere, velocity-her
 use borrow.Author.Needs.{needs}
 use Rattle.velocity.proofs.interpolate.velocity_at.Statement.{statement}
 use Rattle.velocity.proofs.interpolate.velocity_at.Tie as tie
-use Rattle.velocity.proofs.interpolate.velocity_at.Reads as reads
-use Rattle.velocity.proofs.interpolate.velocity_at.Lts as lts
-use Rattle.velocity.proofs.interpolate.velocity_in.Reads as velocity-in-reads
-use Rattle.locate.proofs.locate_cell.Reads as locate-cell-reads
 
 locate-cell-requires : tie.Need-locate-cell-requires
 locate-cell-requires c κs = search needs

@@ -2,10 +2,6 @@ use Rattle.velocity.proofs.VelocityLaws.{velocity-in}
 use borrow.Author.Needs.{needs}
 use Rattle.velocity.proofs.interpolate.velocity_in.Statement.{statement}
 use Rattle.velocity.proofs.interpolate.velocity_in.Tie as tie
-use Rattle.velocity.proofs.interpolate.velocity_in.Reads as reads
-use Rattle.velocity.proofs.interpolate.velocity_in.Lts as lts
-use Rattle.velocity.proofs.interpolate.read_cell.Reads as read-cell-reads
-use Rattle.velocity.proofs.interpolate.toward.Reads as toward-reads
 
 read-cell-requires : tie.Need-read-cell-requires
 read-cell-requires c κs = search needs
