@@ -58,7 +58,11 @@ module _ (f : StreamlineField) (v : ℕ → Values) (m m′ : List ℕ) (o : Str
     (d : Served (rk4Step f (o .«stagnation_speed») h p) v m m′ r) where
   pub step-ended : r ≡ Nowhere → Served (step f o h p total) v m m′ Ended
   unfolding step kept
-  step-ended e = served-then (λ q. give (kept (o .«max_length») p total q)) (rw e at d) served-give
+  step-ended e =
+      let s : Served (rk4Step f (o .«stagnation_speed») h p >>= λ q. give (kept (o .«max_length») p total q)) v m m′ Ended =
+      served-then (λ q. give (kept (o .«max_length») p total q)) (rw e at d) served-give
+      in
+      s
 
   pub step-kept : (q : Vec3) (x : Step) → r ≡ Here q → x ≡ kept (o .«max_length») p total (Here q) → Served (step f o h p total) v m m′ x
   unfolding step

@@ -13,10 +13,14 @@ is-finite-requires : tie.Need-is-finite-requires
 is-finite-requires c κs = search needs
 
 returns : tie.Need-returns
-returns c = kept-too-long _ _ _ _ _ _ _ (c .before .before .before .before .sub .ensures) (c .before .before .before .norm .ensures) (c .before .before .is-finite .ensures) (c .before .if1 .taken) (c .if2 .taken)
+returns c =
+    let a = c .before .before .before .before .before .args in
+    kept-too-long (a .longest) (a .total) _ _ _ _ _ (c .before .before .before .before .sub .ensures) (c .before .before .before .norm .ensures) (c .before .before .is-finite .ensures) (c .before .if1 .taken) (c .if2 .taken)
 
 returns-2 : tie.Need-returns-2
-returns-2 c = kept-on _ _ _ _ _ _ _ (c .before .before .before .before .sub .ensures) (c .before .before .before .norm .ensures) (c .before .before .is-finite .ensures) (c .before .if1 .taken) (c .if2 .left)
+returns-2 c =
+    let a = c .before .before .before .before .before .args in
+    kept-on (a .longest) (a .total) _ _ _ _ _ (c .before .before .before .before .sub .ensures) (c .before .before .before .norm .ensures) (c .before .before .is-finite .ensures) (c .before .if1 .taken) (c .if2 .left)
 
 returns-3 : tie.Need-returns-3
 returns-3 c = kept-endless _ _ _ _ _ _ _ (c .before .before .before .sub .ensures) (c .before .before .norm .ensures) (c .before .is-finite .ensures) (c .if1 .left)
