@@ -4,7 +4,7 @@ use lib.ListN.{length}
 use Rattle.casefile.specs.Trailer.{wordsIn}
 use Rattle.area.specs.Layout.{pointsIn}
 use Rattle.finish.specs.Steps.{Going}
-use Rattle.finish.proofs.Laws.{all-cells}
+use Rattle.finish.proofs.Laws.{all-cells, go-stop}
 use borrow.Author.Needs.{needs}
 use Rattle.finish.proofs.finish_cells.Statement.{statement}
 use Rattle.finish.proofs.finish_cells.Tie as tie
@@ -15,6 +15,12 @@ Inv-loop case points dimension ws words floats₀ s c₀ i₀ floats c i =
 
 abbrev μ-loop : tie.MeasureT-loop
 μ-loop case points dimension ws words floats₀ s c₀ i₀ floats c i = s .cells - i
+
+returns : tie.Need-returns Inv-loop μ-loop
+returns c =
+    let f = c .before .before .before .before in
+    let l = f .before .before .before .before in
+    go-stop _ _ _ _ _ _ _ _ (l .before .before .before .before .before .pre) _ _ _ (l .loop .inv .2) (f .before .before .if1 .taken) (l .loop .inv .1) _ (f .finish-cell .ensures) (c .enum-told .given .1)
 
 pub finish-cells-spec : {M : Type 1} → statement M
 finish-cells-spec =
@@ -27,7 +33,7 @@ finish-cells-spec =
     (λ c. search needs)
     (λ c. search needs)
     (λ c. search needs)
-    (λ c. search (all-cells, needs))
+    returns
     (λ c. search needs)
     (λ c. search needs)
     (λ c. search (all-cells, needs))

@@ -1,4 +1,5 @@
 use native.Mathlib.Omega.{arith}
+use mathlib.Core.Path.{refl}
 use lib.ListN.{length-set}
 use borrow.Author.Needs.{needs}
 use Rattle.finish.proofs.put_geometry.Statement.{statement}
@@ -29,4 +30,4 @@ put-geometry-spec =
     (λ c. search needs)
     slice-write-floats-4
     (λ c. search needs)
-    (λ c. search needs))
+    (λ c. refl))
