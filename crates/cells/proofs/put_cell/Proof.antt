@@ -1,4 +1,5 @@
 use native.Mathlib.Omega.{arith}
+use mathlib.Core.Path.{refl}
 use lib.ListN.{length-set}
 use borrow.Author.Needs.{needs}
 use Rattle.cells.proofs.put_cell.Statement.{statement}
@@ -18,6 +19,9 @@ slice-write-floats-2 c = simp length-set (omega arith)
 
 slice-write-floats-3 : tie.Need-slice-write-floats-3
 slice-write-floats-3 c = simp length-set (omega arith)
+
+returns : tie.Need-returns
+returns c = record { words-put = refl; floats-put = refl }
 
 pub put-cell-spec : {M : Type 1} → statement M
 put-cell-spec =
@@ -50,4 +54,4 @@ put-cell-spec =
     slice-write-floats-3
     (λ c. search needs)
     (λ c. search needs)
-    (λ c. search needs))
+    returns)
