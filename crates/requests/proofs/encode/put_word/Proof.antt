@@ -11,6 +11,9 @@ Inv-loop bytes₀ at w k₀ left₀ bytes k left = Storing bytes₀ at w bytes l
 abbrev μ-loop : tie.MeasureT-loop
 μ-loop bytes₀ at w k₀ left₀ bytes k left = 8 - k
 
+loop-again : tie.Need-loop-again Inv-loop μ-loop
+loop-again c = storing-next (c .before .loop .inv) (c .loop-test .taken) (c .before .before .pre)
+
 returns : tie.Need-returns Inv-loop μ-loop
 returns c = storing-ends (c .before .loop .inv) (omega arith)
 
@@ -26,6 +29,6 @@ put-word-spec =
     (λ c. search needs)
     (λ c. search needs)
     (λ c. search needs)
-    (λ c. search (storing-next, needs))
+    loop-again
     (λ c. search needs)
     returns)
