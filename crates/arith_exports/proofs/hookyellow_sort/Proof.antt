@@ -1,16 +1,17 @@
+use mathlib.Core.Path.{refl}
 use Rattle.arith_exports.proofs.Laws.{too-long, other-second, other-places, fits}
 use borrow.Author.Needs.{needs}
 use Rattle.arith_exports.proofs.hookyellow_sort.Statement.{statement}
 use Rattle.arith_exports.proofs.hookyellow_sort.Tie as tie
 
 returns : tie.Need-returns
-returns c = search (too-long, needs)
+returns c = (too-long _ _ _ (c .if1 .taken), refl)
 
 returns-2 : tie.Need-returns-2
-returns-2 c = search (other-second, needs)
+returns-2 c = (other-second _ _ _ (c .before .if1 .left) (c .if2 .taken), refl)
 
 returns-3 : tie.Need-returns-3
-returns-3 c = search (other-places, needs)
+returns-3 c = (other-places _ _ _ (c .before .before .if1 .left) (c .before .if2 .left) (c .if3 .taken), refl)
 
 sort-requires : tie.Need-sort-requires
 sort-requires c κs = search needs
