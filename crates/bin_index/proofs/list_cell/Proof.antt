@@ -1,7 +1,7 @@
 use Prim.Native.Nat.{_+_, _-_}
-use mathlib.Core.Path.{_≡_}
+use mathlib.Core.Path.{_≡_, refl}
 use lib.ListN.{length}
-use Rattle.bin_index.proofs.Laws.{Celling, cells, cell-low, cell-high, cell-done}
+use Rattle.bin_index.proofs.Laws.{Celling, cells, cell-start, cell-low, cell-high, cell-done}
 use borrow.Author.Needs.{needs}
 use Rattle.bin_index.proofs.list_cell.Statement.{statement}
 use Rattle.bin_index.proofs.list_cell.Tie as tie
@@ -11,6 +11,11 @@ Inv-loop words₀ base n nx ny i top y0 y1 t₀ y₀ words t y = (length words �
 
 abbrev μ-loop : tie.MeasureT-loop
 μ-loop words₀ base n nx ny i top y0 y1 t₀ y₀ words t y = y1 + 1 - y
+
+loop-holds : tie.Need-loop-holds Inv-loop μ-loop
+loop-holds c =
+    let pre = c .before .before .before .before .before .pre in
+    (refl, cell-start _ _ _ _ _ _ _ _ _ (pre .0) (pre .1 .0) (pre .1 .1) (c .before .before .slot .ensures .0) (c .slot2 .ensures .0))
 
 list-row-requires : tie.Need-list-row-requires Inv-loop μ-loop
 list-row-requires c κs =
@@ -28,7 +33,7 @@ list-cell-spec =
     μ-loop
     (λ c κs. search (cells, needs))
     (λ c κs. search (cells, needs))
-    (λ c. search (cells, needs))
+    loop-holds
     list-row-requires
     (λ c. search (cells, needs))
     (λ c. search (cells, needs))
