@@ -8,7 +8,7 @@ use arith::bytes;
 use arith::float;
 ghost use mathlib.Core.Path.{_≡_};
 ghost use mathlib.Core.Bool.{cond};
-ghost use Rattle.root.specs.Root.{root};
+ghost use Rattle.root.specs.Root.{root, SquareRoot};
 ghost use Rattle.arith.specs.F64 as F64;
 ghost use Rattle.arith.specs.Vec.{pair};
 ghost use Rattle.arith.specs.Angle.{turnsBefore};
@@ -17,6 +17,7 @@ ghost use Rattle.arith_exports.specs.Directions.{fitting, ordered};
 #[no_mangle]
 pub extern "C" fn hookyellow_sqrt(x: f64) -> f64
     ensures { λ r. ⌜ r ≡ root x ⌝ }
+    ensures { λ r. ⌜ SquareRoot x r ⌝ }
 {
     root::sqrt(x)
 }

@@ -7,7 +7,7 @@ use Rattle.arith.proofs.Vec3.norm.Tie as tie
 
 returns : tie.Need-returns
 unfolding norm
-returns c = c .sqrt .ensures ∙ ap root (c .before .norm-squared .ensures)
+returns c = c .sqrt .ensures .0 ∙ ap root (c .before .norm-squared .ensures)
 
 pub norm-spec : {M : Type 1} → statement M
 norm-spec = tie.close (tie.spec (λ c κs. search needs) (λ c κs. search needs) returns)

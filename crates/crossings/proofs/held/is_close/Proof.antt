@@ -16,7 +16,7 @@ returns-2 c = sym (told-apart _ _ _ (c .before .before .norm-squared .ensures âˆ
 
 returns-3 : tie.Need-returns-3
 unfolding close norm
-returns-3 c = rw (c .sqrt .ensures, c .before .before .norm-squared .ensures, c .before .before .before .sub .ensures)
+returns-3 c = rw (c .sqrt .ensures .0, c .before .before .norm-squared .ensures, c .before .before .before .sub .ensures)
 
 pub is-close-spec : {M : Type 1} â†’ statement M
 is-close-spec =

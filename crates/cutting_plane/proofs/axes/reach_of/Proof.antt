@@ -34,8 +34,8 @@ returns c =
     let points = c .before .before .before .before .before .before .args .points in
     let origin = c .before .before .before .before .before .before .args .origin in
     let past = points-past case points (c .before .before .before .loop .i) (c .before .before .loop-test .left) in (
-      c .before .sqrt .ensures ∙ ap root (fold-done past _ _ (c .before .before .before .loop .inv .1)) ∙ widest-root origin (pointsIn case points),
-      c .sqrt2 .ensures ∙ ap root (fold-done past _ _ (c .before .before .before .loop .inv .2)) ∙ farthest-root origin (pointsIn case points),
+      c .before .sqrt .ensures .0 ∙ ap root (fold-done past _ _ (c .before .before .before .loop .inv .1)) ∙ widest-root origin (pointsIn case points),
+      c .sqrt2 .ensures .0 ∙ ap root (fold-done past _ _ (c .before .before .before .loop .inv .2)) ∙ farthest-root origin (pointsIn case points),
     )
 
 pub reach-of-spec : {M : Type 1} → statement M

@@ -12,7 +12,7 @@ at-least-one-requires : tie.Need-at-least-one-requires
 at-least-one-requires c κs = search needs
 
 returns : tie.Need-returns
-returns c = (rw (c .at-least-one .ensures .0, c .before .ceil-usize .ensures, c .before .before .sqrt .ensures), c .at-least-one .ensures .1)
+returns c = (rw (c .at-least-one .ensures .0, c .before .ceil-usize .ensures, c .before .before .sqrt .ensures .0), c .at-least-one .ensures .1)
 
 pub bin-count-spec : {M : Type 1} → statement M
 bin-count-spec =
