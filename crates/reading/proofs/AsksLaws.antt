@@ -14,7 +14,7 @@ module _ {A B : Type 0} where
   pub reads-bind : (t : Asks A) (h : A → Asks B) (f : ℕ → Values) → reads (t >>= h) f ≡ reads t f ++ reads (h (run t f)) f
   unfolding _>>=_
   reads-bind (give a) h f = refl
-  reads-bind (ask i k) h f = ap {B = List ℕ} (λ r. i ∷ r) (reads-bind (k (f i)) h f)
+  reads-bind (ask i k) h f = rw (reads-bind (k (f i)) h f)
 
 pub bind-assoc : {A B C : Type 0} (t : Asks A) (h : A → Asks B) (l : B → Asks C) → (t >>= h) >>= l ≡ t >>= (λ a. h a >>= l)
 unfolding _>>=_

@@ -10,20 +10,23 @@ use Rattle.reading.specs.Marks.{markAll}
 
 pub markAll-append : (m l k : List ℕ) → markAll m (l ++ k) ≡ markAll (markAll m l) k
 markAll-append m [] k = refl
-markAll-append m (i ∷ l) k = markAll-append (set m i 1) l k
+markAll-append m (i ∷ l) k = markAll-append _ l k
 
 pub length-markAll : (m l : List ℕ) → length (markAll m l) ≡ length m
 length-markAll m [] = refl
-length-markAll m (i ∷ l) = length-markAll (set m i 1) l ∙ length-set m i 1
+length-markAll m (i ∷ l) = rw (length-markAll _ l, length-set)
 
 -- a mark that is 1 stays 1
-pub marked-stays : (m l : List ℕ) (i : ℕ) → i < length m → getD m i 0 ≡ 1 → getD (markAll m l) i 0 ≡ 1
-marked-stays m [] i b h = h
-marked-stays m (j ∷ l) i b h = marked-stays (set m j 1) l i (rw length-set b) (at (ℕ-discrete i j))
+set-stays : (m : List ℕ) (j i : ℕ) → i < length m → getD m i 0 ≡ 1 → getD (set m j 1) i 0 ≡ 1
+set-stays m j i b h = at (ℕ-discrete i j)
   where
     at : Dec (i ≡ j) → getD (set m j 1) i 0 ≡ 1
     at (yes e) = rw (← e) (getD-set-same m i 1 0 b)
     at (no n) = getD-set-other m j i 1 0 n ∙ h
+
+pub marked-stays : (m l : List ℕ) (i : ℕ) → i < length m → getD m i 0 ≡ 1 → getD (markAll m l) i 0 ≡ 1
+marked-stays m [] i b h = h
+marked-stays m (j ∷ l) i b h = marked-stays _ l i (rw length-set b) (set-stays m _ i b h)
 
 -- a cell that was read is marked, where it has a mark at all
 pub marked : (m l : List ℕ) (i : ℕ) → i < length m → List·Memᴰ i l → getD (markAll m l) i 0 ≡ 1
