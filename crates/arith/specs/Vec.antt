@@ -1,6 +1,6 @@
 -- "Vec3 as a struct of three floats": sums and products in the Rust's order, each rounded once.
 use mathlib.Core.Bool.{Bool, _&&_}
-use lib.Ieee.{Float, neg}
+use lib.Ieee.{Float}
 use Rattle.arith.specs.F64.{_⊕_, _⊖_, _⊗_, _⊘_, 0·0}
 use Rattle.root.specs.Root.{root}
 use Rattle.arith.specs.declared.Vec3.{Vec3}
@@ -24,10 +24,6 @@ plus a b = vec (a .x ⊕ b .x) (a .y ⊕ b .y) (a .z ⊕ b .z)
 -- `a - b`
 unfoldable pub minus : Vec3 → Vec3 → Vec3
 minus a b = vec (a .x ⊖ b .x) (a .y ⊖ b .y) (a .z ⊖ b .z)
-
--- `-a`
-unfoldable pub opposite : Vec3 → Vec3
-opposite a = vec (neg (a .x)) (neg (a .y)) (neg (a .z))
 
 -- `a * t`
 unfoldable pub times : Vec3 → Float → Vec3

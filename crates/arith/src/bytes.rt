@@ -13,7 +13,7 @@ fn wide(x: u8) -> u32
 }
 
 // The byte at `at`.
-pub fn byte_at(bytes: &[u8], at: usize) -> u32
+fn byte_at(bytes: &[u8], at: usize) -> u32
     requires { ⌜ at < length (now bytes) ⌝ }
     ensures { λ r. ⌜ (r ≡ getD (now (bytes .entry)) at 0) × (r < 256) ⌝ }
 {

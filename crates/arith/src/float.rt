@@ -4,7 +4,7 @@ ghost use lib.Ieee.{isNan};
 ghost use Rattle.arith.specs.F64 as F64;
 
 // f64::is_nan
-pub fn is_nan(x: f64) -> bool
+fn is_nan(x: f64) -> bool
     ensures { λ r. ⌜ r ≡ isNan x ⌝ }
 {
     x != x

@@ -5,7 +5,7 @@ pub mod bytes;
 pub mod float;
 pub mod number;
 pub mod sort;
-pub mod vector;
+mod vector;
 
 // A point or a vector of the room.
 pub struct Vec3 {

@@ -34,17 +34,6 @@ impl Vec3 {
         }
     }
 
-    // -self
-    pub fn neg(self) -> Vec3
-        ensures { λ r. ⌜ r ≡ Vec.opposite self ⌝ }
-    {
-        Vec3 {
-            x: -self.x,
-            y: -self.y,
-            z: -self.z,
-        }
-    }
-
     // self * k
     pub fn scale(self, k: f64) -> Vec3
         ensures { λ r. ⌜ r ≡ Vec.times self k ⌝ }

@@ -28,8 +28,3 @@ steps f s (a ∷ l) = f s a >>= λ t. steps f t l
 unfoldable pub mapAll : {A B : Type 0} → (A → Result B) → List A → Result (List B)
 mapAll f [] = fine []
 mapAll f (a ∷ l) = f a >>= λ b. mapAll f l >>= λ bs. fine (b ∷ bs)
-
--- what a function that fills an area gives back: the number of the refusal, or 0
-unfoldable pub refusalOf : {A : Type 0} → Result A → ℕ
-refusalOf (refused n) = n
-refusalOf (fine a) = 0
