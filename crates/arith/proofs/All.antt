@@ -4,31 +4,28 @@ use mathlib.Core.Bool.{Bool, true, false, cond}
 use mathlib.Core.List.{List, [], _∷_, _++_}
 use lib.ListN.{getD, set}
 use Rattle.arith.specs.Lists.{foldl, any, addNew}
+pub use Rattle.arith.specs.All.{All}
 
 module _ {A : Type 0} (P : A → Type 0) where
-  abbrev pub All : List A → Type 0
-  All [] = Unit
-  All (a ∷ l) = P a × All l
-
-  pub all-append : (l k : List A) → All l → All k → All (l ++ k)
+  pub all-append : (l k : List A) → All P l → All P k → All P (l ++ k)
   all-append [] k h g = g
   all-append (a ∷ l) k h g = (h .0, all-append l k (h .1) g)
 
-  pub all-getD : (l : List A) (i : ℕ) (d : A) → P d → All l → P (getD l i d)
+  pub all-getD : (l : List A) (i : ℕ) (d : A) → P d → All P l → P (getD l i d)
   all-getD [] i d p h = p
   all-getD (a ∷ l) zero d p h = h .0
   all-getD (a ∷ l) (suc i) d p h = all-getD l i d p (h .1)
 
-  pub all-set : (l : List A) (i : ℕ) (b : A) → P b → All l → All (set l i b)
+  pub all-set : (l : List A) (i : ℕ) (b : A) → P b → All P l → All P (set l i b)
   all-set [] i b p h = tt
   all-set (a ∷ l) zero b p h = (p, h .1)
   all-set (a ∷ l) (suc i) b p h = (h .0, all-set l i b p (h .1))
 
-  pub all-addNew : (like : A → A → Bool) (l : List A) (a : A) → All l → P a → All (addNew like l a)
+  pub all-addNew : (like : A → A → Bool) (l : List A) (a : A) → All P l → P a → All P (addNew like l a)
   unfolding addNew
   all-addNew like l a h p = by (any (like a) l)
     where
-      by : (b : Bool) → All (cond b l (l ++ a ∷ []))
+      by : (b : Bool) → All P (cond b l (l ++ a ∷ []))
       by true = h
       by false = all-append l (a ∷ []) h (p, tt)
 

@@ -4,5 +4,7 @@ pub mod ListLaws
 pub mod RecordLaws
 pub mod All
 pub mod SortLaws
+pub mod OrderLaws
+pub mod StableLaws
 pub mod RootLaws
 pub mod RoundLaws

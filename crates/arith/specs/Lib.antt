@@ -2,6 +2,8 @@ pub mod F64
 pub mod Bytes
 pub mod Vec
 pub mod Lists
+pub mod All
+pub mod Stable
 pub mod Records
 pub mod Angle
 pub mod Sort

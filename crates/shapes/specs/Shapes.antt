@@ -6,7 +6,7 @@ use mathlib.Core.List.{List, [], map}
 use lib.ListN.{length, getD}
 use Rattle.arith.specs.Lists.{sorted}
 use Rattle.arith.specs.declared.Vec3.{Vec3}
-use Rattle.arith.proofs.All.{All}
+use Rattle.arith.specs.All.{All}
 use Rattle.area.specs.Tables.{Face, Mesh, faceAt, cellAt}
 use Rattle.definitions.specs.Faces.{Definition, facesOf}
 use Rattle.collect.specs.Collect.{wrongKind}

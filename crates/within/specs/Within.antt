@@ -4,7 +4,7 @@ use mathlib.Core.Path.{_≡_}
 use lib.ListN.{length}
 use Rattle.arith.specs.declared.Found.{Found}
 use Rattle.arith.specs.declared.Found.the-variants.{At, Nothing}
-use Rattle.arith.proofs.All.{All}
+use Rattle.arith.specs.All.{All}
 use Rattle.area.specs.Tables.{Face, Mesh, cellAt}
 use Rattle.locate.specs.Field.{StreamlineField}
 use Rattle.velocity.specs.Velocity.{neighboursOf}

@@ -6,7 +6,7 @@ use Rattle.arith_exports.proofs.directions.order.Tie as tie
 returns : tie.Need-returns
 returns c =
     let m = c .before .before .before .before .before .before .before .before .before .before .measure .ensures in
-    order-done _ _ _ _ _ (m .0) (m .1) (c .before .before .sort-by-angle .ensures)
+    order-done _ _ _ _ _ (m .0) (m .1) (c .before .before .sort-by-angle .ensures .0)
 
 pub order-spec : {M : Type 1} → statement M
 order-spec =

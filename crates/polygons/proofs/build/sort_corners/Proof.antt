@@ -39,7 +39,7 @@ same-length : tie.Need-same-length
 same-length c = search needs
 
 returns : tie.Need-returns
-returns c = sorted-all _ _ _ _ _ _ (c .before .before .before .before .before .before .before .before .angles-about .ensures) _ _ (simp length-take (omega arith)) (c .before .before .sort-by-angle .ensures)
+returns c = sorted-all _ _ _ _ _ _ (c .before .before .before .before .before .before .before .before .angles-about .ensures) _ _ (simp length-take (omega arith)) (c .before .before .sort-by-angle .ensures .0)
 
 pub sort-corners-spec : {M : Type 1} → statement M
 sort-corners-spec =

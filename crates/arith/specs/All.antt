@@ -1,0 +1,6 @@
+-- Every element of a list has a property.
+use mathlib.Core.List.{List, [], _∷_}
+
+abbrev pub All : {A : Type 0} → (A → Type 0) → List A → Type 0
+All P [] = Unit
+All P (a ∷ l) = P a × All P l
