@@ -8,19 +8,19 @@ use lib.Dec.{ltb}
 use lib.ListN.{length, set}
 use borrow.Author.Tests.{lt-ltb, le-ltb}
 use Rattle.reading.specs.Result.{refused, fine}
-use Rattle.reading.specs.After.{After, Left}
 use Rattle.casefile.specs.declared.Counts.{Counts}
 use Rattle.casefile.proofs.TrailerLaws.{opens}
 use Rattle.mesh.specs.Case.{Surveyed-case, surveyOf, areaShort}
 use Rattle.mesh.proofs.Laws.{Surveys, survey-right, faces-few}
-use Rattle.job.specs.declared.Outcome.{Outcome}
-use Rattle.job.specs.Job.{numberOf}
+use Rattle.job.specs.Promise.{Promised}
 use Rattle.capi.specs.Needs.{wordsNeeded, floatsNeeded, needsNumber, needsOf}
 
 -- ---- the number of a job's result
 
-pub left-number : (a : After) (o : Outcome) (r : ℕ) (answers marks : List ℕ) → Left a (numberOf o) answers marks → r ≡ numberOf o → Left a r answers marks
-left-number a o r answers marks l e = rw e l
+pub number-promised : {case requests : List ℕ} {words floats : ℕ} {answers marks answers′ marks′ : List ℕ} {n r : ℕ}
+    → Promised case requests words floats answers marks (record { result = n; answers = answers′; marks = marks′ }) → r ≡ n
+    → Promised case requests words floats answers marks (record { result = r; answers = answers′; marks = marks′ })
+number-promised p e = rw e p
 
 -- ---- how much a case needs
 

@@ -4,9 +4,8 @@ use crate::SectionPlane;
 use crate::Vector;
 use crate::convert;
 ghost use lib.ListN.{length};
-ghost use Rattle.reading.specs.After.{Left};
 ghost use Rattle.requests.specs.Encode.{bytesOf};
-ghost use Rattle.job.specs.Job.{outcome};
+ghost use Rattle.job.specs.Promise.{Promised};
 ghost use Rattle.single.specs.Single.{locateWords, velocityWords, streamlineWords, rakeWords, sectionWords, statisticsWords, integralsWords, probeWords};
 ghost use Rattle.capi.specs.Convert.{vectorOf, planeOf, directionOf, optionsOf};
 
@@ -20,7 +19,9 @@ pub extern "C" fn hookyellow_locate(
     marks: &mut [u8],
     answers: &mut [u64],
 ) -> u64
-    ensures { λ r. ⌜ Left (outcome (now (case .entry)) (bytesOf (locateWords (vectorOf p))) (length (now (words .entry))) (length (now (floats .entry))) (now (answers .entry)) (now (marks .entry))) r (now (answers .exit)) (now (marks .exit)) ⌝ }
+    ensures { λ r. ⌜ Promised (now (case .entry)) (bytesOf (locateWords (vectorOf p)))
+        (length (now (words .entry))) (length (now (floats .entry))) (now (answers .entry)) (now (marks .entry))
+        (record { result = r; answers = now (answers .exit); marks = now (marks .exit) }) ⌝ }
 {
     convert::number(single::locate(case, convert::vector(p), words, floats, marks, answers))
 }
@@ -35,7 +36,9 @@ pub extern "C" fn hookyellow_velocity(
     marks: &mut [u8],
     answers: &mut [u64],
 ) -> u64
-    ensures { λ r. ⌜ Left (outcome (now (case .entry)) (bytesOf (velocityWords (vectorOf p))) (length (now (words .entry))) (length (now (floats .entry))) (now (answers .entry)) (now (marks .entry))) r (now (answers .exit)) (now (marks .exit)) ⌝ }
+    ensures { λ r. ⌜ Promised (now (case .entry)) (bytesOf (velocityWords (vectorOf p)))
+        (length (now (words .entry))) (length (now (floats .entry))) (now (answers .entry)) (now (marks .entry))
+        (record { result = r; answers = now (answers .exit); marks = now (marks .exit) }) ⌝ }
 {
     convert::number(single::velocity(case, convert::vector(p), words, floats, marks, answers))
 }
@@ -52,7 +55,10 @@ pub extern "C" fn hookyellow_streamline(
     marks: &mut [u8],
     answers: &mut [u64],
 ) -> u64
-    ensures { λ r. ⌜ Left (outcome (now (case .entry)) (bytesOf (streamlineWords (vectorOf seed) (directionOf backward) (optionsOf options))) (length (now (words .entry))) (length (now (floats .entry))) (now (answers .entry)) (now (marks .entry))) r (now (answers .exit)) (now (marks .exit)) ⌝ }
+    ensures { λ r. ⌜ Promised (now (case .entry))
+        (bytesOf (streamlineWords (vectorOf seed) (directionOf backward) (optionsOf options)))
+        (length (now (words .entry))) (length (now (floats .entry))) (now (answers .entry)) (now (marks .entry))
+        (record { result = r; answers = now (answers .exit); marks = now (marks .exit) }) ⌝ }
 {
     convert::number(single::streamline(
         case,
@@ -80,7 +86,10 @@ pub extern "C" fn hookyellow_rake(
     marks: &mut [u8],
     answers: &mut [u64],
 ) -> u64
-    ensures { λ r. ⌜ Left (outcome (now (case .entry)) (bytesOf (rakeWords (vectorOf start) (vectorOf end) count (directionOf backward) (optionsOf options))) (length (now (words .entry))) (length (now (floats .entry))) (now (answers .entry)) (now (marks .entry))) r (now (answers .exit)) (now (marks .exit)) ⌝ }
+    ensures { λ r. ⌜ Promised (now (case .entry))
+        (bytesOf (rakeWords (vectorOf start) (vectorOf end) count (directionOf backward) (optionsOf options)))
+        (length (now (words .entry))) (length (now (floats .entry))) (now (answers .entry)) (now (marks .entry))
+        (record { result = r; answers = now (answers .exit); marks = now (marks .exit) }) ⌝ }
 {
     convert::number(single::rake(
         case,
@@ -106,7 +115,9 @@ pub extern "C" fn hookyellow_section(
     marks: &mut [u8],
     answers: &mut [u64],
 ) -> u64
-    ensures { λ r. ⌜ Left (outcome (now (case .entry)) (bytesOf (sectionWords (planeOf plane))) (length (now (words .entry))) (length (now (floats .entry))) (now (answers .entry)) (now (marks .entry))) r (now (answers .exit)) (now (marks .exit)) ⌝ }
+    ensures { λ r. ⌜ Promised (now (case .entry)) (bytesOf (sectionWords (planeOf plane)))
+        (length (now (words .entry))) (length (now (floats .entry))) (now (answers .entry)) (now (marks .entry))
+        (record { result = r; answers = now (answers .exit); marks = now (marks .exit) }) ⌝ }
 {
     convert::number(single::section(case, convert::plane(plane), words, floats, marks, answers))
 }
@@ -122,7 +133,9 @@ pub extern "C" fn hookyellow_statistics(
     marks: &mut [u8],
     answers: &mut [u64],
 ) -> u64
-    ensures { λ r. ⌜ Left (outcome (now (case .entry)) (bytesOf (statisticsWords (planeOf plane) field)) (length (now (words .entry))) (length (now (floats .entry))) (now (answers .entry)) (now (marks .entry))) r (now (answers .exit)) (now (marks .exit)) ⌝ }
+    ensures { λ r. ⌜ Promised (now (case .entry)) (bytesOf (statisticsWords (planeOf plane) field))
+        (length (now (words .entry))) (length (now (floats .entry))) (now (answers .entry)) (now (marks .entry))
+        (record { result = r; answers = now (answers .exit); marks = now (marks .exit) }) ⌝ }
 {
     convert::number(single::statistics(
         case,
@@ -145,7 +158,9 @@ pub extern "C" fn hookyellow_integrals(
     marks: &mut [u8],
     answers: &mut [u64],
 ) -> u64
-    ensures { λ r. ⌜ Left (outcome (now (case .entry)) (bytesOf (integralsWords (planeOf plane))) (length (now (words .entry))) (length (now (floats .entry))) (now (answers .entry)) (now (marks .entry))) r (now (answers .exit)) (now (marks .exit)) ⌝ }
+    ensures { λ r. ⌜ Promised (now (case .entry)) (bytesOf (integralsWords (planeOf plane)))
+        (length (now (words .entry))) (length (now (floats .entry))) (now (answers .entry)) (now (marks .entry))
+        (record { result = r; answers = now (answers .exit); marks = now (marks .exit) }) ⌝ }
 {
     convert::number(single::integrals(case, convert::plane(plane), words, floats, marks, answers))
 }
@@ -161,7 +176,9 @@ pub extern "C" fn hookyellow_probe(
     marks: &mut [u8],
     answers: &mut [u64],
 ) -> u64
-    ensures { λ r. ⌜ Left (outcome (now (case .entry)) (bytesOf (probeWords (planeOf plane) (vectorOf p))) (length (now (words .entry))) (length (now (floats .entry))) (now (answers .entry)) (now (marks .entry))) r (now (answers .exit)) (now (marks .exit)) ⌝ }
+    ensures { λ r. ⌜ Promised (now (case .entry)) (bytesOf (probeWords (planeOf plane) (vectorOf p)))
+        (length (now (words .entry))) (length (now (floats .entry))) (now (answers .entry)) (now (marks .entry))
+        (record { result = r; answers = now (answers .exit); marks = now (marks .exit) }) ⌝ }
 {
     convert::number(single::probe(
         case,

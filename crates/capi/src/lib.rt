@@ -5,9 +5,8 @@ mod convert;
 use mesh::Surveyed;
 ghost use mathlib.Core.Path.{_≡_};
 ghost use lib.ListN.{length};
-ghost use Rattle.reading.specs.After.{Left};
 ghost use Rattle.mesh.specs.Case.{surveyOf};
-ghost use Rattle.job.specs.Job.{outcome};
+ghost use Rattle.job.specs.Promise.{Promised};
 ghost use Rattle.capi.specs.Needs.{needsNumber, needsOf};
 
 // A point or a vector.
@@ -45,7 +44,9 @@ pub extern "C" fn hookyellow_job(
     marks: &mut [u8],
     answers: &mut [u64],
 ) -> u64
-    ensures { λ r. ⌜ Left (outcome (now (case .entry)) (now (requests .entry)) (length (now (words .entry))) (length (now (floats .entry))) (now (answers .entry)) (now (marks .entry))) r (now (answers .exit)) (now (marks .exit)) ⌝ }
+    ensures { λ r. ⌜ Promised (now (case .entry)) (now (requests .entry))
+        (length (now (words .entry))) (length (now (floats .entry))) (now (answers .entry)) (now (marks .entry))
+        (record { result = r; answers = now (answers .exit); marks = now (marks .exit) }) ⌝ }
 {
     convert::number(job::job(case, requests, words, floats, marks, answers))
 }

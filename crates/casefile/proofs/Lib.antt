@@ -1,3 +1,4 @@
 pub mod ReadLaws
 pub mod TrailerLaws
 pub mod OutsideLaws
+pub mod FieldLaws

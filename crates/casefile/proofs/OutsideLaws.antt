@@ -151,19 +151,20 @@ module _ (file : List ℕ) where
     pub outside-points : pointsIn (outside file) (n .points) ≡ pointsIn file (n .points)
     outside-points = rw (o .same) (same-points file (o .right))
 
-    known : countsOf (outside file) ≡ n
-    known = outside-counts ∙ sym (o .same)
-
     pub values-there : (i : ℕ) → i < n .cells →
         valuesOf file i ≡ record { velocity = vecAt file (24 * n .points + 4 * n .words + 24 * i); pressure = floatAt file (24 * n .points + 4 * n .words + 24 * n .cells + 8 * i) }
     unfolding valuesOf valuesIn fieldFrom pressuresFrom
-    values-there i h = ap (λ m. valuesIn file m i) known ∙ rw (lt-ltb i (n .cells) h)
+    values-there i h = ap (λ m. valuesIn file m i) (sym (o .same)) ∙ rw (lt-ltb i (n .cells) h)
 
     pub values-none : (i : ℕ) → n .cells ≤ i → valuesOf file i ≡ record { velocity = origin; pressure = 0·0 }
     unfolding valuesOf valuesIn nought
-    values-none i h = ap (λ m. valuesIn file m i) known ∙ rw (le-ltb i (n .cells) h)
+    values-none i h = ap (λ m. valuesIn file m i) (sym (o .same)) ∙ rw (le-ltb i (n .cells) h)
 
 -- no cell beyond those that a case has
-pub values-beyond : (file : List ℕ) (i : ℕ) → cellsOf (outside file) ≤ i → valuesOf file i ≡ nought
+pub values-beyond : (file : List ℕ) (i : ℕ) → cellsOf file ≤ i → valuesOf file i ≡ nought
 unfolding valuesOf valuesIn cellsOf
-values-beyond file i h = rw (le-ltb i (cellsOf (outside file)) h)
+values-beyond file i h = rw (le-ltb i (cellsOf file) h)
+
+pub cells-outside : (file : List ℕ) → cellsOf (outside file) ≡ cellsOf file
+unfolding cellsOf
+cells-outside file = ap (λ (n : Counts). n .cells) (outside-counts file)

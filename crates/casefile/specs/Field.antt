@@ -36,4 +36,4 @@ valuesIn file n i =
 
 -- those of a case
 unfoldable pub valuesOf : List ℕ → ℕ → Values
-valuesOf file i = valuesIn file (countsOf (outside file)) i
+valuesOf file i = valuesIn file (countsOf file) i

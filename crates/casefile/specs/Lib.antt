@@ -1,2 +1,3 @@
 pub mod Trailer
 pub mod Field
+pub mod Same

@@ -1,6 +1,6 @@
 -- The whole job, from what `prepare` and `run` promise. Assumes nothing.
 use Prim.Native.Nat.{ℕ, _*_, _/_, _≤_}
-use mathlib.Core.Path.{_≡_, refl, ap, sym, _∙_}
+use mathlib.Core.Path.{_≡_, refl, ap, _∙_}
 use mathlib.Core.List.{List}
 use lib.ListN.{length}
 use lib.Ieee.{Float}
@@ -8,8 +8,7 @@ use Rattle.reading.specs.Result.{fine, _>>=_}
 use Rattle.reading.specs.After.{done, Left}
 use Rattle.casefile.specs.declared.Counts.{Counts}
 use Rattle.casefile.specs.Trailer.{openedCase, countsOf}
-use Rattle.casefile.specs.Field.{outside, cellsOf, valuesOf}
-use Rattle.casefile.proofs.OutsideLaws.{outside-counts}
+use Rattle.casefile.specs.Field.{cellsOf, valuesOf}
 use Rattle.requests.specs.Requests.{requestsIn}
 use Rattle.prepare.specs.Room.{Lent, prepared}
 use Rattle.prepare.specs.declared.Place.{Place}
@@ -18,7 +17,7 @@ use Rattle.prepare.specs.declared.Prepared.the-variants as Prepared
 use Rattle.prepare.specs.Stands.{roomIn, countsIn, Stands, Preparing}
 use Rattle.prepare.proofs.Laws.{prepared-outside, prepared-fits, counts-are, preparing-refused, preparing-ready}
 use Rattle.job.specs.List.{serveAll}
-use Rattle.job.specs.Job.{jobOf, outcome}
+use Rattle.job.specs.Job.{jobOf, lentTo, outcome}
 
 -- the counts of a room that stands are its case's
 pub counts-stand : (file words : List ℕ) (floats : List Float) (p : Place) → Stands file words floats p → countsIn p ≡ countsOf file
@@ -27,7 +26,7 @@ counts-stand file words floats p s = counts-are file (countsIn p) (ap openedCase
 
 module _ (file requests : List ℕ) (words floats : ℕ) (answers marks : List ℕ) where
   abbrev lent : Lent
-  lent = record { words = words; floats = floats; marks = length marks; answers = length answers }
+  lent = lentTo words floats answers marks
 
   pub job-refused : {w : List ℕ} {f : List Float} {x : Prepared} {k : ℕ} → Preparing (prepared file (length requests) lent) file w f x → x ≡ Prepared.Refused k
       → Left (outcome file requests words floats answers marks) k answers marks
@@ -49,5 +48,5 @@ module _ (file requests : List ℕ) (words floats : ℕ) (answers marks : List �
   unfolding outcome jobOf _>>=_ cellsOf
   job-done {w} {f} {x} {p} h e l =
       let r = preparing-ready h e in
-      let counts : countsIn p .cells ≡ cellsOf (outside file) = ap (λ (n : Counts). n .cells) (counts-stand file w f p (r .1) ∙ sym (outside-counts file)) in
+      let counts : countsIn p .cells ≡ cellsOf file = ap (λ (n : Counts). n .cells) (counts-stand file w f p (r .1)) in
       rw (prepared-outside file (length requests) lent ∙ r .0) (rw counts at l)

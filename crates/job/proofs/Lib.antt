@@ -3,3 +3,5 @@ pub mod AnswerLaws
 pub mod ThroughLaws
 pub mod JobLaws
 pub mod Demand3
+pub mod PromiseLaws
+pub mod UseLaws

@@ -1,5 +1,5 @@
 -- The whole job: from case bytes, request bytes and the lengths of the four buffers to its outcome.
-use Prim.Native.Nat.{ℕ}
+use Prim.Native.Nat.{ℕ, zero, suc}
 use mathlib.Core.List.{List}
 use lib.ListN.{length}
 use Rattle.reading.specs.Result.{Result, fine, _>>=_}
@@ -17,13 +17,22 @@ unfoldable pub jobOf : List ℕ → List ℕ → Lent → Result (Asks (List ℕ
 jobOf file requests lent =
     prepared file (length requests) lent >>= λ room. fine (serveAll room (lent .answers) (requestsIn requests))
 
+-- what is lent: so many words and floats, these answers and these marks
+abbrev pub lentTo : ℕ → ℕ → List ℕ → List ℕ → Lent
+lentTo words floats answers marks =
+    record { words = words; floats = floats; marks = length marks; answers = length answers }
+
 -- how the job leaves its result, the answers and the marks
 unfoldable pub outcome : List ℕ → List ℕ → ℕ → ℕ → List ℕ → List ℕ → After
 outcome file requests words floats answers marks =
-    done (jobOf (outside file) requests (record { words = words; floats = floats; marks = length marks; answers = length answers }))
-    (valuesOf file) (cellsOf (outside file)) answers marks
+    done (jobOf (outside file) requests (lentTo words floats answers marks)) (valuesOf file) (cellsOf file) answers marks
 
 -- the number of each case of the result
 unfoldable pub numberOf : Outcome → ℕ
 numberOf Done = 0
 numberOf (Refused k) = k
+
+-- and the case of each number: 0 is no refusal's
+unfoldable pub outcomeOf : ℕ → Outcome
+outcomeOf zero = Done
+outcomeOf (suc k) = Refused (suc k)

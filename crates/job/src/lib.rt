@@ -16,7 +16,8 @@ ghost use Rattle.casefile.specs.Field.{valuesOf};
 ghost use Rattle.requests.specs.Requests.{wordsAt, requestsIn};
 ghost use Rattle.prepare.specs.Stands.{countsIn, roomIn, Stands};
 ghost use Rattle.job.specs.List.{isFlat, serveAll};
-ghost use Rattle.job.specs.Job.{outcome, numberOf};
+ghost use Rattle.job.specs.Job.{numberOf, outcomeOf};
+ghost use Rattle.job.specs.Promise.{Promised};
 ghost use Rattle.job.specs.Serving.{Told, answerTo};
 
 // The job's result.
@@ -128,7 +129,10 @@ pub fn job(
     marks: &mut [u8],
     answers: &mut [u64],
 ) -> Outcome
-    ensures { λ r. ⌜ Left (outcome (now (case .entry)) (now (requests .entry)) (length (now (words .entry))) (length (now (floats .entry))) (now (answers .entry)) (now (marks .entry))) (numberOf r) (now (answers .exit)) (now (marks .exit)) ⌝ }
+    ensures { λ r. ⌜ Promised (now (case .entry)) (now (requests .entry))
+        (length (now (words .entry))) (length (now (floats .entry))) (now (answers .entry)) (now (marks .entry))
+        (record { result = numberOf r; answers = now (answers .exit); marks = now (marks .exit) }) ⌝ }
+    ensures { λ r. ⌜ r ≡ outcomeOf (numberOf r) ⌝ }
 {
     match prepare::prepare(
         case,

@@ -20,7 +20,7 @@ length-cleared n m long = rw (length-append, length-replicate, length-drop) (ome
 -- One job over two fields that agree beyond its n cells, and on the cells that it marks over the first: it leaves the same.
 module _ (n : ℕ) (o m : List ℕ) (f g : ℕ → Values) (beyond : (i : ℕ) → n ≤ i → f i ≡ g i) where
   pub same-done : (j : Result (Asks (List ℕ))) → (fit : (t : Asks (List ℕ)) → j ≡ fine t → n ≤ length m) →
-      ((i : ℕ) → Named j f n m i → f i ≡ g i) → done j f n o m ≡ done j g n o m
+      ((i : ℕ) → Named (done j f n o m) n i → f i ≡ g i) → done j f n o m ≡ done j g n o m
   unfolding done Named
   same-done (refused r) fit h = refl
   same-done (fine t) fit h = ap₂ made (s .answer) (s .asked)
@@ -32,7 +32,7 @@ module _ (n : ℕ) (o m : List ℕ) (f g : ℕ → Values) (beyond : (i : ℕ) �
       long = fit t refl
 
       in-range : (i : ℕ) → List·Memᴰ i (reads t f) → Dec (i < n) → f i ≡ g i
-      in-range i w (yes b) = h i (b, marked (cleared n m) (reads t f) i (omega (arith, long, length-cleared n m long)) w)
+      in-range i w (yes b) = h i (refl, b, marked (cleared n m) (reads t f) i (omega (arith, long, length-cleared n m long)) w)
       in-range i w (no b) = beyond i (omega arith)
 
       s : Same (List ℕ) t f g

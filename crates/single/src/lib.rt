@@ -10,9 +10,9 @@ ghost use mathlib.Core.Path.{_≡_};
 ghost use Prim.Native.Nat.{_<_};
 ghost use lib.ListN.{length};
 ghost use lib.Seq.{sets};
-ghost use Rattle.reading.specs.After.{Left};
 ghost use Rattle.requests.specs.Encode.{bytesOf};
-ghost use Rattle.job.specs.Job.{outcome, numberOf};
+ghost use Rattle.job.specs.Job.{numberOf, outcomeOf};
+ghost use Rattle.job.specs.Promise.{Promised};
 ghost use Rattle.single.specs.Single.{directionWord, lineWords, planeWords, locateWords, velocityWords, streamlineWords, rakeWords, sectionWords, statisticsWords, integralsWords, probeWords};
 
 // 0 forward, 1 backward.
@@ -55,7 +55,10 @@ fn alone(
     marks: &mut [u8],
     answers: &mut [u64],
 ) -> Outcome
-    ensures { λ r. ⌜ Left (outcome (now (case .entry)) (bytesOf (now (request .entry))) (length (now (words .entry))) (length (now (floats .entry))) (now (answers .entry)) (now (marks .entry))) (numberOf r) (now (answers .exit)) (now (marks .exit)) ⌝ }
+    ensures { λ r. ⌜ Promised (now (case .entry)) (bytesOf (now (request .entry)))
+        (length (now (words .entry))) (length (now (floats .entry))) (now (answers .entry)) (now (marks .entry))
+        (record { result = numberOf r; answers = now (answers .exit); marks = now (marks .exit) }) ⌝ }
+    ensures { λ r. ⌜ r ≡ outcomeOf (numberOf r) ⌝ }
 {
     let mut bytes = [0; 128];
     encode::encode(request, &mut bytes);
@@ -71,7 +74,10 @@ pub fn locate(
     marks: &mut [u8],
     answers: &mut [u64],
 ) -> Outcome
-    ensures { λ r. ⌜ Left (outcome (now (case .entry)) (bytesOf (locateWords p)) (length (now (words .entry))) (length (now (floats .entry))) (now (answers .entry)) (now (marks .entry))) (numberOf r) (now (answers .exit)) (now (marks .exit)) ⌝ }
+    ensures { λ r. ⌜ Promised (now (case .entry)) (bytesOf (locateWords p))
+        (length (now (words .entry))) (length (now (floats .entry))) (now (answers .entry)) (now (marks .entry))
+        (record { result = numberOf r; answers = now (answers .exit); marks = now (marks .exit) }) ⌝ }
+    ensures { λ r. ⌜ r ≡ outcomeOf (numberOf r) ⌝ }
 {
     let mut request = [0; 16];
     request[0] = 1;
@@ -88,7 +94,10 @@ pub fn velocity(
     marks: &mut [u8],
     answers: &mut [u64],
 ) -> Outcome
-    ensures { λ r. ⌜ Left (outcome (now (case .entry)) (bytesOf (velocityWords p)) (length (now (words .entry))) (length (now (floats .entry))) (now (answers .entry)) (now (marks .entry))) (numberOf r) (now (answers .exit)) (now (marks .exit)) ⌝ }
+    ensures { λ r. ⌜ Promised (now (case .entry)) (bytesOf (velocityWords p))
+        (length (now (words .entry))) (length (now (floats .entry))) (now (answers .entry)) (now (marks .entry))
+        (record { result = numberOf r; answers = now (answers .exit); marks = now (marks .exit) }) ⌝ }
+    ensures { λ r. ⌜ r ≡ outcomeOf (numberOf r) ⌝ }
 {
     let mut request = [0; 16];
     request[0] = 2;
@@ -107,7 +116,10 @@ pub fn streamline(
     marks: &mut [u8],
     answers: &mut [u64],
 ) -> Outcome
-    ensures { λ r. ⌜ Left (outcome (now (case .entry)) (bytesOf (streamlineWords seed d options)) (length (now (words .entry))) (length (now (floats .entry))) (now (answers .entry)) (now (marks .entry))) (numberOf r) (now (answers .exit)) (now (marks .exit)) ⌝ }
+    ensures { λ r. ⌜ Promised (now (case .entry)) (bytesOf (streamlineWords seed d options))
+        (length (now (words .entry))) (length (now (floats .entry))) (now (answers .entry)) (now (marks .entry))
+        (record { result = numberOf r; answers = now (answers .exit); marks = now (marks .exit) }) ⌝ }
+    ensures { λ r. ⌜ r ≡ outcomeOf (numberOf r) ⌝ }
 {
     let mut request = [0; 16];
     request[0] = 3;
@@ -129,7 +141,10 @@ pub fn rake(
     marks: &mut [u8],
     answers: &mut [u64],
 ) -> Outcome
-    ensures { λ r. ⌜ Left (outcome (now (case .entry)) (bytesOf (rakeWords start end count d options)) (length (now (words .entry))) (length (now (floats .entry))) (now (answers .entry)) (now (marks .entry))) (numberOf r) (now (answers .exit)) (now (marks .exit)) ⌝ }
+    ensures { λ r. ⌜ Promised (now (case .entry)) (bytesOf (rakeWords start end count d options))
+        (length (now (words .entry))) (length (now (floats .entry))) (now (answers .entry)) (now (marks .entry))
+        (record { result = numberOf r; answers = now (answers .exit); marks = now (marks .exit) }) ⌝ }
+    ensures { λ r. ⌜ r ≡ outcomeOf (numberOf r) ⌝ }
 {
     let mut request = [0; 16];
     request[0] = 4;
@@ -149,7 +164,10 @@ pub fn section(
     marks: &mut [u8],
     answers: &mut [u64],
 ) -> Outcome
-    ensures { λ r. ⌜ Left (outcome (now (case .entry)) (bytesOf (sectionWords plane)) (length (now (words .entry))) (length (now (floats .entry))) (now (answers .entry)) (now (marks .entry))) (numberOf r) (now (answers .exit)) (now (marks .exit)) ⌝ }
+    ensures { λ r. ⌜ Promised (now (case .entry)) (bytesOf (sectionWords plane))
+        (length (now (words .entry))) (length (now (floats .entry))) (now (answers .entry)) (now (marks .entry))
+        (record { result = numberOf r; answers = now (answers .exit); marks = now (marks .exit) }) ⌝ }
+    ensures { λ r. ⌜ r ≡ outcomeOf (numberOf r) ⌝ }
 {
     let mut request = [0; 16];
     request[0] = 5;
@@ -167,7 +185,10 @@ pub fn statistics(
     marks: &mut [u8],
     answers: &mut [u64],
 ) -> Outcome
-    ensures { λ r. ⌜ Left (outcome (now (case .entry)) (bytesOf (statisticsWords plane field)) (length (now (words .entry))) (length (now (floats .entry))) (now (answers .entry)) (now (marks .entry))) (numberOf r) (now (answers .exit)) (now (marks .exit)) ⌝ }
+    ensures { λ r. ⌜ Promised (now (case .entry)) (bytesOf (statisticsWords plane field))
+        (length (now (words .entry))) (length (now (floats .entry))) (now (answers .entry)) (now (marks .entry))
+        (record { result = numberOf r; answers = now (answers .exit); marks = now (marks .exit) }) ⌝ }
+    ensures { λ r. ⌜ r ≡ outcomeOf (numberOf r) ⌝ }
 {
     let mut request = [0; 16];
     request[0] = 6;
@@ -185,7 +206,10 @@ pub fn integrals(
     marks: &mut [u8],
     answers: &mut [u64],
 ) -> Outcome
-    ensures { λ r. ⌜ Left (outcome (now (case .entry)) (bytesOf (integralsWords plane)) (length (now (words .entry))) (length (now (floats .entry))) (now (answers .entry)) (now (marks .entry))) (numberOf r) (now (answers .exit)) (now (marks .exit)) ⌝ }
+    ensures { λ r. ⌜ Promised (now (case .entry)) (bytesOf (integralsWords plane))
+        (length (now (words .entry))) (length (now (floats .entry))) (now (answers .entry)) (now (marks .entry))
+        (record { result = numberOf r; answers = now (answers .exit); marks = now (marks .exit) }) ⌝ }
+    ensures { λ r. ⌜ r ≡ outcomeOf (numberOf r) ⌝ }
 {
     let mut request = [0; 16];
     request[0] = 7;
@@ -203,7 +227,10 @@ pub fn probe(
     marks: &mut [u8],
     answers: &mut [u64],
 ) -> Outcome
-    ensures { λ r. ⌜ Left (outcome (now (case .entry)) (bytesOf (probeWords plane p)) (length (now (words .entry))) (length (now (floats .entry))) (now (answers .entry)) (now (marks .entry))) (numberOf r) (now (answers .exit)) (now (marks .exit)) ⌝ }
+    ensures { λ r. ⌜ Promised (now (case .entry)) (bytesOf (probeWords plane p))
+        (length (now (words .entry))) (length (now (floats .entry))) (now (answers .entry)) (now (marks .entry))
+        (record { result = numberOf r; answers = now (answers .exit); marks = now (marks .exit) }) ⌝ }
+    ensures { λ r. ⌜ r ≡ outcomeOf (numberOf r) ⌝ }
 {
     let mut request = [0; 16];
     request[0] = 8;

@@ -1,6 +1,7 @@
-use Rattle.job.specs.Job.{numberOf}
-use Rattle.job.proofs.JobLaws.{job-refused, run-asks, job-done}
+use Rattle.job.proofs.JobLaws.{run-asks}
+use Rattle.job.proofs.PromiseLaws.{refused-promise, done-promise}
 use lib.ListN.{length}
+use Rattle.job.specs.Job.{numberOf}
 use borrow.Author.Needs.{needs}
 use Rattle.job.proofs.job.Statement.{statement}
 use Rattle.job.proofs.job.Tie as tie
@@ -14,13 +15,13 @@ returns : tie.Need-returns
 unfolding numberOf
 returns c =
     let a = c .before .before .before .before .before .before .before .before .before .before .before .before .before .before .before .before .args in
-    job-refused (a .case .now) (a .requests .now) (length (a .words .now)) (length (a .floats .now)) (a .answers .now) (a .marks .now) (c .before .before .before .before .before .before .before .prepare .ensures) (c .before .k .given .1)
+    refused-promise (a .case .now) (a .requests .now) (length (a .words .now)) (length (a .floats .now)) (a .answers .now) (a .marks .now) (c .before .before .before .before .before .before .before .prepare .ensures) (c .before .k .given .1)
 
 returns-2 : tie.Need-returns-2
 unfolding numberOf
 returns-2 c =
     let a = c .before .before .before .before .before .before .before .before .before .before .before .before .before .before .before .before .before .before .before .before .before .before .before .before .before .args in
-    job-done (a .case .now) (a .requests .now) (length (a .words .now)) (length (a .floats .now)) (a .answers .now) (a .marks .now) (c .before .before .before .before .before .before .before .before .before .before .before .before .before .before .before .before .prepare .ensures) (c .before .before .before .before .before .before .before .before .before .before .place .given .1) (c .before .before .before .before .run .ensures)
+    done-promise (a .case .now) (a .requests .now) (length (a .words .now)) (length (a .floats .now)) (a .answers .now) (a .marks .now) (c .before .before .before .before .before .before .before .before .before .before .before .before .before .before .before .before .prepare .ensures) (c .before .before .before .before .before .before .before .before .before .before .place .given .1) (c .before .before .before .before .run .ensures)
 
 pub job-spec : {M : Type 1} → statement M
 job-spec =

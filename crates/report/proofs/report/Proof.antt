@@ -18,12 +18,12 @@ returns-2 c =
 returns-3 : tie.Need-returns-3
 returns-3 c =
     let a = c .before .before .before .before .before .before .before .before .before .before .before .before .before .before .before .before .before .before .before .before .before .before .before .before .before .before .before .before .before .before .args in
-    rw (job-done (a .case .now) (a .requests .now) (length (a .words .now)) (length (a .floats .now)) (a .answers .now) (a .marks .now) (c .before .before .before .before .before .before .before .before .before .before .before .before .before .before .before .before .before .before .before .before .before .before .if1 .left) (c .before .before .before .before .before .before .before .before .before .before .before .before .before .before .before .before .before .before .before .before .before .if2 .left) (c .before .before .before .before .before .before .before .before .before .before .before .before .before .before .before .before .job .ensures) (c .before .before .before .before .before .before .before .number-of .ensures) (c .before .before .before .before .before .before .if3 .taken)) (c .before .before .put-done .ensures)
+    rw (job-done (a .case .now) (a .requests .now) (length (a .words .now)) (length (a .floats .now)) (a .answers .now) (a .marks .now) (c .before .before .before .before .before .before .before .before .before .before .before .before .before .before .before .before .before .before .before .before .before .before .if1 .left) (c .before .before .before .before .before .before .before .before .before .before .before .before .before .before .before .before .before .before .before .before .before .if2 .left) (c .before .before .before .before .before .before .before .before .before .before .before .before .before .before .before .before .job .ensures .0) (c .before .before .before .before .before .before .before .number-of .ensures) (c .before .before .before .before .before .before .if3 .taken)) (c .before .before .put-done .ensures)
 
 returns-4 : tie.Need-returns-4
 returns-4 c =
     let a = c .before .before .before .before .before .before .before .before .before .before .before .before .before .before .before .before .before .before .before .before .before .before .before .before .before .before .before .before .args in
-    rw (job-refused (a .case .now) (a .requests .now) (length (a .words .now)) (length (a .floats .now)) (a .answers .now) (a .marks .now) (c .before .before .before .before .before .before .before .before .before .before .before .before .before .before .before .before .before .before .before .before .if1 .left) (c .before .before .before .before .before .before .before .before .before .before .before .before .before .before .before .before .before .before .before .if2 .left) (c .before .before .before .before .before .before .before .before .before .before .before .before .before .before .job .ensures) (c .before .before .before .before .before .number-of .ensures) (c .before .before .before .before .if3 .left)) (c .before .before .put-refusal3 .ensures)
+    rw (job-refused (a .case .now) (a .requests .now) (length (a .words .now)) (length (a .floats .now)) (a .answers .now) (a .marks .now) (c .before .before .before .before .before .before .before .before .before .before .before .before .before .before .before .before .before .before .before .before .if1 .left) (c .before .before .before .before .before .before .before .before .before .before .before .before .before .before .before .before .before .before .before .if2 .left) (c .before .before .before .before .before .before .before .before .before .before .before .before .before .before .job .ensures .0) (c .before .before .before .before .before .number-of .ensures) (c .before .before .before .before .if3 .left)) (c .before .before .put-refusal3 .ensures)
 
 pub report-spec : {M : Type 1} → statement M
 report-spec =

@@ -1,10 +1,10 @@
-use Rattle.capi.proofs.Laws.{left-number}
+use Rattle.capi.proofs.Laws.{number-promised}
 use borrow.Author.Needs.{needs}
 use Rattle.capi.proofs.alone.hookyellow_locate.Statement.{statement}
 use Rattle.capi.proofs.alone.hookyellow_locate.Tie as tie
 
 returns : tie.Need-returns
-returns c = left-number _ _ _ _ _ (rw (c .before .before .before .before .before .before .before .before .before .before .before .before .before .before .vector .ensures) at (c .before .before .before .before .before .before .before .before .before .locate .ensures)) (c .number .ensures)
+returns c = number-promised (rw (c .before .before .before .before .before .before .before .before .before .before .before .before .before .before .vector .ensures) at (c .before .before .before .before .before .before .before .before .before .locate .ensures .0)) (c .number .ensures)
 
 pub hookyellow-locate-spec : {M : Type 1} → statement M
 hookyellow-locate-spec =

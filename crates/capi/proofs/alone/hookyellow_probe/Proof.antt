@@ -1,10 +1,10 @@
-use Rattle.capi.proofs.Laws.{left-number}
+use Rattle.capi.proofs.Laws.{number-promised}
 use borrow.Author.Needs.{needs}
 use Rattle.capi.proofs.alone.hookyellow_probe.Statement.{statement}
 use Rattle.capi.proofs.alone.hookyellow_probe.Tie as tie
 
 returns : tie.Need-returns
-returns c = left-number _ _ _ _ _ (rw (c .before .before .before .before .before .before .before .before .before .before .before .before .before .before .before .plane .ensures, c .before .before .before .before .before .before .before .before .before .before .before .before .before .before .vector .ensures) at (c .before .before .before .before .before .before .before .before .before .probe .ensures)) (c .number .ensures)
+returns c = number-promised (rw (c .before .before .before .before .before .before .before .before .before .before .before .before .before .before .before .plane .ensures, c .before .before .before .before .before .before .before .before .before .before .before .before .before .before .vector .ensures) at (c .before .before .before .before .before .before .before .before .before .probe .ensures .0)) (c .number .ensures)
 
 pub hookyellow-probe-spec : {M : Type 1} → statement M
 hookyellow-probe-spec =

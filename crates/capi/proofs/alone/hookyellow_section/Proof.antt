@@ -1,10 +1,10 @@
-use Rattle.capi.proofs.Laws.{left-number}
+use Rattle.capi.proofs.Laws.{number-promised}
 use borrow.Author.Needs.{needs}
 use Rattle.capi.proofs.alone.hookyellow_section.Statement.{statement}
 use Rattle.capi.proofs.alone.hookyellow_section.Tie as tie
 
 returns : tie.Need-returns
-returns c = left-number _ _ _ _ _ (rw (c .before .before .before .before .before .before .before .before .before .before .before .before .before .before .plane .ensures) at (c .before .before .before .before .before .before .before .before .before .section .ensures)) (c .number .ensures)
+returns c = number-promised (rw (c .before .before .before .before .before .before .before .before .before .before .before .before .before .before .plane .ensures) at (c .before .before .before .before .before .before .before .before .before .section .ensures .0)) (c .number .ensures)
 
 pub hookyellow-section-spec : {M : Type 1} → statement M
 hookyellow-section-spec =
