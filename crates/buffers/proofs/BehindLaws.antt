@@ -1,5 +1,5 @@
 -- The words of a reply, stored behind the place of its header in a part that was lent. Assumes nothing.
-use Prim.Native.Nat.{ℕ, _+_, _-_, _≤_}
+use Prim.Native.Nat.{ℕ, _+_, _-_, _*_, _≤_}
 use native.Mathlib.Omega.{arith}
 use mathlib.Core.Path.{_≡_, refl, ap, _∙_}
 use mathlib.Core.List.{List, [], _++_, append-nil}
@@ -8,8 +8,9 @@ use lib.Seq.{sets, sets-eq, take-all, take-at, drop-at, take-append-le, length-t
 use Rattle.reading.specs.Result.{Result, refused, fine}
 use Rattle.planes.specs.declared.Answered.{Answered}
 use Rattle.planes.specs.Reply.{answeredOf, replied}
-use Rattle.buffers.specs.Answer.{fitting, answerWords}
-use Rattle.buffers.specs.Placed.{Behind, Placed, Closes}
+use Rattle.buffers.specs.Answer.{fitting, answerWords, headerOf}
+use Rattle.buffers.specs.Placed.{Behind, Placed, Closed}
+use Rattle.buffers.proofs.WordLaws.{closed-placed}
 
 module _ (o out′ : List ℕ) (at : ℕ) (fits : at + 2 ≤ length o) where
   -- the answers with other words behind the header
@@ -41,15 +42,17 @@ module _ (o out′ : List ℕ) (at : ℕ) (fits : at + 2 ≤ length o) where
       front : (ws d : List ℕ) → take (length ws) (ws ++ d) ≡ ws
       front ws d = take-at ws d (length ws) refl
 
-module _ (reply : Result (List ℕ)) (a : Answered) (left o out′ o′ : List ℕ) (at later e : ℕ) (tells : a ≡ answeredOf reply) (fits : at + 2 ≤ length o) where
-  pub placed-behind : out′ ≡ replied (drop (at + 2) o) left reply → length out′ ≡ length (drop (at + 2) o) → Closes a (take (at + 2) o ++ out′) o′ at later e
+module _ (reply : Result (List ℕ)) (a : Answered) (left o out′ o′ : List ℕ) (at later e : ℕ) (tells : a ≡ answeredOf reply) (fits : at + 2 + 2 * later ≤ length o) where
+  pub placed-behind : out′ ≡ replied (drop (at + 2) o) left reply → length out′ ≡ length (drop (at + 2) o)
+      → Closed (headerOf (length (take (at + 2) o ++ out′) - at) later a) (take (at + 2) o ++ out′) o′ at e
       → Placed (answerWords (fitting (length o - at) later reply)) o o′ at later e
   placed-behind stored long c =
-      let p = c reply tells (behind o out′ at fits reply left stored long) in
-      let same : length (take (at + 2) o ++ out′) ≡ length o = lent-long o out′ at fits long in
+      let room : at + 2 ≤ length o = omega arith in
+      let same : length (take (at + 2) o ++ out′) ≡ length o = lent-long o out′ at room long in
+      let p = closed-placed (take (at + 2) o ++ out′) o′ at later e (omega (arith, same)) reply (behind o out′ at room reply left stored long) (rw tells at c) in
       let w : answerWords (fitting (length (take (at + 2) o ++ out′) - at) later reply) ≡ answerWords (fitting (length o - at) later reply) = ap (λ (k : ℕ). answerWords (fitting (k - at) later reply)) same in
       record {
-        words = p .words ∙ ap (λ t. t ++ answerWords (fitting (length (take (at + 2) o ++ out′) - at) later reply)) (lent-before o out′ at fits) ∙ ap (λ t. take at o ++ t) w;
+        words = p .words ∙ ap (λ t. t ++ answerWords (fitting (length (take (at + 2) o ++ out′) - at) later reply)) (lent-before o out′ at room) ∙ ap (λ t. take at o ++ t) w;
         end = p .end ∙ ap (λ t. at + length t) w;
         room = omega (arith, p .room, same);
         long = p .long ∙ same;
@@ -57,7 +60,8 @@ module _ (reply : Result (List ℕ)) (a : Answered) (left o out′ o′ : List �
 
   -- the same where the words behind the header are lent as a part
   pub placed-part : (k : ℕ) → k ≡ length o - (at + 2) → out′ ≡ replied (take k (drop (at + 2) o)) left reply → length out′ ≡ length (take k (drop (at + 2) o))
-      → Closes a (take (at + 2) o ++ (out′ ++ drop k (drop (at + 2) o))) o′ at later e → Placed (answerWords (fitting (length o - at) later reply)) o o′ at later e
+      → Closed (headerOf (length (take (at + 2) o ++ (out′ ++ drop k (drop (at + 2) o))) - at) later a) (take (at + 2) o ++ (out′ ++ drop k (drop (at + 2) o))) o′ at e
+      → Placed (answerWords (fitting (length o - at) later reply)) o o′ at later e
   placed-part k n stored long c =
       let past : length (drop (at + 2) o) ≤ k = omega (arith, n, length-drop (at + 2) o) in
       let all : take k (drop (at + 2) o) ≡ drop (at + 2) o = take-all k (drop (at + 2) o) past in

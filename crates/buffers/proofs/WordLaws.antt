@@ -2,16 +2,19 @@
 use Prim.Native.Nat.{ℕ, suc, _+_, _-_, _*_, _≤_, _<_}
 use native.Mathlib.Omega.{arith}
 use mathlib.Core.Path.{_≡_, refl, ap, sym, _∙_}
+use mathlib.Core.Bool.{Bool, true, false, cond}
 use mathlib.Core.List.{List, [], _∷_, _++_, append-assoc, append-nil}
+use lib.Dec.{leb}
 use lib.ListN.{length, getD, set, take, drop, replicate, length-append, length-drop, length-set, length-replicate, replicate-append-replicate, take-append-drop}
 use lib.Seq.{length-take-le, drop-cons, drop-length, split-at, set-at, take-append-add}
-use borrow.Author.Tests.{le-leb, lt-leb}
+use borrow.Author.Tests.{le-leb, lt-leb, leb-true}
 use Rattle.reading.specs.Result.{Result, refused, fine}
 use Rattle.reading.specs.Marks.{cleared}
+use Rattle.planes.specs.declared.Answered.{Answered}
 use Rattle.planes.specs.declared.Answered.the-variants.{Words, Refused}
 use Rattle.planes.specs.Reply.{answeredOf}
-use Rattle.buffers.specs.Answer.{fitting, answerWords}
-use Rattle.buffers.specs.Placed.{Behind, Placed}
+use Rattle.buffers.specs.Answer.{fitting, answerWords, headerOf}
+use Rattle.buffers.specs.Placed.{Behind, Placed, Closed}
 
 -- ---- zeros
 
@@ -144,28 +147,33 @@ zeroing-cleared {i} {l} n z h k =
 
 -- ---- the three ends of `close`
 
-module _ (o o′ : List ℕ) (at later : ℕ) (h : at + 2 + 2 * later ≤ length o) where
-  pub close-refused : (reply : Result (List ℕ)) (k r : ℕ) → Refused k ≡ answeredOf reply → r ≡ at + 2 + 0 → o′ ≡ set (set o at k) (at + 1) 0
-      → Placed (answerWords (fitting (length o - at) later reply)) o o′ at later r
-  unfolding answeredOf fitting
-  close-refused (fine ws) k r e p s = absurd (let z : _≡_ {A = ℕ} 0 1 = cc in omega arith)
-  close-refused (refused n) k r e p s =
-      let same : k ≡ n = cc in
-      placed-refused o o′ at later n r h p (s ∙ ap (λ (i : ℕ). set (set o at i) (at + 1) 0) same)
+module _ {o o′ : List ℕ} {at e : ℕ} {r : Answered} (later : ℕ) where
+  pub close-refused : {k : ℕ} → r ≡ Refused k → (e ≡ at + 2 + 0) × (o′ ≡ set (set o at k) (at + 1) 0) → Closed (headerOf (length o - at) later r) o o′ at e
+  unfolding headerOf
+  close-refused q p = rw q (record { answers = p .1; end = p .0 })
 
-  pub close-fits : (reply : Result (List ℕ)) (k r : ℕ) → Words k ≡ answeredOf reply → Behind reply o at → k ≤ length o - at - 2 - 2 * later → r ≡ at + 2 + k
-      → o′ ≡ set (set o at 0) (at + 1) k → Placed (answerWords (fitting (length o - at) later reply)) o o′ at later r
-  unfolding answeredOf fitting
-  close-fits (refused n) k r e b f p s = absurd (let z : _≡_ {A = ℕ} 0 1 = cc in omega arith)
-  close-fits (fine ws) k r e b f p s =
-      let same : k ≡ length ws = cc in
-      let stands : take k (drop (at + 2) o) ≡ ws = rw same (b .words ws refl (omega arith)) in
-      rw (le-leb (length ws + 2 + 2 * later) (length o - at) (omega arith)) (placed-words o o′ ws at later k r same (omega arith) stands p s)
+  pub close-fits : {k : ℕ} → r ≡ Words k → at + 2 + 2 * later ≤ length o → k ≤ length o - at - 2 - 2 * later
+      → (e ≡ at + 2 + k) × (o′ ≡ set (set o at 0) (at + 1) k) → Closed (headerOf (length o - at) later r) o o′ at e
+  unfolding headerOf
+  close-fits {k = k} q h f p = rw (q, le-leb (k + 2 + 2 * later) (length o - at) (omega arith)) (record { answers = p .1; end = p .0 })
 
-  pub close-44 : (reply : Result (List ℕ)) (k r : ℕ) → Words k ≡ answeredOf reply → length o - at - 2 - 2 * later < k → r ≡ at + 2 + 0
-      → o′ ≡ set (set o at 44) (at + 1) 0 → Placed (answerWords (fitting (length o - at) later reply)) o o′ at later r
-  unfolding answeredOf fitting
-  close-44 (refused n) k r e f p s = absurd (let z : _≡_ {A = ℕ} 0 1 = cc in omega arith)
-  close-44 (fine ws) k r e f p s =
-      let same : k ≡ length ws = cc in
-      rw (lt-leb (length ws + 2 + 2 * later) (length o - at) (omega arith)) (placed-refused o o′ at later 44 r h p s)
+  pub close-44 : {k : ℕ} → r ≡ Words k → at + 2 + 2 * later ≤ length o → length o - at - 2 - 2 * later < k
+      → (e ≡ at + 2 + 0) × (o′ ≡ set (set o at 44) (at + 1) 0) → Closed (headerOf (length o - at) later r) o o′ at e
+  unfolding headerOf
+  close-44 {k = k} q h f p = rw (q, lt-leb (k + 2 + 2 * later) (length o - at) (omega arith)) (record { answers = p .1; end = p .0 })
+
+-- ---- the answer that r tells of, 44 where it does not fit, stands from `at` on
+
+module _ (o o′ : List ℕ) (at later e : ℕ) (h : at + 2 + 2 * later ≤ length o) where
+  words-placed : (ws : List ℕ) (t : Bool) → leb (length ws + 2 + 2 * later) (length o - at) ≡ t → Behind (fine ws) o at
+      → Closed (cond t (record { refusal = 0; count = length ws }) (record { refusal = 44; count = 0 })) o o′ at e → Placed (answerWords (cond t (fine ws) (refused 44))) o o′ at later e
+  words-placed ws true q b c =
+      let fits = leb-true (length ws + 2 + 2 * later) (length o - at) q in
+      placed-words o o′ ws at later (length ws) e refl (omega arith) (b .words ws refl (omega arith)) (c .end) (c .answers)
+  words-placed ws false q b c = placed-refused o o′ at later 44 e h (c .end) (c .answers)
+
+  pub closed-placed : (reply : Result (List ℕ)) → Behind reply o at → Closed (headerOf (length o - at) later (answeredOf reply)) o o′ at e
+      → Placed (answerWords (fitting (length o - at) later reply)) o o′ at later e
+  unfolding headerOf answeredOf fitting
+  closed-placed (refused n) b c = placed-refused o o′ at later n e h (c .end) (c .answers)
+  closed-placed (fine ws) b c = words-placed ws (leb (length ws + 2 + 2 * later) (length o - at)) refl b c

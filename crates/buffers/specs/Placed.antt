@@ -1,12 +1,10 @@
 -- Where the words of an answer stand in the answer buffer.
-use Prim.Native.Nat.{ℕ, _+_, _-_, _*_, _≤_}
+use Prim.Native.Nat.{ℕ, _+_, _*_, _≤_}
 use mathlib.Core.Path.{_≡_}
 use mathlib.Core.List.{List, _++_}
-use lib.ListN.{length, take, drop}
+use lib.ListN.{length, set, take, drop}
 use Rattle.reading.specs.Result.{Result, fine}
-use Rattle.planes.specs.declared.Answered.{Answered}
-use Rattle.planes.specs.Reply.{answeredOf}
-use Rattle.buffers.specs.Answer.{fitting, answerWords}
+use Rattle.buffers.specs.Answer.{Header}
 
 -- the words of the reply stand behind the place of its header, if they have room there
 pub record Behind (reply : Result (List ℕ)) (o : List ℕ) (at : ℕ) : Type 0 where
@@ -19,7 +17,7 @@ pub record Placed (ws o o′ : List ℕ) (at later r : ℕ) : Type 0 where
   pub room : r + 2 * later ≤ length o
   pub long : length o′ ≡ length o
 
--- the answer that r tells of, 44 where it does not fit, stands from `at` on and ends at e
-abbrev pub Closes : Answered → List ℕ → List ℕ → ℕ → ℕ → ℕ → Type 0
-Closes r o o′ at later e =
-    (reply : Result (List ℕ)) → r ≡ answeredOf reply → Behind reply o at → Placed (answerWords (fitting (length o - at) later reply)) o o′ at later e
+-- `close` stores the header alone: two words of the buffer, at `at`; the answer ends at e, behind the words that stand there
+pub record Closed (h : Header) (o o′ : List ℕ) (at e : ℕ) : Type 0 where
+  pub answers : o′ ≡ set (set o at (h .refusal)) (at + 1) (h .count)
+  pub end : e ≡ at + 2 + h .count

@@ -5,7 +5,8 @@ ghost use mathlib.Core.List.{_++_};
 ghost use Prim.Native.Nat.{_+_, _-_, _*_, _≤_};
 ghost use lib.ListN.{length, set, take, replicate};
 ghost use Rattle.reading.specs.Marks.{cleared};
-ghost use Rattle.buffers.specs.Placed.{Closes};
+ghost use Rattle.buffers.specs.Answer.{headerOf};
+ghost use Rattle.buffers.specs.Placed.{Closed};
 
 // Stores the header at `at`: the refusal, or 0, and the count. Where the next answer goes.
 fn put_header(answers: &mut [u64], at: usize, refusal: u64, count: usize) -> usize
@@ -20,7 +21,8 @@ fn put_header(answers: &mut [u64], at: usize, refusal: u64, count: usize) -> usi
 // The header by what was answered; 44 where the words do not fit beside two for each later answer.
 pub fn close(answers: &mut [u64], at: usize, later: usize, r: Answered) -> usize
     requires { ⌜ at + 2 + 2 * later ≤ length (now answers) ⌝ }
-    ensures { λ e. ⌜ Closes r (now (answers .entry)) (now (answers .exit)) at later e ⌝ }
+    ensures { λ e. ⌜ Closed (headerOf (length (now (answers .entry)) - at) later r)
+        (now (answers .entry)) (now (answers .exit)) at e ⌝ }
 {
     match r {
         Answered::Refused(k) => put_header(answers, at, k, 0),

@@ -1,5 +1,5 @@
 -- One answer: the reply to a request, closed. Assumes nothing.
-use Prim.Native.Nat.{ℕ, _+_, _-_, _≤_}
+use Prim.Native.Nat.{ℕ, _+_, _-_, _*_, _≤_}
 use mathlib.Core.Path.{_≡_, ap, sym, _∙_}
 use mathlib.Core.Bool.{Bool}
 use mathlib.Core.List.{List, _++_, append-nil}
@@ -14,8 +14,8 @@ use Rattle.prepare.specs.Room.{Room}
 use Rattle.requests.specs.declared.Request.{Request}
 use Rattle.requests.specs.Requests.{requestOf}
 use Rattle.serve.specs.Serve.{serve}
-use Rattle.buffers.specs.Answer.{fitting, answerWords}
-use Rattle.buffers.specs.Placed.{Closes}
+use Rattle.buffers.specs.Answer.{fitting, answerWords, headerOf}
+use Rattle.buffers.specs.Placed.{Closed}
 use Rattle.buffers.proofs.BehindLaws.{placed-part}
 use Rattle.job.specs.List.{isFlat, replyTo}
 use Rattle.job.specs.Serving.{Told, answerTo}
@@ -28,8 +28,9 @@ reply-is room f r flat q left a o o′ m m′ e d s = rw (d ∙ ap (λ (b : Bool
 
 -- the answer to a request, by its reply, stored in a part behind the header, and what `close` made of it
 pub told-part : (room : Room) (f : ℕ → Values) (r : List ℕ) (left : List ℕ) (o out′ o′ m m′ : List ℕ) (at later e k : ℕ) (a : Answered)
-    → Replied (replyTo room r) f left a (take k (drop (at + 2) o)) out′ m m′ → Closes a (take (at + 2) o ++ (out′ ++ drop k (drop (at + 2) o))) o′ at later e
-    → at + 2 ≤ length o → k ≡ length o - (at + 2) → length out′ ≡ length (take k (drop (at + 2) o)) → Told (answerTo room (length o - at) later r) f m m′ o o′ at later e
+    → Replied (replyTo room r) f left a (take k (drop (at + 2) o)) out′ m m′
+    → Closed (headerOf (length (take (at + 2) o ++ (out′ ++ drop k (drop (at + 2) o))) - at) later a) (take (at + 2) o ++ (out′ ++ drop k (drop (at + 2) o))) o′ at e
+    → at + 2 + 2 * later ≤ length o → k ≡ length o - (at + 2) → length out′ ≡ length (take k (drop (at + 2) o)) → Told (answerTo room (length o - at) later r) f m m′ o o′ at later e
 unfolding answerTo
 told-part room f r left o out′ o′ m m′ at later e k a s c h n long =
     let reply = run (replyTo room r) f in
