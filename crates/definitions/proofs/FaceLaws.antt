@@ -1,124 +1,34 @@
 -- The faces of a record, by number and by point. Assumes nothing.
-use Prim.Native.Nat.{ℕ, zero, suc, _+_, _-_, _*_, _/_, _%_, _≤_, _<_}
+use Prim.Native.Nat.{ℕ, zero, suc, _+_, _≤_, _<_}
 use native.Mathlib.Numerals.{add-one}
 use native.Mathlib.Omega.{arith}
-use mathlib.Core.Path.{_≡_, refl, ap, sym, _∙_}
-use mathlib.Core.Bool.{Bool, true, cond, _&&_}
+use mathlib.Core.Path.{_≡_, refl, ap, ap₂, sym, _∙_}
+use mathlib.Core.Bool.{Bool, true, false, cond}
 use mathlib.Core.List.{List, [], _∷_, _++_, map, append-assoc}
-use lib.Dec.{leb, ltb, eqb}
-use lib.ListN.{length, getD, take, drop, set, length-drop}
+use lib.Dec.{ltb, eqb}
+use lib.ListN.{length, getD, take, drop, set, length-drop, length-append}
 use lib.Seq.{length-take-le, take-all, take-suc, take-at, set-at}
-use borrow.Author.Tests.{eqb-true, ltb-true, leb-true, eq-eqb}
-use Rattle.arith.specs.Lists.{Side, sides, after}
+use borrow.Author.Tests.{ltb-true, eq-eqb, ne-eqb}
+use Rattle.arith.specs.Records.{part, puts}
+use Rattle.arith.specs.Lists.{all, Side, sides, after}
+use Rattle.arith.proofs.All.{All, all-getD, all-more}
 use Rattle.arith.proofs.ListLaws.{left-at, length-sides, sides-at}
 use Rattle.arith.proofs.RoundLaws.{after-less}
 use Rattle.arith.proofs.RecordLaws.{getD-part}
 use Rattle.reading.specs.Result.{fine}
 use Rattle.definitions.specs.Faces.{Definition, polygon, solid, polyhedron, tetrahedron, hexahedron, prism, pyramid, ends, picked, facesOf, faceCount}
 use Rattle.definitions.specs.Definitions.{Taken, faceLists}
-use Rattle.definitions.specs.Corners.{places, row, cornerOf, digitOf}
-use Rattle.definitions.specs.Walker.{firstOf, headOf, stepAt, readOf, definitionAt, faceAt, faceFrom, Headed, AtFace, nextFace}
-use Rattle.definitions.specs.Helpers.{sideEnd}
+use Rattle.definitions.specs.Walker.{firstOf, headOf, stepAt, readOf, definitionAt, faceAt, faceFrom, Headed, AtFace, nextFace, FaceCopied}
+use Rattle.definitions.specs.Helpers.{tableOf, placesOf}
 use Rattle.definitions.specs.declared.Head.{Head}
+use Rattle.definitions.specs.declared.Copied.{Copied}
+use Rattle.definitions.specs.declared.Places.{Places}
+use Rattle.definitions.specs.declared.Places.the-variants.{Three, Four}
 use Rattle.definitions.specs.declared.FaceCursor.{FaceCursor}
 use Rattle.definitions.specs.declared.Cursor.{Cursor}
 use Rattle.definitions.specs.declared.Step.the-variants.{Record}
-use Rattle.casefile.proofs.TrailerLaws.{and-left, and-right}
 use Rattle.definitions.proofs.WalkLaws.{Lists, face-first, faces-read}
 use Rattle.definitions.proofs.RecordLaws.{IsSolid, is-tetrahedron, is-hexahedron, is-prism, is-pyramid, RecordCase, a-polygon, a-solid, a-polyhedron, record-case, StepsTo, steps-to}
-
--- ---- the face tables of the code, entry by entry
-
--- the test f passes at each entry and its place, counted from i
-every : (ℕ → ℕ → Bool) → ℕ → List ℕ → Bool
-every f i [] = true
-every f i (x ∷ xs) = f i x && every f (suc i) xs
-
-every-at : (f : ℕ → ℕ → Bool) (xs : List ℕ) (i : ℕ) → every f i xs ≡ true → (k : ℕ) → k < length xs → f (i + k) (getD xs k 0) ≡ true
-unfolding every
-every-at f [] i t k h = absurd (omega arith)
-every-at f (x ∷ xs) i t zero h = let e : i + 0 ≡ i = omega arith in rw e (and-left (f i x) _ t)
-every-at f (x ∷ xs) i t (suc k) h =
-    let e : i + suc k ≡ suc i + k = omega arith in rw e (every-at f xs (suc i) (and-right (f i x) _ t) k (omega arith))
-
-unfoldable pub corners : List ℕ
-corners =
-    30210 ∷ 30130 ∷ 31230 ∷ 32030 ∷ 0 ∷ 0 ∷ 40321 ∷ 44567 ∷ 40154 ∷ 41265 ∷ 42376 ∷ 43047
-    ∷ 30210 ∷ 33450 ∷ 40143 ∷ 41254 ∷ 42035 ∷ 0 ∷ 40321 ∷ 30140 ∷ 31240 ∷ 32340 ∷ 33040 ∷ 0 ∷ []
-
-length-corners : length corners ≡ 24
-unfolding corners
-length-corners = refl
-
--- how many points a solid has
-pub solidPoints : ℕ → ℕ
-solidPoints kind = getD (0 ∷ 4 ∷ 8 ∷ 6 ∷ 5 ∷ []) kind 0
-
--- a digit is the table's; a count is at most 4; a place is one of the solid's
-tabled : ℕ → ℕ → ℕ → Bool
-tabled j i x = eqb (digitOf x j) (cornerOf (i / 6 + 1) (i % 6) j)
-
-few : ℕ → ℕ → Bool
-few i x = leb (digitOf x 0) 4
-
-inside : ℕ → ℕ → ℕ → Bool
-inside j i x = ltb (digitOf x j) (solidPoints (i / 6 + 1))
-
-all-tabled : (j : ℕ) → j < 5 → every (tabled j) 0 corners ≡ true
-unfolding every tabled corners cornerOf digitOf row places tetrahedron hexahedron prism pyramid
-all-tabled zero h = refl
-all-tabled (suc zero) h = refl
-all-tabled (suc (suc zero)) h = refl
-all-tabled (suc (suc (suc zero))) h = refl
-all-tabled (suc (suc (suc (suc zero)))) h = refl
-all-tabled (suc (suc (suc (suc (suc j))))) h = absurd (omega arith)
-
-all-few : every few 0 corners ≡ true
-unfolding every few corners digitOf
-all-few = refl
-
-all-inside : (j : ℕ) → j < 4 → every (inside (suc j)) 0 corners ≡ true
-unfolding every inside corners digitOf solidPoints
-all-inside zero h = refl
-all-inside (suc zero) h = refl
-all-inside (suc (suc zero)) h = refl
-all-inside (suc (suc (suc zero))) h = refl
-all-inside (suc (suc (suc (suc j)))) h = absurd (omega arith)
-
-module _ (kind face : ℕ) (low : 1 ≤ kind) (high : kind ≤ 4) (f : face < 6) where
-  -- where the code finds a face's row
-  abbrev entry : ℕ
-  entry = (kind - 1) * 6 + face
-
-  passes : (t : ℕ → ℕ → Bool) → every t 0 corners ≡ true → t entry (getD corners entry 0) ≡ true
-  passes t e =
-      let z : 0 + entry ≡ entry = omega arith in
-      rw z at (every-at t corners 0 e entry (omega (arith, length-corners)))
-
-  its-kind : entry / 6 + 1 ≡ kind
-  its-kind = omega arith
-
-  pub corner-at : (j : ℕ) → j < 5 → digitOf (getD corners ((kind - 1) * 6 + face) 0) j ≡ cornerOf kind face j
-  unfolding tabled
-  corner-at j b =
-      let g : entry % 6 ≡ face = omega arith in
-      let t = passes (tabled j) (all-tabled j b) in
-      eqb-true _ _ (rw (its-kind, g) at t)
-
-  -- a face has at most four points
-  pub corner-count : cornerOf kind face 0 ≤ 4
-  unfolding few
-  corner-count =
-      let v : digitOf (getD corners entry 0) 0 ≤ 4 = leb-true _ _ (passes few all-few) in
-      rw (corner-at 0 (omega arith)) at v
-
-  -- a place is one of the solid's
-  pub corner-place : (j : ℕ) → j < 4 → cornerOf kind face (suc j) < solidPoints kind
-  unfolding inside
-  corner-place j b =
-      let t = passes (inside (suc j)) (all-inside j b) in
-      let v : digitOf (getD corners entry 0) (suc j) < solidPoints kind = ltb-true _ _ (rw its-kind at t) in
-      rw (corner-at (suc j) (omega arith)) at v
 
 -- ---- what a head tells, kind by kind
 
@@ -213,15 +123,14 @@ getD-map f [] k d e h = absurd (omega arith)
 getD-map f (a ∷ l) zero d e h = refl
 getD-map f (a ∷ l) (suc k) d e h = getD-map f l k d e (omega arith)
 
--- point j of side k
+-- the numbers of side k
 pub record PolygonFace (ws : List ℕ) (h : Head) (k : ℕ) : Type 0 where
-  pub count : 2 ≡ length (faceAt ws (h .at) k)
-  pub number : (j : ℕ) → j < 2 → getD ws (h .first + sideEnd (h .faces) k j) 0 ≡ getD (faceAt ws (h .at) k) j 0
+  pub same : faceAt ws (h .at) k ≡ getD ws (h .first + k) 0 ∷ getD ws (h .first + after (h .faces) k) 0 ∷ []
   pub room : (i : ℕ) → i < h .faces → h .first + i < length ws
 
-pub polygon-face : (ws : List ℕ) (h : Head) (k : ℕ) → PolygonHead ws h → k < h .faces → PolygonFace ws h k
-unfolding faceAt facesOf ends sideEnd
-polygon-face ws h k p b = record { count = rw same; number = number; room = λ i m. omega (arith, p .room) }
+polygon-face : (ws : List ℕ) (h : Head) (k : ℕ) → PolygonHead ws h → k < h .faces → PolygonFace ws h k
+unfolding faceAt facesOf ends
+polygon-face ws h k p b = record { same = same; room = λ i m. omega (arith, p .room) }
   where
     l : List ℕ
     l = take (h .faces) (drop (h .first) ws)
@@ -245,91 +154,68 @@ polygon-face ws h k p b = record { count = rw same; number = number; room = λ i
           getD-part ws (h .first) (h .faces) (after (h .faces) k) 0 a,
         )
 
-    number : (j : ℕ) → j < 2 → getD ws (h .first + sideEnd (h .faces) k j) 0 ≡ getD (faceAt ws (h .at) k) j 0
-    number zero m = rw same
-    number (suc zero) m = rw same
-    number (suc (suc j)) m = absurd (omega arith)
-
--- point j of a solid's face k
+-- the numbers of a solid's face k: those at its places
 pub record SolidFace (ws : List ℕ) (h : Head) (k : ℕ) : Type 0 where
-  pub low : 1 ≤ h .kind
-  pub high : h .kind ≤ 4
-  pub face : k < 6
-  pub count : cornerOf (h .kind) k 0 ≡ length (faceAt ws (h .at) k)
-  pub few : cornerOf (h .kind) k 0 ≤ 4
-  pub number : (j : ℕ) → j < length (faceAt ws (h .at) k) → getD ws (h .first + cornerOf (h .kind) k (j + 1)) 0 ≡ getD (faceAt ws (h .at) k) j 0
-  pub room : (j : ℕ) → j < 4 → h .first + cornerOf (h .kind) k (j + 1) < length ws
+  pub face : k < length (tableOf (h .kind))
+  pub same : faceAt ws (h .at) k ≡ map (λ i. getD ws (h .first + i) 0) (getD (tableOf (h .kind)) k [])
+  pub room : All (λ i. h .first + i < length ws) (getD (tableOf (h .kind)) k [])
 
-length-picked : (l ps : List ℕ) → length (picked l ps) ≡ length ps
-unfolding picked
-length-picked l [] = refl
-length-picked l (p ∷ ps) = ap suc (length-picked l ps)
+-- places of a solid of n points
+placed : ℕ → List ℕ → Bool
+placed n l = all (λ i. ltb i n) l
 
-getD-picked : (l ps : List ℕ) (j : ℕ) → j < length ps → getD (picked l ps) j 0 ≡ getD l (getD ps j 0) 0
-unfolding picked
-getD-picked l [] j h = absurd (omega arith)
-getD-picked l (p ∷ ps) zero h = refl
-getD-picked l (p ∷ ps) (suc j) h = getD-picked l ps j (omega arith)
-
--- a solid's table, its points and the number of its faces go by its kind
-pub record Tabled (kind : ℕ) (table : List (List ℕ)) (n : ℕ) : Type 0 where
-  pub same : table ≡ places kind
-  pub points : n ≡ solidPoints kind
-  pub faces : length table ≤ 6
+-- a solid's table goes by its kind, and its places are those of its points
+record Tabled (kind : ℕ) (table : List (List ℕ)) (n : ℕ) : Type 0 where
+  same : table ≡ tableOf kind
+  inside : all (placed n) table ≡ true
 
 tabled-kind : (kind : ℕ) (table : List (List ℕ)) (n : ℕ) → IsSolid kind table n → Tabled kind table n
-unfolding places solidPoints tetrahedron hexahedron prism pyramid
-tabled-kind kind table n is-tetrahedron = record { same = refl; points = refl; faces = omega arith }
-tabled-kind kind table n is-hexahedron = record { same = refl; points = refl; faces = omega arith }
-tabled-kind kind table n is-prism = record { same = refl; points = refl; faces = omega arith }
-tabled-kind kind table n is-pyramid = record { same = refl; points = refl; faces = omega arith }
+unfolding tableOf tetrahedron hexahedron prism pyramid placed all
+tabled-kind kind table n is-tetrahedron = record { same = refl; inside = refl }
+tabled-kind kind table n is-hexahedron = record { same = refl; inside = refl }
+tabled-kind kind table n is-prism = record { same = refl; inside = refl }
+tabled-kind kind table n is-pyramid = record { same = refl; inside = refl }
 
-pub solid-face : (ws : List ℕ) (h : Head) (k : ℕ) → 1 ≤ h .kind → h .kind ≤ 4 → SolidHead ws h → k < h .faces → SolidFace ws h k
-unfolding faceAt facesOf cornerOf row
-solid-face ws h k low high p b =
-    record {
-      low = low;
-      high = high;
-      face = six;
-      count = sym (ap length same ∙ length-picked l f);
-      few = corner-count (h .kind) k low high six;
-      number = number;
-      room = λ j m. omega (arith, p .room, t .points, place j m);
-    }
+all-pass : {A : Type 0} (p : A → Bool) (l : List A) → all p l ≡ true → All (λ a. p a ≡ true) l
+unfolding all
+all-pass p [] e = tt
+all-pass p (a ∷ l) e = by (p a) refl (all-pass p l) e
   where
-    t : Tabled (h .kind) (p .table) (p .points)
-    t = tabled-kind (h .kind) (p .table) (p .points) (p .is)
+    by : (t : Bool) → p a ≡ t → (all p l ≡ true → All (λ a. p a ≡ true) l) → elim t [ true ↦ all p l | false ↦ false ] ≡ true → All (λ a. p a ≡ true) (a ∷ l)
+    by true q r e = (q, r e)
+    by false q r e = absurd (let z : _≡_ {A = ℕ} 0 1 = cc in omega arith)
 
-    six : k < 6
-    six = omega (arith, t .faces, p .all)
+row-placed : (n : ℕ) (table : List (List ℕ)) (k : ℕ) → all (placed n) table ≡ true → All (λ i. i < n) (getD table k [])
+unfolding placed all
+row-placed n table k e =
+    all-more (λ i. ltb i n ≡ true) (λ i. i < n) (λ i t. ltb-true i n t) (getD table k [])
+    (all-pass (λ i. ltb i n) (getD table k []) (all-getD (λ l. placed n l ≡ true) table k [] refl (all-pass (placed n) table e)))
 
-    l : List ℕ
-    l = take (p .points) (drop (h .first) ws)
+-- the first n words from `first` on, at places below n
+picked-at : (ws : List ℕ) (first n : ℕ) (l : List ℕ) → All (λ i. i < n) l → picked (take n (drop first ws)) l ≡ map (λ i. getD ws (first + i) 0) l
+unfolding picked
+picked-at ws first n [] h = refl
+picked-at ws first n (i ∷ l) h = ap₂ _∷_ (getD-part ws first n i 0 (h .0)) (picked-at ws first n l (h .1))
 
-    f : List ℕ
-    f = getD (places (h .kind)) k []
+solid-face : (ws : List ℕ) (h : Head) (k : ℕ) → SolidHead ws h → k < h .faces → SolidFace ws h k
+unfolding faceAt facesOf
+solid-face ws h k p b =
+    let t = tabled-kind (h .kind) (p .table) (p .points) (p .is) in
+    let i = row-placed (p .points) (p .table) k (t .inside) in
+    let l : List ℕ = take (p .points) (drop (h .first) ws) in
+    let same : faceAt ws (h .at) k ≡ map (λ i. getD ws (h .first + i) 0) (getD (p .table) k []) =
+    rw (p .read, getD-map (picked l) (p .table) k [] [] (omega (arith, p .all))) (picked-at ws (h .first) (p .points) (getD (p .table) k []) i) in
+    record {
+      face = rw (← t .same) (omega (arith, p .all));
+      same = rw (← t .same) same;
+      room = rw (← t .same) (all-more (λ i. i < p .points) (λ i. h .first + i < length ws) (λ i m. omega (arith, p .room)) (getD (p .table) k []) i);
+    }
 
-    same : faceAt ws (h .at) k ≡ picked l f
-    same = rw (p .read, getD-map (picked l) (p .table) k [] [] (omega (arith, p .all)), t .same)
-
-    place : (j : ℕ) → j < 4 → cornerOf (h .kind) k (j + 1) < solidPoints (h .kind)
-    place j m = rw (add-one j) (corner-place (h .kind) k low high six j m)
-
-    long : length f ≤ 4
-    long = corner-count (h .kind) k low high six
-
-    number : (j : ℕ) → j < length (faceAt ws (h .at) k) → getD ws (h .first + cornerOf (h .kind) k (j + 1)) 0 ≡ getD (faceAt ws (h .at) k) j 0
-    number j m =
-        let e : length (faceAt ws (h .at) k) ≡ length f = ap length same ∙ length-picked l f in
-        let q : cornerOf (h .kind) k (j + 1) < p .points = omega (arith, t .points, place j (omega (arith, long))) in
-        let i : getD f j 0 < p .points = rw (add-one j) at q in
-        rw (add-one j, same, getD-picked l f j (omega arith), getD-part ws (h .first) (p .points) (getD f j 0) 0 i)
-
--- point j of a polyhedron's face k
+-- the numbers of a polyhedron's face k, which starts at `at`
 pub record PolyhedronFace (ws : List ℕ) (h : Head) (k at : ℕ) : Type 0 where
   pub count : getD ws at 0 ≡ length (faceAt ws (h .at) k)
   pub few : getD ws at 0 ≤ 8
-  pub number : (j : ℕ) → j < getD ws at 0 → getD ws (at + 1 + j) 0 ≡ getD (faceAt ws (h .at) k) j 0
+  pub same : faceAt ws (h .at) k ≡ part ws (at + 1) (getD ws at 0)
   pub room : at + 1 + getD ws at 0 ≤ length ws
 
 face-zero : (ws : List ℕ) (p : ℕ) → faceFrom ws p zero ≡ p
@@ -367,7 +253,7 @@ polyhedron-face ws h k at p b e =
     record {
       count = sym (ap length same ∙ length-take-le n (drop (at + 1) ws) (omega (arith, i .lists .room, length-drop (at + 1) ws)));
       few = i .lists .few;
-      number = λ j m. sym (ap (λ l. getD l j 0) same ∙ getD-part ws (at + 1) n j 0 m);
+      same = same;
       room = i .lists .room;
     }
   where
@@ -383,6 +269,15 @@ polyhedron-face ws h k at p b e =
 -- ---- the face at a cursor, as the code asks for it
 
 module _ (ws : List ℕ) (h : Head) (c : FaceCursor) (a : AtFace ws h c) (b : c .face < h .faces) where
+  -- a record has one of the six kinds
+  pub kind-few : h .kind ≤ 5
+  kind-few = by (head-case ws h (a .headed))
+    where
+      by : HeadCase ws h → h .kind ≤ 5
+      by (polygon-head k p) = omega arith
+      by (solid-head low high p) = omega arith
+      by (polyhedron-head k p) = omega arith
+
   pub side-of-polygon : h .kind ≡ 0 → PolygonFace ws h (c .face)
   side-of-polygon e = by (head-case ws h (a .headed))
     where
@@ -391,13 +286,13 @@ module _ (ws : List ℕ) (h : Head) (c : FaceCursor) (a : AtFace ws h c) (b : c 
       by (solid-head low high p) = absurd (omega arith)
       by (polyhedron-head k p) = absurd (omega arith)
 
-  pub face-of-solid : (h .kind ≡ 0 → ⊥) → (h .kind ≡ 5 → ⊥) → SolidFace ws h (c .face)
+  pub face-of-solid : 1 ≤ h .kind → h .kind ≤ 4 → SolidFace ws h (c .face)
   face-of-solid n m = by (head-case ws h (a .headed))
     where
       by : HeadCase ws h → SolidFace ws h (c .face)
-      by (polygon-head k p) = absurd (n k)
-      by (solid-head low high p) = solid-face ws h (c .face) low high p b
-      by (polyhedron-head k p) = absurd (m k)
+      by (polygon-head k p) = absurd (omega arith)
+      by (solid-head low high p) = solid-face ws h (c .face) p b
+      by (polyhedron-head k p) = absurd (omega arith)
 
   pub face-of-polyhedron : h .kind ≡ 5 → PolyhedronFace ws h (c .face) (c .at)
   face-of-polyhedron e = by (head-case ws h (a .headed))
@@ -407,23 +302,9 @@ module _ (ws : List ℕ) (h : Head) (c : FaceCursor) (a : AtFace ws h c) (b : c 
       by (solid-head low high p) = absurd (omega arith)
       by (polyhedron-head k p) = polyhedron-face ws h (c .face) (c .at) p b (a .place e)
 
-  module _ (j : ℕ) (m : j < length (faceAt ws (h .at) (c .face))) where
-    pub polygon-number : h .kind ≡ 0 → (r x : ℕ) → r ≡ sideEnd (h .faces) (c .face) j → x ≡ getD ws (h .first + r) 0 → x ≡ getD (faceAt ws (h .at) (c .face)) j 0
-    polygon-number k r x e g =
-        let p = side-of-polygon k in g ∙ ap (λ i. getD ws (h .first + i) 0) e ∙ p .number j (omega (arith, p .count))
-
-    pub solid-room : (h .kind ≡ 0 → ⊥) → (h .kind ≡ 5 → ⊥) → (r : ℕ) → r ≡ cornerOf (h .kind) (c .face) (j + 1) → h .first + r < length ws
-    solid-room z f r e = let p = face-of-solid z f in rw e (p .room j (omega (arith, p .count, p .few)))
-
-    pub solid-number : (h .kind ≡ 0 → ⊥) → (h .kind ≡ 5 → ⊥) → (r x : ℕ) → r ≡ cornerOf (h .kind) (c .face) (j + 1) → x ≡ getD ws (h .first + r) 0 →
-        x ≡ getD (faceAt ws (h .at) (c .face)) j 0
-    solid-number z f r x e g = let p = face-of-solid z f in g ∙ ap (λ i. getD ws (h .first + i) 0) e ∙ p .number j m
-
-    pub polyhedron-room : h .kind ≡ 5 → c .at + 1 + j < length ws
-    polyhedron-room k = let p = face-of-polyhedron k in omega (arith, p .count, p .room)
-
-    pub polyhedron-number : h .kind ≡ 5 → (x : ℕ) → x ≡ getD ws (c .at + 1 + j) 0 → x ≡ getD (faceAt ws (h .at) (c .face)) j 0
-    polyhedron-number k x g = let p = face-of-polyhedron k in g ∙ p .number j (omega (arith, p .count))
+  -- a solid of this kind has so many faces
+  pub solid-few : (kind n : ℕ) → h .kind ≡ kind → 1 ≤ kind → kind ≤ 4 → length (tableOf kind) ≡ n → c .face < n
+  solid-few kind n e low high q = let f = rw e at (face-of-solid (omega arith) (omega arith) .face) in omega arith
 
   -- the next face
   pub face-next : (n : ℕ) → n ≡ length (faceAt ws (h .at) (c .face)) → (next : FaceCursor) → next ≡ nextFace h c n → AtFace ws h next
@@ -461,8 +342,106 @@ module _ (out₀ f : List ℕ) where
     pub copy-end : out ≡ f ++ drop n out₀
     copy-end = let z : j ≡ n = omega arith in rw z at e ∙ ap (λ l. l ++ drop n out₀) (take-all n f (omega arith))
 
-    pub copy-front : take n out ≡ f
-    copy-front = ap (take n) copy-end ∙ take-at f (drop n out₀) n (sym a)
+-- two, three and four stores at the front
+front-2 : (l : List ℕ) (x y : ℕ) → length l ≡ 8 → set (set l 0 x) 1 y ≡ x ∷ y ∷ drop 2 l
+front-2 [] x y h = absurd (omega arith)
+front-2 (a ∷ []) x y h = absurd (omega arith)
+front-2 (a ∷ b ∷ l) x y h = refl
+
+front-3 : (l : List ℕ) (x y z : ℕ) → length l ≡ 8 → set (set (set l 0 x) 1 y) 2 z ≡ x ∷ y ∷ z ∷ drop 3 l
+front-3 [] x y z h = absurd (omega arith)
+front-3 (a ∷ []) x y z h = absurd (omega arith)
+front-3 (a ∷ b ∷ []) x y z h = absurd (omega arith)
+front-3 (a ∷ b ∷ c ∷ l) x y z h = refl
+
+front-4 : (l : List ℕ) (x y z w : ℕ) → length l ≡ 8 → set (set (set (set l 0 x) 1 y) 2 z) 3 w ≡ x ∷ y ∷ z ∷ w ∷ drop 4 l
+front-4 [] x y z w h = absurd (omega arith)
+front-4 (a ∷ []) x y z w h = absurd (omega arith)
+front-4 (a ∷ b ∷ []) x y z w h = absurd (omega arith)
+front-4 (a ∷ b ∷ c ∷ []) x y z w h = absurd (omega arith)
+front-4 (a ∷ b ∷ c ∷ d ∷ l) x y z w h = refl
+
+module _ (ws : List ℕ) (h : Head) (c : FaceCursor) (a : AtFace ws h c) (b : c .face < h .faces) (out₀ : List ℕ) (m : length out₀ ≡ 8) where
+  -- the face stands at the front
+  pub face-copied : (f out : List ℕ) (n : ℕ) (next : FaceCursor) → faceAt ws (h .at) (c .face) ≡ f → n ≡ length f → n ≤ 8 → out ≡ f ++ drop n out₀
+      → next ≡ nextFace h c n → FaceCopied ws h c out₀ out n next
+  face-copied f out n next s e k w t =
+      let g : n ≡ length (faceAt ws (h .at) (c .face)) = e ∙ ap length (sym s) in
+      let l : length out ≡ length f + length (drop n out₀) = ap length w ∙ length-append f (drop n out₀) in
+      record {
+        copied = w ∙ ap (λ x. x ++ drop n out₀) (sym s);
+        front = ap (take n) w ∙ take-at f (drop n out₀) n (sym e) ∙ sym s;
+        counted = g;
+        small = k;
+        eight = omega (arith, length-drop n out₀);
+        follows = t;
+        goes = face-next ws h c a b n g next t;
+      }
+
+  -- a record that is no polyhedron
+  flat-next : (n : ℕ) → h .kind ≤ 4 → record { face = c .face + 1; at = c .at } ≡ nextFace h c n
+  unfolding nextFace
+  flat-next n k = rw (ne-eqb (h .kind) 5 (λ e. omega arith))
+
+  module _ (n : ℕ) (r : Copied) (e : r ≡ record { count = n; next = record { face = c .face + 1; at = c .at } }) where
+    flat-copied : (f out : List ℕ) → h .kind ≤ 4 → faceAt ws (h .at) (c .face) ≡ f → n ≡ length f → n ≤ 8 → out ≡ f ++ drop n out₀ → FaceCopied ws h c out₀ out (r .count) (r .next)
+    flat-copied f out k s l d w = rw e (face-copied f out n (record { face = c .face + 1; at = c .at }) s l d w (flat-next n k))
+
+  pub side-copied : (x y k : ℕ) (r : Copied) → h .kind ≡ 0 → x ≡ getD ws (h .first + c .face) 0 → k ≡ after (h .faces) (c .face) → y ≡ getD ws (h .first + k) 0
+      → r ≡ record { count = 2; next = record { face = c .face + 1; at = c .at } } → FaceCopied ws h c out₀ (set (set out₀ 0 x) 1 y) (r .count) (r .next)
+  side-copied x y k r z p q t e =
+      let f = side-of-polygon ws h c a b z in
+      let same : faceAt ws (h .at) (c .face) ≡ x ∷ y ∷ [] = rw (p, t, q) (f .same) in
+      flat-copied 2 r e (x ∷ y ∷ []) (set (set out₀ 0 x) 1 y) (omega arith) same refl (omega arith) (front-2 out₀ x y m)
+
+  -- what `copy_places` asks
+  pub solid-ready : (kind : ℕ) → h .kind ≡ kind → 1 ≤ kind → kind ≤ 4 → (p : Places) → placesOf p ≡ getD (tableOf kind) (c .face) []
+      → AtFace ws h c × (c .face < h .faces) × (length out₀ ≡ 8) × (1 ≤ h .kind) × (h .kind ≤ 4) × (placesOf p ≡ getD (tableOf (h .kind)) (c .face) [])
+  solid-ready kind e low high p q = (a, b, m, omega arith, omega arith, rw e q)
+
+  pub list-copied : (n : ℕ) (out : List ℕ) (j : ℕ) → h .kind ≡ 5 → n ≡ getD ws (c .at) 0 → out ≡ take j (part ws (c .at + 1) n) ++ drop j out₀ → j ≤ n → n ≤ j
+      → FaceCopied ws h c out₀ out n (record { face = c .face + 1; at = c .at + 1 + n })
+  unfolding nextFace
+  list-copied n out j k e w u v =
+      let p = face-of-polyhedron ws h c a b k in
+      let same : faceAt ws (h .at) (c .face) ≡ part ws (c .at + 1) n = rw e (p .same) in
+      let l : n ≡ length (part ws (c .at + 1) n) = e ∙ p .count ∙ ap length same in
+      face-copied (part ws (c .at + 1) n) out n (record { face = c .face + 1; at = c .at + 1 + n }) same l (omega (arith, p .few))
+      (copy-end out₀ (part ws (c .at + 1) n) out j n w l u v) (rw (eq-eqb (h .kind) 5 k))
+
+  module _ (low : 1 ≤ h .kind) (high : h .kind ≤ 4) (p : Places) (q : placesOf p ≡ getD (tableOf (h .kind)) (c .face) []) where
+    solid-room : All (λ i. h .first + i < length ws) (placesOf p)
+    solid-room = rw q (face-of-solid ws h c a b low high .room)
+
+    -- the places are the solid's
+    pub three-room : (i j k : ℕ) → p ≡ Three i j k → (h .first + i < length ws) × (h .first + j < length ws) × (h .first + k < length ws) × (length out₀ ≡ 8)
+    unfolding placesOf
+    three-room i j k t = let n = rw t at solid-room in (n .0, n .1 .0, n .1 .1 .0, m)
+
+    pub four-room : (i j k l : ℕ) → p ≡ Four i j k l → (h .first + i < length ws) × (h .first + j < length ws) × (h .first + k < length ws) × (length out₀ ≡ 8)
+    unfolding placesOf
+    four-room i j k l t = let n = rw t at solid-room in (n .0, n .1 .0, n .1 .1 .0, m)
+
+    pub last-room : (i j k l : ℕ) → p ≡ Four i j k l → h .first + l < length ws
+    unfolding placesOf
+    last-room i j k l t = let n = rw t at solid-room in n .1 .1 .1 .0
+
+    solid-same : faceAt ws (h .at) (c .face) ≡ map (λ i. getD ws (h .first + i) 0) (placesOf p)
+    solid-same = rw q (face-of-solid ws h c a b low high .same)
+
+    module _ (i j k : ℕ) (out : List ℕ) (w : out ≡ puts out₀ 0 (getD ws (h .first + i) 0 ∷ getD ws (h .first + j) 0 ∷ getD ws (h .first + k) 0 ∷ [])) (r : Copied) where
+      pub three-copied : p ≡ Three i j k → r ≡ record { count = 3; next = record { face = c .face + 1; at = c .at } } → FaceCopied ws h c out₀ out (r .count) (r .next)
+      unfolding placesOf
+      three-copied t e =
+          flat-copied 3 r e (getD ws (h .first + i) 0 ∷ getD ws (h .first + j) 0 ∷ getD ws (h .first + k) 0 ∷ []) out high (rw t at solid-same) refl (omega arith)
+          (w ∙ front-3 out₀ _ _ _ m)
+
+      pub four-copied : (l x : ℕ) → p ≡ Four i j k l → x ≡ getD ws (h .first + l) 0 → r ≡ record { count = 4; next = record { face = c .face + 1; at = c .at } }
+          → FaceCopied ws h c out₀ (set out 3 x) (r .count) (r .next)
+      unfolding placesOf
+      four-copied l x t g e =
+          flat-copied 4 r e (getD ws (h .first + i) 0 ∷ getD ws (h .first + j) 0 ∷ getD ws (h .first + k) 0 ∷ getD ws (h .first + l) 0 ∷ []) (set out 3 x) high
+          (rw t at solid-same) refl (omega arith) (rw (w, g) (front-4 out₀ _ _ _ _ m))
 
 pub next-number : (h : Head) (c : FaceCursor) (n : ℕ) (next : FaceCursor) → next ≡ nextFace h c n → next .face ≡ c .face + 1
 unfolding nextFace

@@ -10,21 +10,47 @@ pub data Definition : Type 0 where
   solid : List (List ℕ) → List ℕ → Definition
   polyhedron : List (List ℕ) → Definition
 
--- ---- "its face tables": the faces of the kinds 1 to 4, each a list of places among the cell's point numbers
+-- ---- "its face tables": the faces of the kinds 1 to 4, row by row as in mesh.rs, each a list of places among the cell's point numbers: a is 0, b is 1, ..
 
--- `vec![*a, *c, *b]`, and so on: a is 0, b is 1, ..
+-- `Tetrahedron([a, b, c, d])`
 unfoldable pub tetrahedron : List (List ℕ)
-tetrahedron = (0 ∷ 2 ∷ 1 ∷ []) ∷ (0 ∷ 1 ∷ 3 ∷ []) ∷ (1 ∷ 2 ∷ 3 ∷ []) ∷ (2 ∷ 0 ∷ 3 ∷ []) ∷ []
+tetrahedron =
+    (0 ∷ 2 ∷ 1 ∷ [])
+    ∷ (0 ∷ 1 ∷ 3 ∷ [])
+    ∷ (1 ∷ 2 ∷ 3 ∷ [])
+    ∷ (2 ∷ 0 ∷ 3 ∷ [])
+    ∷ []
 
+-- `Hexahedron([a, b, c, d, e, f, g, h])`
 unfoldable pub hexahedron : List (List ℕ)
 hexahedron =
-    (0 ∷ 3 ∷ 2 ∷ 1 ∷ []) ∷ (4 ∷ 5 ∷ 6 ∷ 7 ∷ []) ∷ (0 ∷ 1 ∷ 5 ∷ 4 ∷ []) ∷ (1 ∷ 2 ∷ 6 ∷ 5 ∷ []) ∷ (2 ∷ 3 ∷ 7 ∷ 6 ∷ []) ∷ (3 ∷ 0 ∷ 4 ∷ 7 ∷ []) ∷ []
+    (0 ∷ 3 ∷ 2 ∷ 1 ∷ [])
+    ∷ (4 ∷ 5 ∷ 6 ∷ 7 ∷ [])
+    ∷ (0 ∷ 1 ∷ 5 ∷ 4 ∷ [])
+    ∷ (1 ∷ 2 ∷ 6 ∷ 5 ∷ [])
+    ∷ (2 ∷ 3 ∷ 7 ∷ 6 ∷ [])
+    ∷ (3 ∷ 0 ∷ 4 ∷ 7 ∷ [])
+    ∷ []
 
+-- `Prism([a, b, c, d, e, f])`
 unfoldable pub prism : List (List ℕ)
-prism = (0 ∷ 2 ∷ 1 ∷ []) ∷ (3 ∷ 4 ∷ 5 ∷ []) ∷ (0 ∷ 1 ∷ 4 ∷ 3 ∷ []) ∷ (1 ∷ 2 ∷ 5 ∷ 4 ∷ []) ∷ (2 ∷ 0 ∷ 3 ∷ 5 ∷ []) ∷ []
+prism =
+    (0 ∷ 2 ∷ 1 ∷ [])
+    ∷ (3 ∷ 4 ∷ 5 ∷ [])
+    ∷ (0 ∷ 1 ∷ 4 ∷ 3 ∷ [])
+    ∷ (1 ∷ 2 ∷ 5 ∷ 4 ∷ [])
+    ∷ (2 ∷ 0 ∷ 3 ∷ 5 ∷ [])
+    ∷ []
 
+-- `Pyramid([a, b, c, d, e])`
 unfoldable pub pyramid : List (List ℕ)
-pyramid = (0 ∷ 3 ∷ 2 ∷ 1 ∷ []) ∷ (0 ∷ 1 ∷ 4 ∷ []) ∷ (1 ∷ 2 ∷ 4 ∷ []) ∷ (2 ∷ 3 ∷ 4 ∷ []) ∷ (3 ∷ 0 ∷ 4 ∷ []) ∷ []
+pyramid =
+    (0 ∷ 3 ∷ 2 ∷ 1 ∷ [])
+    ∷ (0 ∷ 1 ∷ 4 ∷ [])
+    ∷ (1 ∷ 2 ∷ 4 ∷ [])
+    ∷ (2 ∷ 3 ∷ 4 ∷ [])
+    ∷ (3 ∷ 0 ∷ 4 ∷ [])
+    ∷ []
 
 -- ---- the faces of a cell, each a list of point numbers
 

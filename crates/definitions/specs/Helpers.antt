@@ -1,16 +1,15 @@
 -- The words of the contracts of `step`, `walk` and `copy_face`'s helpers.
 use Prim.Native.Nat.{ℕ, _+_, _-_, _<_, _≤_}
 use mathlib.Core.Path.{_≡_}
-use mathlib.Core.Bool.{cond}
-use mathlib.Core.List.{List}
-use lib.Dec.{eqb}
+use mathlib.Core.List.{List, [], _∷_}
 use lib.ListN.{length, getD, drop}
-use Rattle.arith.specs.Lists.{after}
 use Rattle.reading.specs.Result.{Result, refused, fine}
-use Rattle.definitions.specs.Faces.{solid}
+use Rattle.definitions.specs.Faces.{solid, tetrahedron, hexahedron, prism, pyramid}
 use Rattle.definitions.specs.Definitions.{Taken, numbers, counted, made, definition}
 use Rattle.definitions.specs.declared.Listed.{Listed}
 use Rattle.definitions.specs.declared.Listed.the-variants.{Count, Bad}
+use Rattle.definitions.specs.declared.Places.{Places}
+use Rattle.definitions.specs.declared.Places.the-variants.{Three, Four}
 use Rattle.definitions.specs.declared.Skipped.{Skipped}
 use Rattle.definitions.specs.declared.Skipped.the-variants.{To, Short}
 
@@ -41,6 +40,11 @@ pub record SolidAt (ws : List ℕ) (at kind count faces : ℕ) : Type 0 where
   pub all : faces ≡ length places
   pub few : count ≤ 8
 
--- the place of end j of side k, of n in a round
-unfoldable pub sideEnd : ℕ → ℕ → ℕ → ℕ
-sideEnd n k j = cond (eqb j 0) k (after n k)
+-- the face table of a kind
+unfoldable pub tableOf : ℕ → List (List ℕ)
+tableOf kind = getD ([] ∷ tetrahedron ∷ hexahedron ∷ prism ∷ pyramid ∷ []) kind []
+
+-- what each case of a table's row stands for
+unfoldable pub placesOf : Places → List ℕ
+placesOf (Three i j k) = i ∷ j ∷ k ∷ []
+placesOf (Four i j k l) = i ∷ j ∷ k ∷ l ∷ []

@@ -41,6 +41,12 @@ pub enum Skipped {
     Short(u64),
 }
 
+// A face of a solid: its places among the cell's point numbers.
+pub enum Places {
+    Three(usize, usize, usize),
+    Four(usize, usize, usize, usize),
+}
+
 // A face of a record, by its number; `at` is where a polyhedron's face starts.
 pub struct FaceCursor {
     pub face: usize,

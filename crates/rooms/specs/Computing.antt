@@ -1,6 +1,6 @@
 -- One name for all that the rooms compute with: to unfold it is to unfold these.
 use lib.Ieee.{add, sub, mul, div, lt, le, eq, ofBits, toBits, ofInt, round, toUnsigned, isNan, neg, size, odd}
-use Rattle.root.specs.Root.{mag, isqrt, rounded, root}
+use Rattle.root.specs.Root.{mag, SquareRoot, isqrt, rounded, root}
 use Rattle.root.specs.Work.{unitsOf}
 use Rattle.arith.specs.Angle.{leftward, quarter, slope, angleOf, precedes, turnsBefore}
 use Rattle.arith.specs.Bytes.{le32, le64, floatAt, vecAt, readAll}
@@ -8,7 +8,8 @@ use Rattle.arith.specs.F64.{finite, abs, signed, fmin, fmax, clamp, nearer, wit
 use Rattle.arith.specs.Lists.{foldl, any, all, count, firstFrom, only, concat, addNew, insert, sort, sidesWith, windows, sides, same, sorted, rising}
 use Rattle.arith.specs.Polygon.{crosses, evenOdd}
 use Rattle.arith.specs.Records.{tab, upTo}
-use Rattle.arith.specs.Sort.{angleAt, earlier, sortedPlaces, placeIn}
+use Rattle.arith.specs.Sort.{angleAt, earlier, sortedPlaces, comparable, placeIn}
+use Rattle.arith.specs.Stable.{those, tie, InOrder}
 use Rattle.arith.specs.Vec.{plus, minus, times, over, dot, normSquared, norm, cross, each3}
 use Rattle.reading.specs.After.{done, Named}
 use Rattle.reading.specs.Asks.{_>>=_}
@@ -18,10 +19,9 @@ use Rattle.area.specs.Layout.{pointsIn, meshWords, meshFloats, listAt, vecFrom,
 use Rattle.area.specs.Tables.{pointAt, faceAt, cellAt}
 use Rattle.casefile.specs.Field.{blank, outside, cellsOf, nought, valuesIn, valuesOf}
 use Rattle.casefile.specs.Trailer.{trailerWord, countsOf, wordsFrom, fieldFrom, pressuresFrom, trailerFrom, isDimension, hasOffsets, hasParts, trailerRight, overLimit, opened, openedCase, wordsIn, wordsOf}
-use Rattle.definitions.specs.Corners.{places, row, cornerOf, digitOf}
 use Rattle.definitions.specs.Definitions.{numbers, counted, faceLists, made, kinds, definition, definitions}
 use Rattle.definitions.specs.Faces.{tetrahedron, hexahedron, prism, pyramid, ends, picked, facesOf, faceCount, addFaceCount, facesCounted}
-use Rattle.definitions.specs.Helpers.{listed, listAt as listAt-2, skipped, sideEnd}
+use Rattle.definitions.specs.Helpers.{listed, listAt as listAt-2, skipped, tableOf, placesOf}
 use Rattle.definitions.specs.Walker.{firstOf, headOf, cursorAt, stepped, stepAt, walked, walkedFaces, readOf, definitionAt, faceAt as faceAt-2, faceFrom, nextFace}
 use Rattle.keys.specs.Keys.{total}
 use Rattle.geometry.specs.Answers.{vectorOf, faceOf}
@@ -35,7 +35,7 @@ use Rattle.connection.specs.Neighbours.{otherOf, beyond, addFound, addNeighbour
 use Rattle.connection.specs.Search.{countBelow}
 use Rattle.cutting_plane.specs.Cut.{widest, farthest, epsOf, tolerance, cutOf, height, near, below, above}
 use Rattle.cutting_plane.specs.Plane.{finiteAxes, notUnit, askew, invalid, remote, planeRefusal, normalOf, along}
-use Rattle.cutting_plane.specs.Work.{bare, cornerOf as cornerOf-2, signWith, noSigns, addSign, faceSigns, signsOf, mayMeet}
+use Rattle.cutting_plane.specs.Work.{bare, cornerOf, signWith, noSigns, addSign, faceSigns, signsOf, mayMeet}
 use Rattle.bin_index.specs.Index.{inBin, poolIn, passed}
 use Rattle.inside.specs.Contains.{between, onLine, onEdge, contains}
 use Rattle.inside.specs.Extent.{limitsFrom, misses, endWithin, run, isLevel, crossingWithin, sideWithin, reach, sideless, widened, narrowest, unlimited, limitsOf}
@@ -57,7 +57,7 @@ use Rattle.samples.specs.Sampling.{before, onward, sample}
 use Rattle.samples.specs.Stream.{stream}
 use Rattle.planes.specs.Answers.{sectionWords, probeWords, sampled, sectionOf, statisticsOf, integralsOf, probeOf}
 use Rattle.planes.specs.Reply.{answeredOf, wordsOf as wordsOf-2, replied, goods, leftBy, statisticsEnd, integralsEnd, ended, lastWords, missing}
-use Rattle.buffers.specs.Answer.{fitting, answerWords}
+use Rattle.buffers.specs.Answer.{fitting, answerWords, headerOf}
 use Rattle.measure.specs.Orientation.{behind, neighbourBehind, misplaced}
 use Rattle.measure.specs.Records.{facesAt, fansOf}
 use Rattle.collect.specs.Collect.{wrongKind, missing as missing-2, referenceOf, insertBelow, numbersIn, checked, referenceCase}
@@ -89,10 +89,10 @@ use Rattle.prepare.specs.Stands.{roomIn, countsIn, Servable}
 use Rattle.prepare.specs.Steps.{shortAs, Shortage}
 use Rattle.serve.specs.Left.{leftUnder}
 use Rattle.serve.specs.Serve.{foundWords, velocityWords, decided, serveFlat, serveSolid, serve}
-use Rattle.job.specs.Job.{jobOf, outcome, numberOf}
+use Rattle.job.specs.Job.{jobOf, outcome, numberOf, outcomeOf}
 use Rattle.job.specs.List.{isFlat, replyTo, serveAll}
 use Rattle.job.specs.Serving.{answerTo}
 
 unfoldable pub computing : Unit {0}
-unfolding add sub mul div lt le eq ofBits toBits ofInt round toUnsigned isNan neg size odd mag isqrt rounded root unitsOf leftward quarter slope angleOf precedes turnsBefore le32 le64 floatAt vecAt readAll finite abs signed fmin fmax clamp nearer within ceilℕ foldl any all count firstFrom only concat addNew insert sort sidesWith windows sides same sorted rising crosses evenOdd tab upTo angleAt earlier sortedPlaces placeIn plus minus times over dot normSquared norm cross each3 done Named _>>=_ _>>=_-2 refuse steps mapAll vecWords pointWords valuesWords pointsIn meshWords meshFloats listAt vecFrom found faceIn cellIn facesIn cellsIn meshIn pointAt faceAt cellAt blank outside cellsOf nought valuesIn valuesOf trailerWord countsOf wordsFrom fieldFrom pressuresFrom trailerFrom isDimension hasOffsets hasParts trailerRight overLimit opened openedCase wordsIn wordsOf places row cornerOf digitOf numbers counted faceLists made kinds definition definitions tetrahedron hexahedron prism pyramid ends picked facesOf faceCount addFaceCount facesCounted listed listAt-2 skipped sideEnd firstOf headOf cursorAt stepped stepAt walked walkedFaces readOf definitionAt faceAt-2 faceFrom nextFace total vectorOf faceOf insertNew rising-2 addPoint average turnedEdge addCross vectorIn areaVector enough longEnough faceAreaVector faceWith measured inward turnedIf orientedFace leftOrder weightless addPart doubled addTriangle centre2D sixth addVolume addTetrahedron addFan fanOf addFace3D centre3D geometryIn cellGeometry cellOf last bodyOf bodyIn measuredOf measuredIn faceOf-2 tableIn headIn hasKey lookup newFace withNeighbour joining settled adding placed addFace someBelow everyBelow round-2 rounds connectedBy sidesAre joins share connected meets connectedCells otherOf beyond addFound addNeighbour neighboursOf linkedAt linked countBelow widest farthest epsOf tolerance cutOf height near below above finiteAxes notUnit askew invalid remote planeRefusal normalOf along bare cornerOf-2 signWith noSigns addSign faceSigns signsOf mayMeet inBin poolIn passed between onLine onEdge contains limitsFrom misses endWithin run isLevel crossingWithin sideWithin reach sideless widened narrowest unlimited limitsOf pairFrom pairsFrom sideFrom binAlong binFor reaches isListed countIn polygonIn binFrom cellPolygonIn cellPolygonsIn fieldIn flat holds locateWhere locate close rises parted between-2 addEnd addBetween addMeeting shared onPlane foreign addSide addFace-2 meetings pointIn heldIn sideAt meetingOf earlierOn addArea areaOf middle wide pieceAbout pieceOf piecesFrom intersect pieceIn verticesOf angleOn noIntegral weighing fit addIntegral finiteIntegral vacant integralWords integrals summedOf summingOf addSummed weighedOf weighingOf addWeighed addProbed addTo written usedOf sizeOf project covers firstOver off probe sound addVector vectorOf-2 measureOf scalarOf noSums including counted-2 summing addSample finiteSums empty fractionWords statisticsWords statistics sampleWords before onward sample stream sectionWords probeWords sampled sectionOf statisticsOf integralsOf probeOf answeredOf wordsOf-2 replied goods leftBy statisticsEnd integralsEnd ended lastWords missing fitting answerWords behind neighbourBehind misplaced facesAt fansOf wrongKind missing-2 referenceOf insertBelow numbersIn checked referenceCase measuredFrom addFaceOf addCell drafts draftIn draftsIn read finished finishedAs geometryAt firstCells surveyOf areaShort meshOf meshFrom joined acceptable completed filled fromCells draftsHeld acceptedAs listedIn aspect binCounts areFlat areMany boundless widened-2 boundsOf alike addCorner addCorners cornersOf about turnsAbout polygonOf polygonsOf gridFor gridOf fieldOf builtGrid polygonsIn cornersIn keyIn locateIn centreOf neighboursOf-2 distance nearerOf blended apart beside toward velocityIn velocityWhere velocityAt from unit directionAt weighed fourth third second rungeKutta hereIf rk4Step kept step tracedOf readsOf wordsOf-3 sign signedStep onward-2 lineFrom line isLength isSpeed areGood isNowhere nowhere lineWords lineAnswer integrate seedAt seeds linesWords integrateRake Allowed bytesFrom wordBytes bytesOf wordsAt requestsIn number real point barring usedWords astray illFormed against direction options streamline rakeOf rake planeOf statistics-2 overPlane planar byCode requestOf roomFrom roomOf requestsWrong shortage prepared roomIn countsIn Servable shortAs Shortage leftUnder foundWords velocityWords decided serveFlat serveSolid serve jobOf outcome numberOf isFlat replyTo serveAll answerTo
+unfolding add sub mul div lt le eq ofBits toBits ofInt round toUnsigned isNan neg size odd mag SquareRoot isqrt rounded root unitsOf leftward quarter slope angleOf precedes turnsBefore le32 le64 floatAt vecAt readAll finite abs signed fmin fmax clamp nearer within ceilℕ foldl any all count firstFrom only concat addNew insert sort sidesWith windows sides same sorted rising crosses evenOdd tab upTo angleAt earlier sortedPlaces comparable placeIn those tie InOrder plus minus times over dot normSquared norm cross each3 done Named _>>=_ _>>=_-2 refuse steps mapAll vecWords pointWords valuesWords pointsIn meshWords meshFloats listAt vecFrom found faceIn cellIn facesIn cellsIn meshIn pointAt faceAt cellAt blank outside cellsOf nought valuesIn valuesOf trailerWord countsOf wordsFrom fieldFrom pressuresFrom trailerFrom isDimension hasOffsets hasParts trailerRight overLimit opened openedCase wordsIn wordsOf numbers counted faceLists made kinds definition definitions tetrahedron hexahedron prism pyramid ends picked facesOf faceCount addFaceCount facesCounted listed listAt-2 skipped tableOf placesOf firstOf headOf cursorAt stepped stepAt walked walkedFaces readOf definitionAt faceAt-2 faceFrom nextFace total vectorOf faceOf insertNew rising-2 addPoint average turnedEdge addCross vectorIn areaVector enough longEnough faceAreaVector faceWith measured inward turnedIf orientedFace leftOrder weightless addPart doubled addTriangle centre2D sixth addVolume addTetrahedron addFan fanOf addFace3D centre3D geometryIn cellGeometry cellOf last bodyOf bodyIn measuredOf measuredIn faceOf-2 tableIn headIn hasKey lookup newFace withNeighbour joining settled adding placed addFace someBelow everyBelow round-2 rounds connectedBy sidesAre joins share connected meets connectedCells otherOf beyond addFound addNeighbour neighboursOf linkedAt linked countBelow widest farthest epsOf tolerance cutOf height near below above finiteAxes notUnit askew invalid remote planeRefusal normalOf along bare cornerOf signWith noSigns addSign faceSigns signsOf mayMeet inBin poolIn passed between onLine onEdge contains limitsFrom misses endWithin run isLevel crossingWithin sideWithin reach sideless widened narrowest unlimited limitsOf pairFrom pairsFrom sideFrom binAlong binFor reaches isListed countIn polygonIn binFrom cellPolygonIn cellPolygonsIn fieldIn flat holds locateWhere locate close rises parted between-2 addEnd addBetween addMeeting shared onPlane foreign addSide addFace-2 meetings pointIn heldIn sideAt meetingOf earlierOn addArea areaOf middle wide pieceAbout pieceOf piecesFrom intersect pieceIn verticesOf angleOn noIntegral weighing fit addIntegral finiteIntegral vacant integralWords integrals summedOf summingOf addSummed weighedOf weighingOf addWeighed addProbed addTo written usedOf sizeOf project covers firstOver off probe sound addVector vectorOf-2 measureOf scalarOf noSums including counted-2 summing addSample finiteSums empty fractionWords statisticsWords statistics sampleWords before onward sample stream sectionWords probeWords sampled sectionOf statisticsOf integralsOf probeOf answeredOf wordsOf-2 replied goods leftBy statisticsEnd integralsEnd ended lastWords missing fitting answerWords headerOf behind neighbourBehind misplaced facesAt fansOf wrongKind missing-2 referenceOf insertBelow numbersIn checked referenceCase measuredFrom addFaceOf addCell drafts draftIn draftsIn read finished finishedAs geometryAt firstCells surveyOf areaShort meshOf meshFrom joined acceptable completed filled fromCells draftsHeld acceptedAs listedIn aspect binCounts areFlat areMany boundless widened-2 boundsOf alike addCorner addCorners cornersOf about turnsAbout polygonOf polygonsOf gridFor gridOf fieldOf builtGrid polygonsIn cornersIn keyIn locateIn centreOf neighboursOf-2 distance nearerOf blended apart beside toward velocityIn velocityWhere velocityAt from unit directionAt weighed fourth third second rungeKutta hereIf rk4Step kept step tracedOf readsOf wordsOf-3 sign signedStep onward-2 lineFrom line isLength isSpeed areGood isNowhere nowhere lineWords lineAnswer integrate seedAt seeds linesWords integrateRake Allowed bytesFrom wordBytes bytesOf wordsAt requestsIn number real point barring usedWords astray illFormed against direction options streamline rakeOf rake planeOf statistics-2 overPlane planar byCode requestOf roomFrom roomOf requestsWrong shortage prepared roomIn countsIn Servable shortAs Shortage leftUnder foundWords velocityWords decided serveFlat serveSolid serve jobOf outcome numberOf outcomeOf isFlat replyTo serveAll answerTo
 computing = tt
