@@ -1,14 +1,19 @@
 -- What a builder that goes record by record knows, once the walk has succeeded. Assumes nothing.
-use Prim.Native.Nat.{ℕ, zero, suc, _+_, _-_, _≤_, _<_}
+use Prim.Native.Nat.{ℕ, zero, suc, _+_, _-_, _*_, _≤_, _<_}
+use native.Mathlib.Nat.{add-sub-cancel-left}
 use native.Mathlib.Omega.{arith}
 use mathlib.Core.Path.{_≡_, refl, ap, sym, _∙_}
 use mathlib.Core.List.{List, [], _∷_}
 use lib.ListN.{length, getD, drop, length-map}
 use Rattle.arith.specs.Lists.{sides}
+use Rattle.arith.specs.Records.{part}
 use Rattle.arith.proofs.ListLaws.{left-at, length-sides}
 use Rattle.arith.proofs.RecordLaws.{left-suc}
 use Rattle.reading.specs.Result.{Result, refused, fine}
 use Rattle.reading.proofs.ResultLaws.{bound}
+use Rattle.casefile.specs.Trailer.{wordsFrom, wordsIn, wordsOf}
+use Rattle.casefile.specs.declared.Counts.{Counts}
+use Rattle.casefile.proofs.ReadLaws.{words-lent}
 use Rattle.definitions.specs.Faces.{Definition, polygon, solid, polyhedron, ends, picked, facesOf, faceCount, facesCounted}
 use Rattle.definitions.specs.Definitions.{definitions}
 use Rattle.definitions.specs.Walker.{headOf, stepAt, walked, readOf, definitionAt, Headed}
@@ -17,6 +22,13 @@ use Rattle.definitions.specs.declared.Head.{Head}
 use Rattle.definitions.specs.declared.Step.the-variants.{Record, Wrong}
 use Rattle.definitions.specs.declared.Walked.the-variants.{Faces}
 use Rattle.definitions.proofs.RecordLaws.{steps-to, steps-wrong}
+
+-- the slice of a case's definition words has its words
+pub words-part : (file : List ℕ) (n : Counts) → wordsFrom n + 4 * n .words ≤ length file → wordsIn (part file (wordsFrom n) (4 * n .words)) ≡ wordsOf file n
+unfolding wordsOf
+words-part file n h =
+    let e : wordsFrom n + 4 * n .words - wordsFrom n ≡ 4 * n .words = add-sub-cancel-left (wordsFrom n) (4 * n .words) in
+    rw e at (words-lent file (wordsFrom n) (n .words) h)
 
 -- as many definitions as cells
 pub length-definitions : (n : ℕ) (ws : List ℕ) (ds : List Definition) → definitions n ws ≡ fine ds → length ds ≡ n

@@ -12,7 +12,8 @@ use casefile::Counts;
 ghost use mathlib.Core.Path.{_≡_};
 ghost use Prim.Native.Nat.{_+_, _*_, _≤_, _<_};
 ghost use lib.ListN.{length, getD, drop};
-ghost use Rattle.casefile.specs.Trailer.{wordsFrom, wordsIn, wordsOf};
+ghost use Rattle.arith.specs.Records.{part};
+ghost use Rattle.casefile.specs.Trailer.{wordsFrom, wordsIn};
 ghost use Rattle.definitions.specs.Definitions.{definitions, faceLists};
 ghost use Rattle.definitions.specs.Walker.{stepAt, walked};
 ghost use Rattle.definitions.specs.Helpers as Helpers;
@@ -26,7 +27,7 @@ pub struct Walker<'a> {
 // The bytes of a case's definition words.
 pub fn words(case: &[u8], n: Counts) -> &[u8]
     requires { ⌜ wordsFrom n + 4 * n .words ≤ length (now case) ⌝ }
-    ensures { λ r. ⌜ wordsIn (now r) ≡ wordsOf (now (case .entry)) n ⌝ }
+    ensures { λ r. ⌜ now r ≡ part (now (case .entry)) (wordsFrom n) (4 * n .words) ⌝ }
 {
     let start = 24 * n.points;
     let end = start + 4 * n.words;

@@ -33,7 +33,9 @@ use Rattle.arith.specs.Bytes.{le32}
 use Rattle.arith.specs.F64.{finite, within}
 use Rattle.arith.specs.Vec.{each3}
 use Rattle.reading.proofs.ResultLaws.{bound}
-use Rattle.casefile.specs.Trailer.{wordsFrom}
+use Rattle.casefile.specs.Trailer.{wordsFrom, wordsIn}
+use Rattle.arith.specs.Records.{part}
+use Rattle.definitions.proofs.Walking.{words-part}
 use Rattle.definitions.proofs.RecordLaws.{definition-read}
 use Rattle.casefile.proofs.ReadLaws.{length-readAll}
 use Rattle.casefile.proofs.TrailerLaws.{opens}
@@ -101,6 +103,11 @@ module _ (file : List ℕ) where
     pub survey-right : (ds : List Definition) → definitions (n .cells) (wordsOf file n) ≡ fine ds → surveyOf file ≡ fine (record { counts = n; definitions = ds })
     unfolding surveyOf openedCase _>>=_
     survey-right ds e = rw (o, openedCase, _>>=_) (rw (e, _>>=_))
+
+-- the lent slice has the words of the case
+pub words-same : (file : List ℕ) (n : Counts) → opened file ≡ Opened.Case n → (l : List ℕ) → l ≡ part file (wordsFrom n) (4 * n .words) → wordsIn l ≡ wordsOf file n
+unfolding wordsFrom
+words-same file n o l e = let p = opens file n o in ap wordsIn e ∙ words-part file n (omega arith)
 
 pub walked-wrong : (r : Result (List Definition)) (k : ℕ) → Walked.Refused k ≡ walked r → r ≡ refused k
 unfolding walked

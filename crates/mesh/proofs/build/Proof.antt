@@ -4,7 +4,7 @@ use Rattle.casefile.specs.Trailer.{wordsFrom}
 use Rattle.casefile.proofs.TrailerLaws.{opens}
 use Rattle.definitions.proofs.Walking.{length-definitions}
 use Rattle.mesh.specs.Case.{barred}
-use Rattle.mesh.proofs.Laws.{from-refused, from-filled, faces-few, length-wordsOf, built-as}
+use Rattle.mesh.proofs.Laws.{from-refused, from-filled, faces-few, length-wordsOf, words-same, built-as}
 use borrow.Author.Needs.{needs}
 use Rattle.mesh.proofs.build.Statement.{statement}
 use Rattle.mesh.proofs.build.Tie as tie
@@ -24,7 +24,7 @@ fill-requires c κs =
     let p = c .before .before .before .before .before .before .before .before .pre in
     let o = opens _ _ (p .opens) in
     let few = rw (← p .counted) at (faces-few _ _ _ (p .opens) (p .right)) in
-    let ws = c .before .before .words .ensures in
+    let ws = words-same _ _ (p .opens) _ (c .before .before .words .ensures) in
     record {
       lent-words = record { few-slots = few; few-faces = search needs; few-cells = o .cells; long = p .long-words };
       lent-floats = record { few-slots = few; few-faces = search needs; few-cells = o .cells; long = p .long-floats };
@@ -40,7 +40,7 @@ fill-requires c κs =
 returns-2 : tie.Need-returns-2
 returns-2 c = λ defs e.
     built-as (sym (from-filled _ defs _ _ (c .before .before .before .before .before .before .before .before .before .unacceptable .ensures defs (length-definitions _ _ _ e)) (c .before .before .before .before .before .before .before .before .if1 .left)))
-    (c .before .before .before .before .fill .ensures defs (rw (c .before .before .before .before .before .before .before .words .ensures) e))
+    (c .before .before .before .before .fill .ensures defs (rw (words-same _ _ (c .before .before .before .before .before .before .before .before .before .before .before .before .before .pre .opens) _ (c .before .before .before .before .before .before .before .words .ensures)) e))
 
 pub build-spec : {M : Type 1} → statement M
 build-spec =

@@ -4,7 +4,7 @@ use Rattle.casefile.specs.Trailer.{wordsFrom}
 use Rattle.casefile.proofs.TrailerLaws.{opens}
 use Rattle.definitions.proofs.Walking.{walks}
 use Rattle.mesh.specs.Case.{surveyed, refusing}
-use Rattle.mesh.proofs.Laws.{survey-shut, survey-wrong, walked-wrong}
+use Rattle.mesh.proofs.Laws.{survey-shut, survey-wrong, walked-wrong, words-same}
 use native.Mathlib.Omega.{arith}
 use borrow.Author.Needs.{needs}
 use Rattle.mesh.proofs.survey.Statement.{statement}
@@ -21,13 +21,13 @@ returns-2 : tie.Need-returns-2
 returns-2 c =
     let o = sym (c .before .before .before .before .before .before .before .before .«open» .ensures) ∙ c .before .before .before .before .before .before .n .given .1 in
     let w = sym (c .before .k2 .given .1) ∙ c .before .before .before .walk .ensures in
-    refusing (survey-wrong _ _ o _ (walked-wrong _ _ (rw (c .before .before .before .before .words .ensures) at w)))
+    refusing (survey-wrong _ _ o _ (walked-wrong _ _ (rw (words-same _ _ o _ (c .before .before .before .before .words .ensures)) at w)))
 
 returns-3 : tie.Need-returns-3
 returns-3 c =
     let o = sym (c .before .before .before .before .before .before .before .before .«open» .ensures) ∙ c .before .before .before .before .before .before .n .given .1 in
     let w = sym (c .before .f .given .1) ∙ c .before .before .before .walk .ensures in
-    let k = walks _ _ _ (rw (c .before .before .before .before .words .ensures) at w) in
+    let k = walks _ _ _ (rw (words-same _ _ o _ (c .before .before .before .before .words .ensures)) at w) in
     surveyed o (k .read) (k .count)
 
 pub survey-spec : {M : Type 1} → statement M

@@ -1,7 +1,7 @@
 -- `casefile::walker::words` meets its contract. Assumes nothing.
 use borrow.Author.Needs.{needs}
-use Rattle.casefile.proofs.ReadLaws.{words-lent}
-use Rattle.casefile.specs.Trailer.{wordsFrom, wordsOf}
+use native.Mathlib.Nat.{add-sub-cancel-left}
+use Rattle.casefile.specs.Trailer.{wordsFrom}
 use Rattle.definitions.proofs.walker.words.Statement.{statement}
 use Rattle.definitions.proofs.walker.words.Tie as tie
 
@@ -27,8 +27,8 @@ unfolding wordsFrom
 part-result-end c = search needs
 
 returns : tie.Need-returns
-unfolding wordsFrom wordsOf
-returns c = words-lent _ _ _ (search needs)
+unfolding wordsFrom
+returns c = rw add-sub-cancel-left
 
 pub words-spec : {M : Type 1} → statement M
 words-spec =
