@@ -22,13 +22,13 @@ use Rattle.definitions.specs.declared.Walked.the-variants as Walked
 use Rattle.area.specs.declared.Sizes.{Sizes}
 use Rattle.area.specs.Tables.{Face, Cell, Mesh}
 use Rattle.area.specs.Layout.{facesIn, cellsIn, meshIn, LentWords, LentFloats, pointsIn}
-use Rattle.area.proofs.LayoutLaws.{mesh-same}
+use Rattle.area.proofs.LayoutLaws.{length-facesIn, length-cellsIn, mesh-same}
 use Rattle.measure.specs.Orientation.{misplaced}
 use Rattle.connection.specs.Neighbours.{linked, Linked}
 use Rattle.connection.specs.Connection.{connectedCells}
 use Rattle.connection.specs.Search.{Connected}
 use Rattle.mesh.specs.Mesh.{joined}
-use Rattle.mesh.specs.Case.{surveyOf, areaShort, meshOf, meshFrom, Surveying, surveyed, refusing, Building, built, barred}
+use Rattle.mesh.specs.Case.{surveyOf, areaShort, meshOf, caseFaces, meshFrom, Surveying, surveyed, refusing, builtAs, sizesFor, LaidOut, Building}
 use Rattle.arith.specs.Bytes.{le32}
 use Rattle.arith.specs.F64.{finite, within}
 use Rattle.arith.specs.Vec.{each3}
@@ -56,6 +56,45 @@ use Rattle.mesh.specs.declared.Surveyed.the-variants as Surveyed
 use Rattle.mesh.specs.declared.Built.{Built}
 use Rattle.mesh.specs.declared.Built.the-variants as Built
 
+-- ---- what the builder answers
+
+-- a mesh that stands in the area
+pub record Standing (m : Result Mesh) (n : ℕ) (ps : List Vec3) (w : List ℕ) (f : List Float) (s : Sizes) : Type 0 where
+  pub mesh : m ≡ fine (meshIn ps s w f)
+  pub slots : s .slots ≡ n
+  pub lent-words : LentWords s w
+  pub lent-floats : LentFloats s f
+
+module _ {m : Result Mesh} {n : ℕ} {ps : List Vec3} {w : List ℕ} {f : List Float} where
+  pub built : {s : Sizes} → m ≡ fine (meshIn ps s w f) → s .slots ≡ n → LentWords s w → LentFloats s f → Building m n ps w f (Built.Mesh s)
+  unfolding builtAs LaidOut
+  built e k lw lf = record { answer = sym e; laid-out = (k, lw, lf) }
+
+  pub barred : {k : ℕ} → m ≡ refused k → Building m n ps w f (Built.Refused k)
+  unfolding builtAs LaidOut
+  barred e = record { answer = sym e; laid-out = tt }
+
+  pub building-refused : {r : Built} (k : ℕ) → Building m n ps w f r → r ≡ Built.Refused k → m ≡ refused k
+  unfolding builtAs
+  building-refused k b e = sym (b .answer) ∙ ap (builtAs ps w f) e
+
+  pub building-mesh : {r : Built} (s : Sizes) → Building m n ps w f r → r ≡ Built.Mesh s → Standing m n ps w f s
+  unfolding builtAs LaidOut
+  building-mesh s b e =
+      let l = rw e at (b .laid-out) in
+      record { mesh = sym (b .answer) ∙ ap (builtAs ps w f) e; slots = l .0; lent-words = l .1; lent-floats = l .2 }
+
+  -- so the answer is determined
+  pub standing-sizes : (s : Sizes) (t : Mesh) → Standing m n ps w f s → m ≡ fine t → s ≡ sizesFor n t
+  unfolding sizesFor meshIn
+  standing-sizes s t p e =
+      let g : meshIn ps s w f ≡ t = cc (p .mesh) in
+      rw (← g, length-facesIn s w f, length-cellsIn s w f, ← p .slots)
+
+-- the mesh or F of a definition are those of another
+pub built-as : {m m′ : Result Mesh} {n n′ : ℕ} {ps : List Vec3} {w : List ℕ} {f : List Float} {r : Built} → m ≡ m′ → n ≡ n′ → Building m n ps w f r → Building m′ n′ ps w f r
+built-as {ps} {w} {f} {r} e k b = rw (← e, ← k) b
+
 -- ---- 16 and 17
 
 module _ (ps : List Vec3) (fs : List Face) (cs : List Cell) where
@@ -80,12 +119,12 @@ module _ (ps : List Vec3) (s : Sizes) (w w′ w″ : List ℕ) (floats : List Fl
   unfolding meshIn
   mesh-joined = mesh-same ps s w′ w″ floats floats (k .kept) refl ∙ rw (l .faces floats, l .cells floats)
 
-  pub joined-17 : any (misplaced (cellsIn s w floats)) (facesIn s w floats) ≡ false → r ≡ false → Building (joined ps (facesIn s w floats) (cellsIn s w floats)) ps w″ floats (Built.Refused 17)
+  pub joined-17 : any (misplaced (cellsIn s w floats)) (facesIn s w floats) ≡ false → r ≡ false → Building (joined ps (facesIn s w floats) (cellsIn s w floats)) (s .slots) ps w″ floats (Built.Refused 17)
   joined-17 e g = barred (join-17 ps (facesIn s w floats) (cellsIn s w floats) e (sym reached ∙ g))
 
-  pub joined-mesh : any (misplaced (cellsIn s w floats)) (facesIn s w floats) ≡ false → r ≡ true → LentWords s w → LentFloats s floats → length w″ ≡ length w → Building (joined ps (facesIn s w floats) (cellsIn s w floats)) ps w″ floats (Built.Mesh s)
+  pub joined-mesh : any (misplaced (cellsIn s w floats)) (facesIn s w floats) ≡ false → r ≡ true → LentWords s w → LentFloats s floats → length w″ ≡ length w → Building (joined ps (facesIn s w floats) (cellsIn s w floats)) (s .slots) ps w″ floats (Built.Mesh s)
   joined-mesh e g lw lf n =
-      built (join-fine ps (facesIn s w floats) (cellsIn s w floats) e (sym reached ∙ g) ∙ ap fine (sym mesh-joined))
+      built (join-fine ps (facesIn s w floats) (cellsIn s w floats) e (sym reached ∙ g) ∙ ap fine (sym mesh-joined)) refl
       (record { few-slots = lw .few-slots; few-faces = lw .few-faces; few-cells = lw .few-cells; long = rw n (lw .long) }) lf
 
 -- ---- 1, 2 and 3
@@ -275,6 +314,10 @@ module _ (file : List ℕ) (n : Counts) (ds : List Definition) (o : opened file 
   there : surveyOf file ≡ fine (record { counts = n; definitions = ds })
   there = survey-right file n o ds r
 
+  pub faces-all : facesCounted ds ≡ caseFaces (surveyOf file)
+  unfolding caseFaces
+  faces-all = sym (ap caseFaces there)
+
   pub short-words : words < 16 * facesCounted ds + 96 * n .cells → meshFrom file words floats ≡ refused 4
   unfolding meshFrom areaShort refuse _>>=_
   short-words h = rw (there, _>>=_) (rw (lt-ltb words (16 * facesCounted ds + 96 * n .cells) h, refuse, _>>=_))
@@ -304,16 +347,12 @@ unfolding finishedAs
 finish-done m r cs e g = e ∙ ap (λ (r : Finished). finishedAs r cs) g
 
 module _ (d : ℕ) (ps : List Vec3) (ws : List ℕ) (s : Sizes) (words : List ℕ) (floats : List Float) where
-  pub complete-15 : (w : List ℕ) (f : List Float) → mapAll (finished d ps) (draftsIn ws s words floats (s .cells)) ≡ refused 15 → Building (completed d ps (draftsHeld ws s words floats)) ps w f (Built.Refused 15)
+  pub complete-15 : (w : List ℕ) (f : List Float) → mapAll (finished d ps) (draftsIn ws s words floats (s .cells)) ≡ refused 15 → Building (completed d ps (draftsHeld ws s words floats)) (s .slots) ps w f (Built.Refused 15)
   unfolding draftsHeld
   complete-15 w f e = barred (completed-15 d ps (draftsHeld ws s words floats) e)
 
   pub complete-done : (fs : List Face) (cs : List Cell) (w : List ℕ) (f : List Float) (r : Built) → fs ≡ facesIn s words floats
-      → mapAll (finished d ps) (draftsIn ws s words floats (s .cells)) ≡ fine cs → Building (joined ps fs cs) ps w f r → Building (completed d ps (draftsHeld ws s words floats)) ps w f r
+      → mapAll (finished d ps) (draftsIn ws s words floats (s .cells)) ≡ fine cs → Building (joined ps fs cs) (s .slots) ps w f r → Building (completed d ps (draftsHeld ws s words floats)) (s .slots) ps w f r
   unfolding draftsHeld
   complete-done fs cs w f r e g b =
-      subst (λ (m : Result Mesh). Building m ps w f r) (ap (λ (x : List Face). joined ps x cs) e ∙ completed-fine d ps (draftsHeld ws s words floats) cs g) b
-
--- the mesh of a definition is that of another
-pub built-as : {m m′ : Result Mesh} {ps : List Vec3} {w : List ℕ} {f : List Float} {r : Built} → m ≡ m′ → Building m ps w f r → Building m′ ps w f r
-built-as {ps} {w} {f} {r} e b = subst (λ (m : Result Mesh). Building m ps w f r) e b
+      built-as (ap (λ (x : List Face). joined ps x cs) e ∙ completed-fine d ps (draftsHeld ws s words floats) cs g) refl b

@@ -44,6 +44,11 @@ areaShort c words floats =
 unfoldable pub meshOf : List ℕ → Surveyed-case → Result Mesh
 meshOf file c = fromCells (c .counts .dimension) (pointsIn file (c .counts .points)) (c .definitions)
 
+-- F of a case, "the faces of all definitions counted singly"
+unfoldable pub caseFaces : Result Surveyed-case → ℕ
+caseFaces (refused k) = 0
+caseFaces (fine c) = facesCounted (c .definitions)
+
 -- a case alone: refusals 1 to 4, then 8 to 17
 unfoldable pub meshFrom : List ℕ → ℕ → ℕ → Result Mesh
 meshFrom file words floats = surveyOf file >>= λ c. refuse 4 (areaShort c words floats) >>= λ _. meshOf file c
@@ -55,7 +60,21 @@ pub data Surveying (file : List ℕ) : Surveyed → Type 0 where
   surveyed : {n : Counts} {ds : List Definition} {f : ℕ} → opened file ≡ Case n → definitions (n .cells) (wordsOf file n) ≡ fine ds → f ≡ facesCounted ds → Surveying file (Surveyed.Case n f)
   refusing : {k : ℕ} → surveyOf file ≡ refused k → Surveying file (Surveyed.Refused k)
 
--- the mesh stands in the area, or the refusal
-pub data Building (m : Result Mesh) (ps : List Vec3) (words : List ℕ) (floats : List Float) : Built → Type 0 where
-  built : {s : Sizes} → m ≡ fine (meshIn ps s words floats) → LentWords s words → LentFloats s floats → Building m ps words floats (Built.Mesh s)
-  barred : {k : ℕ} → m ≡ refused k → Building m ps words floats (Built.Refused k)
+-- what each answer of the builder stands for: the mesh that the area holds, or the refusal
+unfoldable pub builtAs : List Vec3 → List ℕ → List Float → Built → Result Mesh
+builtAs ps words floats (Built.Mesh s) = fine (meshIn ps s words floats)
+builtAs ps words floats (Built.Refused k) = refused k
+
+-- the sizes of a mesh that has a slot for each of f faces
+unfoldable pub sizesFor : ℕ → Mesh → Sizes
+sizesFor f m = record { slots = f; faces = length (m .faces); cells = length (m .cells) }
+
+-- a mesh has a slot for each of f faces, in an area that is long enough
+unfoldable pub LaidOut : ℕ → List ℕ → List Float → Built → Type 0
+LaidOut f words floats (Built.Mesh s) = (s .slots ≡ f) × LentWords s words × LentFloats s floats
+LaidOut f words floats (Built.Refused k) = Unit {0}
+
+-- the answer stands for m, laid out for f faces; so a mesh's sizes are `sizesFor f`, since it has as many faces and cells as they say
+pub record Building (m : Result Mesh) (f : ℕ) (ps : List Vec3) (words : List ℕ) (floats : List Float) (r : Built) : Type 0 where
+  pub answer : builtAs ps words floats r ≡ m
+  pub laid-out : LaidOut f words floats r

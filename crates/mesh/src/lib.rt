@@ -22,7 +22,7 @@ ghost use Rattle.casefile.specs.Trailer.{countsOf, wordsOf};
 ghost use Rattle.measure.specs.Records.{Points};
 ghost use Rattle.cells.specs.Steps.{Addable};
 ghost use Rattle.mesh.specs.Mesh.{joined, completed, filled, acceptable, fromCells};
-ghost use Rattle.mesh.specs.Case.{Surveying, Building, meshFrom};
+ghost use Rattle.mesh.specs.Case.{Surveying, Building, surveyOf, caseFaces, meshFrom};
 ghost use Rattle.mesh.specs.Steps.{Joinable, Completable, Buildable, draftsHeld, acceptedAs};
 
 // The counts of a case and the number of faces of all its definitions, or refusal 1, 2 or 3.
@@ -53,7 +53,8 @@ pub fn survey(case: &[u8]) -> Surveyed
 // 16, then the neighbours of each cell, then 17.
 fn join(words: &mut [u32], floats: &[f64], s: Sizes) -> Built
     requires { ⌜ Joinable s (now words) (now floats) ⌝ }
-    ensures { λ r. ⌜ ((ps : List Vec3) → Building (joined ps (facesIn s (now (words .entry)) (now (floats .entry))) (cellsIn s (now (words .entry)) (now (floats .entry)))) ps (now (words .exit)) (now (floats .entry)) r) ⌝ }
+    ensures { λ r. ⌜ ((ps : List Vec3) → Building (joined ps (facesIn s (now (words .entry)) (now (floats .entry)))
+        (cellsIn s (now (words .entry)) (now (floats .entry)))) (s .slots) ps (now (words .exit)) (now (floats .entry)) r) ⌝ }
 {
     if measure::any_misplaced(words, floats, s) {
         return Built::Refused(16);
@@ -76,7 +77,9 @@ fn complete(
     s: Sizes,
 ) -> Built
     requires { ⌜ Completable (now case) (n .points) (wordsIn (now ws)) (now words) (now floats) s ⌝ }
-    ensures { λ r. ⌜ Building (completed (n .dimension) (pointsIn (now (case .entry)) (n .points)) (draftsHeld (wordsIn (now (ws .entry))) s (now (words .entry)) (now (floats .entry)))) (pointsIn (now (case .entry)) (n .points)) (now (words .exit)) (now (floats .exit)) r ⌝ }
+    ensures { λ r. ⌜ Building (completed (n .dimension) (pointsIn (now (case .entry)) (n .points))
+        (draftsHeld (wordsIn (now (ws .entry))) s (now (words .entry)) (now (floats .entry)))) (s .slots)
+        (pointsIn (now (case .entry)) (n .points)) (now (words .exit)) (now (floats .exit)) r ⌝ }
 {
     match finish::finish_cells(case, n.points, n.dimension, ws, words, floats, s) {
         Finished::ZeroVolume => Built::Refused(15),
@@ -87,7 +90,9 @@ fn complete(
 // 11 to 17.
 fn fill(case: &[u8], n: Counts, ws: &[u8], words: &mut [u32], floats: &mut [f64], s: Sizes) -> Built
     requires { ⌜ Addable (now case) (n .points) (wordsIn (now ws)) (now words) (now floats) s ⌝ }
-    ensures { λ r. ⌜ ((defs : List Definition) → definitions (s .cells) (wordsIn (now (ws .entry))) ≡ fine defs → Building (filled (n .dimension) (pointsIn (now (case .entry)) (n .points)) defs) (pointsIn (now (case .entry)) (n .points)) (now (words .exit)) (now (floats .exit)) r) ⌝ }
+    ensures { λ r. ⌜ ((defs : List Definition) → definitions (s .cells) (wordsIn (now (ws .entry))) ≡ fine defs
+        → Building (filled (n .dimension) (pointsIn (now (case .entry)) (n .points)) defs) (s .slots)
+        (pointsIn (now (case .entry)) (n .points)) (now (words .exit)) (now (floats .exit)) r) ⌝ }
 {
     match cells::add_cells(case, n.points, n.dimension, ws, words, floats, s) {
         Drafted::Refused(k) => Built::Refused(k),
@@ -126,7 +131,9 @@ fn unacceptable(case: &[u8], n: Counts) -> u64
 // The mesh of a case that was surveyed, into an area that is long enough: refusals 8 to 17.
 pub fn build(case: &[u8], n: Counts, faces: usize, words: &mut [u32], floats: &mut [f64]) -> Built
     requires { ⌜ Buildable (now case) n faces (now words) (now floats) ⌝ }
-    ensures { λ r. ⌜ ((defs : List Definition) → definitions (n .cells) (wordsOf (now (case .entry)) n) ≡ fine defs → Building (fromCells (n .dimension) (pointsIn (now (case .entry)) (n .points)) defs) (pointsIn (now (case .entry)) (n .points)) (now (words .exit)) (now (floats .exit)) r) ⌝ }
+    ensures { λ r. ⌜ ((defs : List Definition) → definitions (n .cells) (wordsOf (now (case .entry)) n) ≡ fine defs
+        → Building (fromCells (n .dimension) (pointsIn (now (case .entry)) (n .points)) defs) faces
+        (pointsIn (now (case .entry)) (n .points)) (now (words .exit)) (now (floats .exit)) r) ⌝ }
 {
     let k = unacceptable(case, n);
     if k != 0 {
@@ -149,7 +156,10 @@ pub fn build(case: &[u8], n: Counts, faces: usize, words: &mut [u32], floats: &m
 
 // The mesh of a case: refusals 1 to 4, and 8 to 17.
 pub fn from_cells(case: &[u8], words: &mut [u32], floats: &mut [f64]) -> Built
-    ensures { λ r. ⌜ Building (meshFrom (now (case .entry)) (length (now (words .entry))) (length (now (floats .entry)))) (pointsIn (now (case .entry)) (countsOf (now (case .entry)) .points)) (now (words .exit)) (now (floats .exit)) r ⌝ }
+    ensures { λ r. ⌜ Building
+        (meshFrom (now (case .entry)) (length (now (words .entry))) (length (now (floats .entry))))
+        (caseFaces (surveyOf (now (case .entry))))
+        (pointsIn (now (case .entry)) (countsOf (now (case .entry)) .points)) (now (words .exit)) (now (floats .exit)) r ⌝ }
 {
     match survey(case) {
         Surveyed::Refused(k) => Built::Refused(k),

@@ -1,4 +1,4 @@
--- What the exported function answers for each answer of `from_cells`.
+-- What the exported function answers, and leaves in its buffers.
 use Prim.Native.Nat.{ℕ}
 use mathlib.Core.Path.{_≡_}
 use mathlib.Core.Bool.{cond}
@@ -7,24 +7,18 @@ use lib.Dec.{ltb}
 use lib.ListN.{length, set}
 use lib.Ieee.{Float}
 use Rattle.arith.specs.declared.Vec3.{Vec3}
-use Rattle.reading.specs.Result.{Result}
+use Rattle.reading.specs.Result.{Result, refused, fine, refusalOf}
 use Rattle.area.specs.Tables.{Mesh}
-use Rattle.mesh.specs.Case.{Building}
-use Rattle.mesh.specs.declared.Built.{Built}
-use Rattle.mesh.specs.declared.Built.the-variants as Built
+use Rattle.area.specs.Layout.{meshIn}
+use Rattle.mesh.specs.Case.{sizesFor}
 
--- 0, or the refusal
-unfoldable pub numberOf : Built → ℕ
-numberOf (Built.Mesh s) = 0
-numberOf (Built.Refused k) = k
+-- the three sizes of a mesh with f slots, where there is room for them: F, its faces and its cells
+unfoldable pub sizesOf : ℕ → Result Mesh → List ℕ → List ℕ
+sizesOf f (refused k) l = l
+sizesOf f (fine m) l = cond (ltb (length l) 3) l (set (set (set l 0 f) 1 (length (m .faces))) 2 (length (m .cells)))
 
--- the three sizes of a mesh, where there is room for them
-unfoldable pub sizesOf : Built → List ℕ → List ℕ
-sizesOf (Built.Mesh s) l = cond (ltb (length l) 3) l (set (set (set l 0 (s .slots)) 1 (s .faces)) 2 (s .cells))
-sizesOf (Built.Refused k) l = l
-
-pub record Exported (m : Result Mesh) (ps : List Vec3) (words : List ℕ) (floats : List Float) (sizes sizes′ : List ℕ) (r : ℕ) : Type 0 where
-  pub built : Built
-  pub building : Building m ps words floats built
-  pub number : r ≡ numberOf built
-  pub stored : sizes′ ≡ sizesOf built sizes
+-- the number of the refusal or 0, the sizes, and the mesh that stands in the area by them
+pub record Exported (m : Result Mesh) (f : ℕ) (ps : List Vec3) (words : List ℕ) (floats : List Float) (sizes sizes′ : List ℕ) (r : ℕ) : Type 0 where
+  pub number : r ≡ refusalOf m
+  pub stored : sizes′ ≡ sizesOf f m sizes
+  pub stands : (t : Mesh) → m ≡ fine t → meshIn ps (sizesFor f t) words floats ≡ t

@@ -3,7 +3,7 @@ use mesh::Built;
 ghost use lib.ListN.{length};
 ghost use Rattle.casefile.specs.Trailer.{countsOf};
 ghost use Rattle.area.specs.Layout.{pointsIn};
-ghost use Rattle.mesh.specs.Case.{meshFrom};
+ghost use Rattle.mesh.specs.Case.{surveyOf, caseFaces, meshFrom};
 ghost use Rattle.mesh_exports.specs.Exported.{Exported};
 
 // Builds the mesh of a case in the lent area and answers 0, or the refusal. The sizes are the
@@ -15,7 +15,11 @@ pub extern "C" fn hookyellow_from_cells(
     floats: &mut [f64],
     sizes: &mut [usize],
 ) -> u64
-    ensures { λ r. ⌜ Exported (meshFrom (now (case .entry)) (length (now (words .entry))) (length (now (floats .entry)))) (pointsIn (now (case .entry)) (countsOf (now (case .entry)) .points)) (now (words .exit)) (now (floats .exit)) (now (sizes .entry)) (now (sizes .exit)) r ⌝ }
+    ensures { λ r. ⌜ Exported
+        (meshFrom (now (case .entry)) (length (now (words .entry))) (length (now (floats .entry))))
+        (caseFaces (surveyOf (now (case .entry))))
+        (pointsIn (now (case .entry)) (countsOf (now (case .entry)) .points)) (now (words .exit)) (now (floats .exit))
+        (now (sizes .entry)) (now (sizes .exit)) r ⌝ }
 {
     match mesh::from_cells(case, words, floats) {
         Built::Refused(k) => k,

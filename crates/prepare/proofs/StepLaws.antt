@@ -20,15 +20,14 @@ use Rattle.casefile.proofs.TrailerLaws.{opens}
 use Rattle.definitions.proofs.Walking.{length-definitions}
 use Rattle.area.specs.declared.Sizes.{Sizes}
 use Rattle.area.specs.Tables.{Mesh}
-use Rattle.area.specs.Layout.{pointsIn, meshIn, LentWords, LentFloats}
+use Rattle.area.specs.Layout.{pointsIn, meshIn}
 use Rattle.area.proofs.LayoutLaws.{length-cellsIn}
 use Rattle.mesh.specs.Mesh.{fromCells}
-use Rattle.mesh.specs.Case as mesh
-use Rattle.mesh.specs.Case.{Surveyed-case, surveyOf, areaShort, meshOf, Building, built}
+use Rattle.mesh.specs.Case.{Surveyed-case, surveyOf, areaShort, meshOf, Building}
 use Rattle.mesh.specs.Steps.{Buildable}
 use Rattle.mesh.specs.declared.Built.{Built}
 use Rattle.mesh.specs.declared.Built.the-variants as Built
-use Rattle.mesh.proofs.Laws.{Surveys, survey-right}
+use Rattle.mesh.proofs.Laws.{Surveys, survey-right, building-refused, building-mesh}
 use Rattle.locate.specs.declared.Grid.{Grid}
 use Rattle.polygons.specs.declared.Built as polygons
 use Rattle.polygons.specs.declared.Built.the-variants as Traced
@@ -154,19 +153,8 @@ module _ (case : List ℕ) (n : Counts) (s : Sizes) (w : List ℕ) (f : List Flo
 
 -- ---- 8 to 17
 
--- what `build` answers
-module _ {r : Result Mesh} {ps : List Vec3} {w : List ℕ} {f : List Float} where
-  building-refused : {x : Built} (k : ℕ) → Building r ps w f x → x ≡ Built.Refused k → r ≡ refused k
-  building-refused k (mesh.barred {k = j} e) g = let h : j ≡ k = cc in e ∙ ap refused h
-  building-refused k (built e lw lf) g = absurd (let z : _≡_ {A = ℕ} 0 1 = cc in omega arith)
-
-  building-mesh : {x : Built} (s : Sizes) → Building r ps w f x → x ≡ Built.Mesh s → (r ≡ fine (meshIn ps s w f)) × LentWords s w × LentFloats s f
-  building-mesh s (mesh.barred e) g = absurd (let z : _≡_ {A = ℕ} 0 1 = cc in omega arith)
-  building-mesh s (built {s = q} e lw lf) g =
-      let h : q ≡ s = cc in subst (λ (x : Sizes). (r ≡ fine (meshIn ps x w f)) × LentWords x w × LentFloats x f) h (e, lw, lf)
-
-module _ (case : List ℕ) (n : Counts) (defs : List Definition) (w : List ℕ) (f : List Float) (x : Built)
-    (b : Building (fromCells (n .dimension) (pointsIn case (n .points)) defs) (pointsIn case (n .points)) w f x) where
+module _ (case : List ℕ) (n : Counts) (defs : List Definition) (k : ℕ) (w : List ℕ) (f : List Float) (x : Built)
+    (b : Building (fromCells (n .dimension) (pointsIn case (n .points)) defs) k (pointsIn case (n .points)) w f x) where
   pub built-refused : (k : ℕ) → x ≡ Built.Refused k → Preparing (roomOf case (record { counts = n; definitions = defs })) case w f (Prepared.Refused k)
   unfolding roomOf meshOf _>>=_
   built-refused k e =
@@ -175,7 +163,7 @@ module _ (case : List ℕ) (n : Counts) (defs : List Definition) (w : List ℕ) 
   module _ (s : Sizes) (e : x ≡ Built.Mesh s) where
     pub built-room : roomFrom (n .dimension) (meshIn (pointsIn case (n .points)) s w f) ≡ roomOf case (record { counts = n; definitions = defs })
     unfolding roomOf meshOf _>>=_
-    built-room = rw (building-mesh s b e .0, _>>=_)
+    built-room = rw (building-mesh s b e .mesh, _>>=_)
 
     pub field-ready : opened case ≡ Case n → definitions (n .cells) (wordsOf case n) ≡ fine defs → FieldReady case n s w f
     unfolding meshIn
@@ -183,11 +171,11 @@ module _ (case : List ℕ) (n : Counts) (defs : List Definition) (w : List ℕ) 
         let p = building-mesh s b e in
         record {
           opens = o;
-          lent-words = p .1;
-          lent-floats = p .2;
-          cells = sym (length-cellsIn s w f) ∙ mesh-count (n .dimension) (n .cells) (pointsIn case (n .points)) (wordsOf case n) defs (meshIn (pointsIn case (n .points)) s w f) r (p .0) ∙ length-definitions (n .cells) (wordsOf case n) defs r;
-          few = mesh-few (n .dimension) (n .cells) (pointsIn case (n .points)) (wordsOf case n) defs (meshIn (pointsIn case (n .points)) s w f) r (p .0);
-          bounded = mesh-bounded (n .dimension) (n .cells) (pointsIn case (n .points)) (wordsOf case n) defs (meshIn (pointsIn case (n .points)) s w f) r (p .0);
+          lent-words = p .lent-words;
+          lent-floats = p .lent-floats;
+          cells = sym (length-cellsIn s w f) ∙ mesh-count (n .dimension) (n .cells) (pointsIn case (n .points)) (wordsOf case n) defs (meshIn (pointsIn case (n .points)) s w f) r (p .mesh) ∙ length-definitions (n .cells) (wordsOf case n) defs r;
+          few = mesh-few (n .dimension) (n .cells) (pointsIn case (n .points)) (wordsOf case n) defs (meshIn (pointsIn case (n .points)) s w f) r (p .mesh);
+          bounded = mesh-bounded (n .dimension) (n .cells) (pointsIn case (n .points)) (wordsOf case n) defs (meshIn (pointsIn case (n .points)) s w f) r (p .mesh);
         }
 
 -- the room of a definition is that of another

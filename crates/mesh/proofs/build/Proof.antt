@@ -3,8 +3,7 @@ use native.Mathlib.Omega.{arith}
 use Rattle.casefile.specs.Trailer.{wordsFrom}
 use Rattle.casefile.proofs.TrailerLaws.{opens}
 use Rattle.definitions.proofs.Walking.{length-definitions}
-use Rattle.mesh.specs.Case.{barred}
-use Rattle.mesh.proofs.Laws.{from-refused, from-filled, faces-few, length-wordsOf, words-same, built-as}
+use Rattle.mesh.proofs.Laws.{from-refused, from-filled, faces-few, length-wordsOf, words-same, built-as, barred}
 use borrow.Author.Needs.{needs}
 use Rattle.mesh.proofs.build.Statement.{statement}
 use Rattle.mesh.proofs.build.Tie as tie
@@ -39,7 +38,7 @@ fill-requires c κs =
 
 returns-2 : tie.Need-returns-2
 returns-2 c = λ defs e.
-    built-as (sym (from-filled _ defs _ _ (c .before .before .before .before .before .before .before .before .before .unacceptable .ensures defs (length-definitions _ _ _ e)) (c .before .before .before .before .before .before .before .before .if1 .left)))
+    built-as (sym (from-filled _ defs _ _ (c .before .before .before .before .before .before .before .before .before .unacceptable .ensures defs (length-definitions _ _ _ e)) (c .before .before .before .before .before .before .before .before .if1 .left))) refl
     (c .before .before .before .before .fill .ensures defs (rw (words-same _ _ (c .before .before .before .before .before .before .before .before .before .before .before .before .before .pre .opens) _ (c .before .before .before .before .before .before .before .words .ensures)) e))
 
 pub build-spec : {M : Type 1} → statement M

@@ -1,8 +1,7 @@
-use mathlib.Core.Path.{ap, _∙_}
+use mathlib.Core.Path.{refl, ap, _∙_}
 use Rattle.finish.proofs.HeldLaws.{held-finishable}
 use Rattle.mesh.specs.Mesh.{completed}
-use Rattle.mesh.specs.Case.{barred}
-use Rattle.mesh.proofs.Laws.{adding-refused, adding-faces, held-is, held-sized, lent-words, lent-floats, filled-refused, filled-fine, built-as}
+use Rattle.mesh.proofs.Laws.{adding-refused, adding-faces, held-is, held-sized, lent-words, lent-floats, filled-refused, filled-fine, built-as, barred}
 use borrow.Author.Needs.{needs}
 use Rattle.mesh.proofs.fill.Statement.{statement}
 use Rattle.mesh.proofs.fill.Tie as tie
@@ -27,7 +26,7 @@ returns c = λ defs e. barred (filled-refused _ defs _ _ (adding-refused _ (c .b
 returns-2 : tie.Need-returns-2
 returns-2 c = λ defs e.
     let a = adding-faces _ (c .before .before .before .before .before .before .before .before .before .before .before .before .before .before .add-cells .ensures defs e) (c .before .before .before .before .before .before .before .before .faces .given .1) in
-    built-as (ap (completed _ _) (held-is _ _ _ _ _ _ (a .held)) ∙ filled-fine _ defs _ _ (a .drafted)) (c .before .before .before .before .complete .ensures)
+    built-as (ap (completed _ _) (held-is _ _ _ _ _ _ (a .held)) ∙ filled-fine _ defs _ _ (a .drafted)) refl (c .before .before .before .before .complete .ensures)
 
 pub fill-spec : {M : Type 1} → statement M
 fill-spec =

@@ -1,7 +1,6 @@
-use mathlib.Core.Path.{sym}
+use mathlib.Core.Path.{sym, _∙_}
 use Rattle.casefile.proofs.TrailerLaws.{opens}
-use Rattle.mesh.specs.Case.{barred}
-use Rattle.mesh.proofs.Laws.{survey-case, survey-refused, faces-few, short-words, short-floats, long-enough, mesh-shut, built-as}
+use Rattle.mesh.proofs.Laws.{survey-case, survey-refused, faces-few, short-words, short-floats, long-enough, faces-all, mesh-shut, built-as, barred}
 use native.Mathlib.Omega.{arith}
 use borrow.Author.Needs.{needs}
 use Rattle.mesh.proofs.from_cells.Statement.{statement}
@@ -49,7 +48,7 @@ returns-4 c =
     let k = survey-case _ _ (c .before .before .before .before .before .before .before .before .before .before .before .before .before .before .survey .ensures) (c .before .before .before .before .before .before .before .before .before .before .before .before .n .given .1) in
     let o = opens _ _ (k .opens) in
     rw (← o .same)
-    (built-as (sym (long-enough _ _ (k .ds) (k .opens) (k .right) _ _ (rw (k .count) at (c .before .before .before .before .before .before .before .before .before .if1 .left)) (rw (k .count) at (c .before .before .before .before .before .before .before .if2 .left)))) (c .before .before .before .before .build .ensures (k .ds) (k .right)))
+    (built-as (sym (long-enough _ _ (k .ds) (k .opens) (k .right) _ _ (rw (k .count) at (c .before .before .before .before .before .before .before .before .before .if1 .left)) (rw (k .count) at (c .before .before .before .before .before .before .before .if2 .left)))) (k .count ∙ faces-all _ _ (k .ds) (k .opens) (k .right) 0 0) (c .before .before .before .before .build .ensures (k .ds) (k .right)))
 
 pub from-cells-spec : {M : Type 1} → statement M
 from-cells-spec =

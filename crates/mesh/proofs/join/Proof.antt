@@ -1,6 +1,5 @@
 use mathlib.Core.Path.{sym, _∙_}
-use Rattle.mesh.specs.Case.{barred}
-use Rattle.mesh.proofs.Laws.{join-16, joined-17, joined-mesh}
+use Rattle.mesh.proofs.Laws.{join-16, joined-17, joined-mesh, barred}
 use borrow.Author.Needs.{needs}
 use Rattle.mesh.proofs.join.Statement.{statement}
 use Rattle.mesh.proofs.join.Tie as tie

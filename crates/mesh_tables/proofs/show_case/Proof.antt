@@ -1,6 +1,6 @@
 -- `mesh_tables::show_case` is safe: a mesh that was built stands in the area. Assumes nothing.
 use borrow.Author.Needs.{needs}
-use Rattle.mesh_tables.proofs.Laws.{mesh-lent}
+use Rattle.mesh.proofs.Laws.{building-mesh}
 use Rattle.mesh_tables.proofs.show_case.Statement.{statement}
 use Rattle.mesh_tables.proofs.show_case.Tie as tie
 
@@ -29,7 +29,9 @@ enum-known-s : tie.Need-enum-known-s
 enum-known-s c = search needs
 
 show-mesh-requires : tie.Need-show-mesh-requires
-show-mesh-requires c κs = mesh-lent _ (c .before .before .before .before .before .before .before .before .before .from-cells .ensures) (c .before .before .before .s .given .1)
+show-mesh-requires c κs =
+    let p = building-mesh _ (c .before .before .before .before .before .before .before .before .before .from-cells .ensures) (c .before .before .before .s .given .1) in
+    (p .lent-words, p .lent-floats)
 
 same-length : tie.Need-same-length
 same-length c = search needs
