@@ -20,9 +20,9 @@ pub struct Limits {
 }
 
 // A side of a polygon: a vertex and the next one.
-pub struct Side {
-    pub from: Vec2,
-    pub to: Vec2,
+struct Side {
+    from: Vec2,
+    to: Vec2,
 }
 
 // The point whose x and y stand at `at`.

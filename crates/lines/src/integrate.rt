@@ -33,7 +33,7 @@ fn is_speed(x: f64) -> bool
 }
 
 // No option is refused.
-pub fn are_good(options: StreamlineOptions) -> bool
+pub(crate) fn are_good(options: StreamlineOptions) -> bool
     ensures { λ r. ⌜ r ≡ Line.areGood options ⌝ }
 {
     if is_length(options.step_size) {
@@ -47,7 +47,7 @@ pub fn are_good(options: StreamlineOptions) -> bool
 }
 
 // A point locates nowhere.
-pub fn is_nowhere(words: &[u32], floats: &[f64], s: Sizes, g: Grid, p: Vec3) -> bool
+pub(crate) fn is_nowhere(words: &[u32], floats: &[f64], s: Sizes, g: Grid, p: Vec3) -> bool
     requires { ⌜ LentWords s (now words) × LentFloats s (now floats) × Searchable g s (now words) (now floats) ⌝ }
     ensures { λ r. ⌜ r ≡ Line.nowhere (fieldIn g s (now (words .entry)) (now (floats .entry))) p ⌝ }
 {

@@ -1,6 +1,6 @@
 // Streamlines over a 2D case: `integrate` and `integrate_rake`.
 pub mod integrate;
-pub mod line;
+mod line;
 pub mod rake;
 
 pub enum StreamlineDirection {

@@ -1,9 +1,9 @@
 // The polygons of a 2D mesh's cells, and the bins that the cells are listed in, in the lent work area:
 // `StreamlineField::from_dataset`.
-pub mod bins;
-pub mod bounds;
+mod bins;
+mod bounds;
 pub mod build;
-pub mod corners;
+mod corners;
 
 use locate::Grid;
 

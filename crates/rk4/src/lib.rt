@@ -135,7 +135,7 @@ fn runge_kutta(
 }
 
 // The point a step of h after p, where it locates.
-pub fn rk4_step(
+fn rk4_step(
     case: &[u8],
     n: Counts,
     words: &[u32],
