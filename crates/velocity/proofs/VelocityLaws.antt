@@ -28,7 +28,7 @@ use Rattle.locate.specs.Field.{StreamlineField}
 use Rattle.locate.specs.Layout.{cellPolygonsIn, fieldIn}
 use Rattle.velocity.specs.declared.Vector.{Vector}
 use Rattle.velocity.specs.declared.Vector.the-variants.{Here, Nowhere}
-use Rattle.velocity.specs.Velocity.{locateIn, centreOf, neighboursOf, distance, nearerOf, blended, apart, beside, toward, velocityIn, velocityWhere, velocityAt, from, unit}
+use Rattle.velocity.specs.Velocity.{locateIn, centreOf, neighboursOf, distanceSquared, nearerOf, blended, apart, beside, toward, velocityIn, velocityWhere, velocityAt, from, unit}
 
 -- ---- what was found, and what was not
 
@@ -64,7 +64,7 @@ module _ (g : Grid) (s : Sizes) (w : List ℕ) (f : List Float) where
 
   -- ---- the nearest neighbour
 
-  module _ (p : Vec3) (best i : ℕ) (d e : Float) (t : Bool) (ed : d ≡ distance field p i) (ee : e ≡ distance field p best) (et : t ≡ nearer d e) where
+  module _ (p : Vec3) (best i : ℕ) (d e : Float) (t : Bool) (ed : d ≡ distanceSquared field p i) (ee : e ≡ distanceSquared field p best) (et : t ≡ nearer d e) where
     pub nearer-taken : t ≡ true → i ≡ nearerOf field p best i
     unfolding nearerOf
     nearer-taken h = rw (← ed, ← ee, ← et, h)

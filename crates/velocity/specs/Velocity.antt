@@ -30,12 +30,12 @@ unfoldable pub neighboursOf : StreamlineField → ℕ → List ℕ
 neighboursOf f i = cellAt (f .cells) i .neighbours
 
 -- the squared distance of a cell's centre from p
-unfoldable pub distance : StreamlineField → Vec3 → ℕ → Float
-distance f p i = normSquared (minus p (centreOf f i))
+unfoldable pub distanceSquared : StreamlineField → Vec3 → ℕ → Float
+distanceSquared f p i = normSquared (minus p (centreOf f i))
 
 -- "first of equal distances"
 unfoldable pub nearerOf : StreamlineField → Vec3 → ℕ → ℕ → ℕ
-nearerOf f p best i = cond (nearer (distance f p i) (distance f p best)) i best
+nearerOf f p best i = cond (nearer (distanceSquared f p i) (distanceSquared f p best)) i best
 
 -- from `base` toward `there`, by the fraction of p on the way from the centre along the offset
 unfoldable pub blended : Vec3 → Vec3 → Vec3 → Vec3 → Vec3 → Vec3

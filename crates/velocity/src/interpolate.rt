@@ -43,24 +43,24 @@ fn read_cell(case: &[u8], n: Counts, marks: &mut [u8], i: usize) -> Values
 }
 
 // The squared distance of cell i's centre from p.
-fn distance(floats: &[f64], s: Sizes, p: Vec3, i: usize) -> f64
+fn distance_squared(floats: &[f64], s: Sizes, p: Vec3, i: usize) -> f64
     requires { ⌜ LentFloats s (now floats) ⌝ }
-    ensures { λ r. ⌜ ((g : Grid) (words : List ℕ) → r ≡ Velocity.distance (fieldIn g s words (now (floats .entry))) p i) ⌝ }
+    ensures { λ r. ⌜ ((g : Grid) (words : List ℕ) → r ≡ Velocity.distanceSquared (fieldIn g s words (now (floats .entry))) p i) ⌝ }
 {
     p.sub(area::centre_of(floats, s, i)).norm_squared()
 }
 
-// The nearer one of two cells, with its distance; of equal distances the first.
+// The nearer one of two cells, with its squared distance; of equal distances the first.
 fn nearer_of(floats: &[f64], s: Sizes, p: Vec3, best: Near, i: usize) -> Near
-    requires { ⌜ LentFloats s (now floats) × ((g : Grid) (words : List ℕ) → best .distance ≡ Velocity.distance (fieldIn g s words (now floats)) p (best .cell)) ⌝ }
+    requires { ⌜ LentFloats s (now floats) × ((g : Grid) (words : List ℕ) → best .«distance_squared» ≡ Velocity.distanceSquared (fieldIn g s words (now floats)) p (best .cell)) ⌝ }
     ensures { λ r. ⌜ ((g : Grid) (words : List ℕ) → r .cell ≡ Velocity.nearerOf (fieldIn g s words (now (floats .entry))) p (best .cell) i)
-        × ((g : Grid) (words : List ℕ) → r .distance ≡ Velocity.distance (fieldIn g s words (now (floats .entry))) p (r .cell)) ⌝ }
+        × ((g : Grid) (words : List ℕ) → r .«distance_squared» ≡ Velocity.distanceSquared (fieldIn g s words (now (floats .entry))) p (r .cell)) ⌝ }
 {
-    let d = distance(floats, s, p, i);
-    if float::nearer(d, best.distance) {
+    let d = distance_squared(floats, s, p, i);
+    if float::nearer(d, best.distance_squared) {
         Near {
             cell: i,
-            distance: d,
+            distance_squared: d,
         }
     } else {
         best
@@ -78,7 +78,7 @@ fn nearest(words: &[u32], floats: &[f64], s: Sizes, p: Vec3, i: usize) -> usize
     let first = area::neighbour(words, s, i, 0);
     let mut best = Near {
         cell: first,
-        distance: distance(floats, s, p, first),
+        distance_squared: distance_squared(floats, s, p, first),
     };
     let mut k = 1;
     while k < count {

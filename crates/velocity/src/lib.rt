@@ -10,7 +10,7 @@ pub enum Vector {
 }
 
 // A cell, and the squared distance of its centre from a point.
-pub struct Near {
-    pub cell: usize,
-    pub distance: f64,
+struct Near {
+    cell: usize,
+    distance_squared: f64,
 }

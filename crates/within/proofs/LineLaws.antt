@@ -21,7 +21,7 @@ use Rattle.locate.specs.Locate.{locateWhere, locate}
 use Rattle.locate.specs.Field.{StreamlineField}
 use Rattle.velocity.specs.declared.Vector.{Vector}
 use Rattle.velocity.specs.declared.Vector.the-variants.{Here, Nowhere}
-use Rattle.velocity.specs.Velocity.{locateIn, neighboursOf, distance, nearerOf, beside, toward, velocityIn, velocityWhere, velocityAt, from, directionAt}
+use Rattle.velocity.specs.Velocity.{locateIn, neighboursOf, distanceSquared, nearerOf, beside, toward, velocityIn, velocityWhere, velocityAt, from, directionAt}
 use Rattle.rk4.specs.declared.Step.{Step}
 use Rattle.rk4.specs.declared.Step.the-variants.{Next, Ended}
 use Rattle.rk4.specs.declared.StreamlineOptions.{StreamlineOptions}
@@ -57,7 +57,7 @@ module _ (n : ℕ) (f : StreamlineField) (sound : Sound n f) where
 
   nearer-below : (p : Vec3) (j k : ℕ) → j < n → k < n → nearerOf f p j k < n
   unfolding nearerOf
-  nearer-below p j k a b = by (nearer (distance f p k) (distance f p j))
+  nearer-below p j k a b = by (nearer (distanceSquared f p k) (distanceSquared f p j))
     where
       by : (t : Bool) → cond t k j < n
       by true = b

@@ -1,5 +1,5 @@
 use Rattle.velocity.proofs.VelocityLaws.{nearest-turn, nearest-end, neighbours-in}
-use Rattle.velocity.specs.Velocity.{distance, nearerOf, neighboursOf}
+use Rattle.velocity.specs.Velocity.{distanceSquared, nearerOf, neighboursOf}
 use Rattle.locate.specs.Layout.{fieldIn}
 use Rattle.locate.specs.declared.Grid.{Grid}
 use Rattle.arith.specs.Lists.{foldl}
@@ -14,7 +14,7 @@ use Rattle.velocity.proofs.interpolate.nearest.Tie as tie
 abbrev Inv-loop : tie.InvT-loop
 Inv-loop words floats s p i count first best₀ k₀ best k =
     ((g : Grid) → foldl (nearerOf (fieldIn g s words floats) p) (best .cell) (drop k (neighboursOf (fieldIn g s words floats) i)) ≡ foldl (nearerOf (fieldIn g s words floats) p) (getD (neighboursOf (fieldIn g s words floats) i) 0 0) (drop 1 (neighboursOf (fieldIn g s words floats) i)))
-    × ((g : Grid) (words : List ℕ) → best .distance ≡ distance (fieldIn g s words floats) p (best .cell))
+    × ((g : Grid) (words : List ℕ) → best .«distance_squared» ≡ distanceSquared (fieldIn g s words floats) p (best .cell))
 
 abbrev μ-loop : tie.MeasureT-loop
 μ-loop words floats s p i count first best₀ k₀ best k = count - k
@@ -25,12 +25,12 @@ neighbour-count-requires c κs = search needs
 neighbour-requires : tie.Need-neighbour-requires Inv-loop μ-loop
 neighbour-requires c κs = search needs
 
-distance-requires : tie.Need-distance-requires Inv-loop μ-loop
-distance-requires c κs = search needs
+distance-squared-requires : tie.Need-distance-squared-requires Inv-loop μ-loop
+distance-squared-requires c κs = search needs
 
 loop-holds : tie.Need-loop-holds Inv-loop μ-loop
 loop-holds c =
-    (λ g. rw (c .before .neighbour .ensures .0 (c .before .before .before .before .before .args .floats .now), neighbours-in g _ _ _ _), λ g words. c .distance .ensures g words)
+    (λ g. rw (c .before .neighbour .ensures .0 (c .before .before .before .before .before .args .floats .now), neighbours-in g _ _ _ _), λ g words. c .distance-squared .ensures g words)
 
 neighbour-requires-2 : tie.Need-neighbour-requires-2 Inv-loop μ-loop
 neighbour-requires-2 c κs = search needs
@@ -61,7 +61,7 @@ nearest-spec =
     μ-loop
     neighbour-count-requires
     neighbour-requires
-    distance-requires
+    distance-squared-requires
     loop-holds
     neighbour-requires-2
     nearer-of-requires

@@ -1,8 +1,8 @@
 use Rattle.locate.specs.Layout.{fieldIn}
-use Rattle.velocity.specs.Velocity.{distance, centreOf}
+use Rattle.velocity.specs.Velocity.{distanceSquared, centreOf}
 use borrow.Author.Needs.{needs}
-use Rattle.velocity.proofs.interpolate.distance.Statement.{statement}
-use Rattle.velocity.proofs.interpolate.distance.Tie as tie
+use Rattle.velocity.proofs.interpolate.distance_squared.Statement.{statement}
+use Rattle.velocity.proofs.interpolate.distance_squared.Tie as tie
 
 centre-of-requires : tie.Need-centre-of-requires
 centre-of-requires c κs = search needs
@@ -14,8 +14,8 @@ norm-squared-requires : tie.Need-norm-squared-requires
 norm-squared-requires c κs = search needs
 
 returns : tie.Need-returns
-unfolding distance centreOf fieldIn
+unfolding distanceSquared centreOf fieldIn
 returns c = λ g words. rw (c .norm-squared .ensures, c .before .sub .ensures, c .before .before .centre-of .ensures words)
 
-pub distance-spec : {M : Type 1} → statement M
-distance-spec = tie.close (tie.spec centre-of-requires sub-requires norm-squared-requires returns)
+pub distance-squared-spec : {M : Type 1} → statement M
+distance-squared-spec = tie.close (tie.spec centre-of-requires sub-requires norm-squared-requires returns)
