@@ -34,7 +34,7 @@ use Rattle.lines.specs.declared.StreamlineDirection.{StreamlineDirection
 use Rattle.lines.specs.Line.{isNowhere, nowhere, lineAnswer}
 use Rattle.lines.specs.Rake.{seedAt, seeds, linesWords}
 use Rattle.lines.specs.Written.{Written}
-use Rattle.lines.specs.Answered.{Answered, tracedOf, readsOf, wordsOf}
+use Rattle.lines.specs.Answered.{Answered, resultOf, countOf, readsOf, wordsOf}
 use Rattle.writing.proofs.WordLaws.{sets-append, sets-set}
 use Rattle.lines.proofs.LineLaws.{give-then}
 
@@ -53,12 +53,12 @@ module _ (g : Grid) (s : Sizes) (w : List ℕ) (f : List Float) (p : Vec3) (r : 
 
 module _ {j : Result (Asks (List ℕ))} {f : ℕ → Values} {m o : List ℕ} where
   pub answered-refused : (k : ℕ) → j ≡ refused k → Answered j f m m o o (Refused k)
-  unfolding tracedOf readsOf wordsOf
+  unfolding resultOf countOf readsOf wordsOf
   answered-refused k e = record { result = rw e; marks = rw e; words = rw e }
 
   pub answered-fine : {m′ o′ : List ℕ} {r : ℕ} (t : Asks (List ℕ)) → j ≡ fine t → Written t f m m′ o o′ 0 r → Answered j f m m′ o o′ (Words r)
-  unfolding tracedOf readsOf wordsOf
-  answered-fine t e w = record { result = rw e (ap Words (w .count)); marks = rw e (w .marks); words = rw e (w .words) }
+  unfolding resultOf countOf readsOf wordsOf
+  answered-fine t e w = record { result = rw e (ap fine (w .count)); marks = rw e (w .marks); words = rw e (w .words) }
 
 -- the two refusals, whatever follows
 module _ {good : Bool} (lost : Bool) (t : Asks (List ℕ)) {a : Bool} (ea : a ≡ good) where

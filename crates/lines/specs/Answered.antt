@@ -11,10 +11,15 @@ use Rattle.reading.specs.Result.{Result, refused, fine}
 use Rattle.lines.specs.declared.Traced.{Traced}
 use Rattle.lines.specs.declared.Traced.the-variants.{Words, Refused}
 
--- the number of the refusal, or how many words the answer has
-unfoldable pub tracedOf : Result (Asks (List ℕ)) → (ℕ → Values) → Traced
-tracedOf (refused k) f = Refused k
-tracedOf (fine t) f = Words (length (run t f))
+-- what each case of the answer stands for: the number of its words, or 01's number of the refusal
+unfoldable pub resultOf : Traced → Result ℕ
+resultOf (Words n) = fine n
+resultOf (Refused k) = refused k
+
+-- how many words the answer has
+unfoldable pub countOf : Result (Asks (List ℕ)) → (ℕ → Values) → Result ℕ
+countOf (refused k) f = refused k
+countOf (fine t) f = fine (length (run t f))
 
 -- the cells that are read: none for a refusal
 unfoldable pub readsOf : Result (Asks (List ℕ)) → (ℕ → Values) → List ℕ
@@ -28,6 +33,6 @@ wordsOf (fine t) f = run t f
 
 -- the words stand from the first on, as far as they fit; a refusal changes neither marks nor words
 pub record Answered (j : Result (Asks (List ℕ))) (f : ℕ → Values) (m m′ o o′ : List ℕ) (r : Traced) : Type 0 where
-  pub result : r ≡ tracedOf j f
+  pub result : resultOf r ≡ countOf j f
   pub marks : m′ ≡ markAll m (readsOf j f)
   pub words : o′ ≡ sets o 0 (wordsOf j f)

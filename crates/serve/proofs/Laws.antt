@@ -39,7 +39,7 @@ use Rattle.lines.specs.declared.StreamlineDirection.{StreamlineDirection}
 use Rattle.lines.specs.Line.{integrate}
 use Rattle.lines.specs.Rake.{integrateRake}
 use Rattle.lines.specs.Answered as Lines
-use Rattle.lines.specs.Answered.{tracedOf, readsOf}
+use Rattle.lines.specs.Answered.{resultOf, countOf, readsOf}
 use Rattle.planes.specs.declared.Answered.{Answered}
 use Rattle.planes.specs.declared.Answered.the-variants as Answered
 use Rattle.planes.specs.Answers.{sectionOf, statisticsOf, integralsOf, probeOf}
@@ -74,16 +74,18 @@ module _ {f : ℕ → Values} {o m : List ℕ} where
 -- ---- a job over lines
 
 module _ (f : ℕ → Values) where
-  pub run-decided : (j : Result (Asks (List ℕ))) → answeredOf (run (decided j) f) ≡ elim (tracedOf j f) [ Traced.Words k ↦ Answered.Words k | Traced.Refused k ↦ Answered.Refused k ]
-  unfolding decided answeredOf tracedOf
+  pub run-decided : (j : Result (Asks (List ℕ))) → answeredOf (run (decided j) f) ≡ elim (countOf j f) [ fine k ↦ Answered.Words k | refused k ↦ Answered.Refused k ]
+  unfolding decided answeredOf countOf
   run-decided (refused n) = refl
   run-decided (fine t) = rw (run-bind t (λ ws. give (fine ws)) f)
 
-  pub traced-words : (j : Result (Asks (List ℕ))) (r : Traced) (k : ℕ) → r ≡ tracedOf j f → r ≡ Traced.Words k → Answered.Words k ≡ answeredOf (run (decided j) f)
-  traced-words j r k e h = rw (run-decided j, sym e ∙ h)
+  pub traced-words : (j : Result (Asks (List ℕ))) (r : Traced) (k : ℕ) → resultOf r ≡ countOf j f → r ≡ Traced.Words k → Answered.Words k ≡ answeredOf (run (decided j) f)
+  unfolding resultOf
+  traced-words j r k e h = rw (run-decided j, ← e, h)
 
-  pub traced-refused : (j : Result (Asks (List ℕ))) (r : Traced) (k : ℕ) → r ≡ tracedOf j f → r ≡ Traced.Refused k → Answered.Refused k ≡ answeredOf (run (decided j) f)
-  traced-refused j r k e h = rw (run-decided j, sym e ∙ h)
+  pub traced-refused : (j : Result (Asks (List ℕ))) (r : Traced) (k : ℕ) → resultOf r ≡ countOf j f → r ≡ Traced.Refused k → Answered.Refused k ≡ answeredOf (run (decided j) f)
+  unfolding resultOf
+  traced-refused j r k e h = rw (run-decided j, ← e, h)
 
   pub reads-decided : (j : Result (Asks (List ℕ))) → reads (decided j) f ≡ readsOf j f
   unfolding decided readsOf
@@ -96,7 +98,7 @@ module _ (f : ℕ → Values) where
   replied-decided o (fine t) = rw (run-bind t (λ ws. give (fine ws)) f)
 
   pub decided-replied : {j : Result (Asks (List ℕ))} {m m′ o o′ : List ℕ} {r : Traced} {a : Answered} → Lines.Answered j f m m′ o o′ r
-      → ((k : Result (Asks (List ℕ))) (h : ℕ → Values) → r ≡ tracedOf k h → a ≡ answeredOf (run (decided k) h)) → Replied (decided j) f o a o o′ m m′
+      → ((k : Result (Asks (List ℕ))) (h : ℕ → Values) → resultOf r ≡ countOf k h → a ≡ answeredOf (run (decided k) h)) → Replied (decided j) f o a o o′ m m′
   decided-replied {j} {m} {o} w e =
       record {
         result = e j f (w .result);
@@ -135,12 +137,12 @@ module _ {v : ℕ → Values} {o o′ m : List ℕ} where
       }
 
   pub streamline-reply : {m′ : List ℕ} (F : StreamlineField) (p : Vec3) (d : StreamlineDirection) (x : StreamlineOptions) (r : Traced) (a : Answered) → Lines.Answered (integrate F p d x) v m m′ o o′ r
-      → ((k : Result (Asks (List ℕ))) (h : ℕ → Values) → r ≡ tracedOf k h → a ≡ answeredOf (run (decided k) h)) → Replied (serveFlat F (Streamline p d x)) v o a o o′ m m′
+      → ((k : Result (Asks (List ℕ))) (h : ℕ → Values) → resultOf r ≡ countOf k h → a ≡ answeredOf (run (decided k) h)) → Replied (serveFlat F (Streamline p d x)) v o a o o′ m m′
   unfolding serveFlat
   streamline-reply F p d x r a w e = decided-replied v w e
 
   pub rake-reply : {m′ : List ℕ} (F : StreamlineField) (a b : Vec3) (n : ℕ) (d : StreamlineDirection) (x : StreamlineOptions) (r : Traced) (t : Answered) → Lines.Answered (integrateRake F a b n d x) v m m′ o o′ r
-      → ((k : Result (Asks (List ℕ))) (h : ℕ → Values) → r ≡ tracedOf k h → t ≡ answeredOf (run (decided k) h)) → Replied (serveFlat F (Rake a b n d x)) v o t o o′ m m′
+      → ((k : Result (Asks (List ℕ))) (h : ℕ → Values) → resultOf r ≡ countOf k h → t ≡ answeredOf (run (decided k) h)) → Replied (serveFlat F (Rake a b n d x)) v o t o o′ m m′
   unfolding serveFlat
   rake-reply F a b n d x r t w e = decided-replied v w e
 

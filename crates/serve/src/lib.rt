@@ -28,7 +28,7 @@ ghost use Rattle.area.specs.Layout.{LentWords, LentFloats, pointsIn, meshIn};
 ghost use Rattle.casefile.specs.Field.{valuesOf};
 ghost use Rattle.locate.specs.Layout.{fieldIn, Searchable};
 ghost use Rattle.velocity.specs.Ready as Tracer;
-ghost use Rattle.lines.specs.Answered.{tracedOf};
+ghost use Rattle.lines.specs.Answered.{resultOf, countOf};
 ghost use Rattle.samples.specs.Stream as Planes;
 ghost use Rattle.planes.specs.Reply.{answeredOf, Replied};
 ghost use Rattle.requests.specs.declared.Request.the-variants as Code;
@@ -66,7 +66,7 @@ fn put_velocity(r: Vector, out: &mut [u64])
 
 // How many words, or the refusal.
 fn answered(r: Traced) -> Answered
-    ensures { λ a. ⌜ ((j : Result (Asks (List ℕ))) (f : ℕ → Values) → r ≡ tracedOf j f → a ≡ answeredOf (run (Serve.decided j) f)) ⌝ }
+    ensures { λ a. ⌜ ((j : Result (Asks (List ℕ))) (f : ℕ → Values) → resultOf r ≡ countOf j f → a ≡ answeredOf (run (Serve.decided j) f)) ⌝ }
 {
     match r {
         Traced::Words(k) => Answered::Words(k),
