@@ -1,12 +1,12 @@
 -- One turn of the loops that collect a cell's points. Assumes nothing.
-use Prim.Native.Nat.{ℕ, _+_, _≤_, _<_}
+use Prim.Native.Nat.{ℕ, _+_, _-_, _≤_, _<_}
 use native.Mathlib.Omega.{arith}
 use mathlib.Core.Path.{_≡_, refl, sym, ap, ap₂, _∙_, fun-ext}
 use mathlib.Core.Logic.{⊎-elim}
 use mathlib.Core.Bool.{Bool, true, false, cond}
 use mathlib.Core.List.{List, [], _∷_, _++_}
 use lib.ListN.{length, getD, drop, set, length-append}
-use lib.Seq.{getD-set-same, getD-set-other}
+use lib.Seq.{getD-set-same, getD-set-other, drop-set-lt, drop-drop}
 use lib.Ieee.{Float, nan}
 use Rattle.arith.specs.Lists.{foldl, any, addNew}
 use Rattle.arith.specs.Records.{tab}
@@ -21,7 +21,7 @@ use Rattle.area.specs.Layout.{facesIn, cellsIn, meshIn, faceIn, cellIn}
 use Rattle.area.proofs.LayoutLaws.{face-in, face-out, cell-in, cell-out}
 use Rattle.locate.specs.Locate.{flat}
 use Rattle.polygons.specs.Corners.{alike, addCorner, addCorners, cornersOf}
-use Rattle.polygons.specs.Layout.{cornersIn}
+use Rattle.polygons.specs.Layout.{cornersIn, Collected}
 
 -- ---- the points collected so far
 
@@ -68,7 +68,7 @@ module _ (xs ys : List Float) (n : ℕ) (p : Vec2) (t : Bool) (e : t ≡ any (al
   pub push-fits : t ≡ false → length (addNew alike (cornersIn xs ys n) p) ≤ 24 → n < 24
   push-fits w h = omega (arith, rw (as-new w, length-append (cornersIn xs ys n) (p ∷ []), length-corners xs ys n) at h)
 
-  pub push-new : t ≡ false → n < length xs → n < length ys → cornersIn (set xs n (p .x)) (set ys n (p .y)) (n + 1) ≡ addNew alike (cornersIn xs ys n) p
+  push-new : t ≡ false → n < length xs → n < length ys → cornersIn (set xs n (p .x)) (set ys n (p .y)) (n + 1) ≡ addNew alike (cornersIn xs ys n) p
   push-new w lx ly = rw (as-new w) (unfold cornersIn in step)
     where
       pairs : List Float → List Float → ℕ → Vec2
@@ -81,6 +81,21 @@ module _ (xs ys : List Float) (n : ℕ) (p : Vec2) (t : Bool) (e : t ≡ any (al
           (tab-same (λ k. pair (getD (set xs n (p .x)) k nan) (getD (set ys n (p .y)) k nan)) (λ k. pair (getD xs k nan) (getD ys k nan)) n
           (λ k h. let ne : k ≡ n → ⊥ = λ q. omega arith in ap₂ pair (getD-set-other xs n k (p .x) nan ne) (getD-set-other ys n k (p .y) nan ne)))
           (ap₂ pair (getD-set-same xs n (p .x) nan lx) (getD-set-same ys n (p .y) nan ly))
+
+  pub pushed : t ≡ false → n < 24 → n < length xs → n < length ys → Collected (addNew alike (cornersIn xs ys n) p) xs (set xs n (p .x)) ys (set ys n (p .y)) (n + 1)
+  pushed w few lx ly =
+      record {
+        points = push-new w lx ly;
+        few = omega arith;
+        xs-behind = drop-set-lt (n + 1) xs n (p .x) (omega arith);
+        ys-behind = drop-set-lt (n + 1) ys n (p .y) (omega arith);
+      }
+
+-- what stood behind the first n still stands behind the first n′
+pub behind-more : (l₀ l l′ : List Float) (n n′ : ℕ) → n ≤ n′ → drop n l ≡ drop n l₀ → drop n′ l′ ≡ drop n′ l → drop n′ l′ ≡ drop n′ l₀
+behind-more l₀ l l′ n n′ h e e′ =
+    let more : n + (n′ - n) ≡ n′ = omega arith in
+    e′ ∙ simp (drop-drop, more) at (ap (drop (n′ - n)) e)
 
 -- ---- lists that only grow
 

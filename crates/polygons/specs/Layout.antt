@@ -2,7 +2,7 @@
 use Prim.Native.Nat.{ℕ, _+_, _≤_, _<_}
 use mathlib.Core.Path.{_≡_}
 use mathlib.Core.List.{List, map}
-use lib.ListN.{getD, take}
+use lib.ListN.{getD, take, drop}
 use lib.Ieee.{Float, nan}
 use Rattle.arith.specs.Records.{tab}
 use Rattle.arith.specs.Vec.{pair}
@@ -33,6 +33,13 @@ cornerIn xs ys k = pair (getD xs k nan) (getD ys k nan)
 
 unfoldable pub cornersIn : List Float → List Float → ℕ → List Vec2
 cornersIn xs ys n = tab (cornerIn xs ys) n
+
+-- the points of a list are the first n; what stands behind them is as it was
+pub record Collected (l : List Vec2) (xs xs′ ys ys′ : List Float) (n : ℕ) : Type 0 where
+  pub points : cornersIn xs′ ys′ n ≡ l
+  pub few : n ≤ 24
+  pub xs-behind : drop n xs′ ≡ drop n xs
+  pub ys-behind : drop n ys′ ≡ drop n ys
 
 -- the mesh's part of the area is as it was
 pub record Kept (s : Sizes) (w w′ : List ℕ) (f f′ : List Float) : Type 0 where

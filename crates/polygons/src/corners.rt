@@ -12,7 +12,7 @@ ghost use Rattle.area.specs.Layout.{LentWords, pointsIn, cellsIn, meshIn};
 ghost use Rattle.polygons.specs.Corners as Corners;
 ghost use Rattle.locate.specs.Locate.{flat};
 ghost use Rattle.polygons.specs.Corners.{addCorners, cornersOf};
-ghost use Rattle.polygons.specs.Layout.{cornersIn};
+ghost use Rattle.polygons.specs.Layout.{cornersIn, Collected};
 ghost use Rattle.area.specs.Tables.{pointAt};
 
 // p and (x, y) are equal.
@@ -41,7 +41,8 @@ fn contains(xs: &[f64], ys: &[f64], n: usize, p: Vec2) -> bool
 fn push(xs: &mut [f64], ys: &mut [f64], n: usize, p: Vec2) -> usize
     requires { ⌜ (n ≤ 24) × (length (now xs) ≡ 24) × (length (now ys) ≡ 24) ⌝ }
     requires { ⌜ (length (addNew Corners.alike (cornersIn (now xs) (now ys) n) p) ≤ 24) ⌝ }
-    ensures { λ r. ⌜ (cornersIn (now (xs .exit)) (now (ys .exit)) r ≡ addNew Corners.alike (cornersIn (now (xs .entry)) (now (ys .entry)) n) p) × (r ≤ 24) ⌝ }
+    ensures { λ r. ⌜ Collected (addNew Corners.alike (cornersIn (now (xs .entry)) (now (ys .entry)) n) p)
+        (now (xs .entry)) (now (xs .exit)) (now (ys .entry)) (now (ys .exit)) r × (n ≤ r) ⌝ }
 {
     if contains(xs, ys, n, p) {
         return n;
@@ -73,7 +74,9 @@ fn add_face(
 ) -> usize
     requires { ⌜ (points ≤ 65536) × (24 * points ≤ length (now case)) × LentWords s (now words) × (from ≤ 24) × (length (now xs) ≡ 24) × (length (now ys) ≡ 24) ⌝ }
     requires { ⌜ length (addCorners (meshIn (pointsIn (now case) points) s (now words) []) (cornersIn (now xs) (now ys) from) f) ≤ 24 ⌝ }
-    ensures { λ r. ⌜ (cornersIn (now (xs .exit)) (now (ys .exit)) r ≡ addCorners (meshIn (pointsIn (now (case .entry)) points) s (now (words .entry)) []) (cornersIn (now (xs .entry)) (now (ys .entry)) from) f) × (r ≤ 24) ⌝ }
+    ensures { λ r. ⌜ Collected (addCorners (meshIn (pointsIn (now (case .entry)) points) s (now (words .entry)) [])
+        (cornersIn (now (xs .entry)) (now (ys .entry)) from) f)
+        (now (xs .entry)) (now (xs .exit)) (now (ys .entry)) (now (ys .exit)) r × (from ≤ r) ⌝ }
 {
     let count = area::vertex_count(words, s, f);
     let mut n = from;
@@ -98,7 +101,9 @@ pub fn corners(
 ) -> usize
     requires { ⌜ (points ≤ 65536) × (24 * points ≤ length (now case)) × LentWords s (now words) × (length (now xs) ≡ 24) × (length (now ys) ≡ 24) ⌝ }
     requires { ⌜ length (cornersOf (meshIn (pointsIn (now case) points) s (now words) []) (cellAt (cellsIn s (now words) []) i)) ≤ 24 ⌝ }
-    ensures { λ r. ⌜ (cornersIn (now (xs .exit)) (now (ys .exit)) r ≡ cornersOf (meshIn (pointsIn (now (case .entry)) points) s (now (words .entry)) []) (cellAt (cellsIn s (now (words .entry)) []) i)) × (r ≤ 24) ⌝ }
+    ensures { λ r. ⌜ Collected (cornersOf (meshIn (pointsIn (now (case .entry)) points) s (now (words .entry)) [])
+        (cellAt (cellsIn s (now (words .entry)) []) i))
+        (now (xs .entry)) (now (xs .exit)) (now (ys .entry)) (now (ys .exit)) r ⌝ }
 {
     let count = area::face_count(words, s, i);
     let mut n = 0;

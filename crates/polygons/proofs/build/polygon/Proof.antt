@@ -22,7 +22,7 @@ same-length-3 : tie.Need-same-length-3
 same-length-3 c = search needs
 
 returns : tie.Need-returns
-returns c = placed _ _ _ _ _ _ _ _ _ _ (c .before .before .before .before .before .before .before .before .before .before .before .corners .ensures .0) (c .before .before .before .before .centre-of .ensures _) (c .before .before .sort-corners .ensures .0) (c .before .before .sort-corners .ensures .1) (c .before .before .before .before .before .before .before .before .before .before .before .corners .ensures .1)
+returns c = placed _ _ _ _ _ _ _ _ _ _ (c .before .before .before .before .before .before .before .before .before .before .before .corners .ensures .points) (c .before .before .before .before .centre-of .ensures _) (c .before .before .sort-corners .ensures .0) (c .before .before .sort-corners .ensures .1) (c .before .before .before .before .before .before .before .before .before .before .before .corners .ensures .few)
 
 pub polygon-spec : {M : Type 1} → statement M
 polygon-spec =

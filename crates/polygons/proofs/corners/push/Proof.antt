@@ -1,4 +1,5 @@
-use Rattle.polygons.proofs.CornerLaws.{push-had, push-fits, push-new}
+use Rattle.polygons.proofs.CornerLaws.{push-had, push-fits, pushed}
+use mathlib.Core.Path.{refl}
 use native.Mathlib.Omega.{arith}
 use borrow.Author.Needs.{needs}
 use Rattle.polygons.proofs.corners.push.Statement.{statement}
@@ -14,7 +15,15 @@ same-length-2 : tie.Need-same-length-2
 same-length-2 c = search needs
 
 returns : tie.Need-returns
-returns c = (push-had _ _ _ _ _ (c .before .contains .ensures) (c .if1 .taken), c .before .before .before .before .before .before .pre .0 .0)
+returns c = (
+  record {
+    points = push-had _ _ _ _ _ (c .before .contains .ensures) (c .if1 .taken);
+    few = search needs;
+    xs-behind = refl;
+    ys-behind = refl;
+  },
+  search needs,
+)
 
 mul-xs : tie.Need-mul-xs
 mul-xs c = search needs
@@ -38,7 +47,9 @@ same-length-4 : tie.Need-same-length-4
 same-length-4 c = search needs
 
 returns-2 : tie.Need-returns-2
-returns-2 c = let h = push-fits _ _ _ _ _ (c .before .contains .ensures) (c .if1 .left) (c .before .before .before .before .before .before .pre .1) in (push-new _ _ _ _ _ (c .before .contains .ensures) (c .if1 .left) (omega arith) (omega arith), omega arith)
+returns-2 c =
+    let h = push-fits _ _ _ _ _ (c .before .contains .ensures) (c .if1 .left) (c .before .before .before .before .before .before .pre .1) in
+    (pushed _ _ _ _ _ (c .before .contains .ensures) (c .if1 .left) h (omega arith) (omega arith), omega arith)
 
 pub push-spec : {M : Type 1} → statement M
 push-spec =
