@@ -1,10 +1,11 @@
--- One turn of the loop over the listed cells, and a cell that a point lies outside of by its limits. Assumes nothing.
-use Prim.Native.Nat.{ℕ, _+_, _≤_, _<_}
+-- The bin of a coordinate, one turn of the loop over the listed cells, and a cell that a point lies outside of by its limits. Assumes nothing.
+use Prim.Native.Nat.{ℕ, _+_, _%_, _≤_, _<_}
 use mathlib.Core.Path.{_≡_, sym, _∙_}
 use mathlib.Core.Bool.{Bool, true, false}
 use mathlib.Core.List.{List, []}
 use lib.ListN.{length, getD, drop}
 use lib.Ieee.{Float}
+use Rattle.arith.specs.F64.{_⊖_, _⊗_, _⊘_, clamp, ofℕ, floorℕ}
 use Rattle.arith.specs.Lists.{firstFrom}
 use Rattle.arith.specs.declared.Vec2.{Vec2}
 use Rattle.arith.specs.declared.Found.{Found}
@@ -13,13 +14,17 @@ use Rattle.arith.proofs.ListLaws.{first-here, first-next}
 use Rattle.arith.proofs.RecordLaws.{length-tab, getD-tab, drop-end}
 use Rattle.area.specs.declared.Sizes.{Sizes}
 use Rattle.locate.specs.declared.Bin.{Bin}
-use Rattle.locate.specs.Bins.{CellPolygon}
+use Rattle.locate.specs.Bins.{CellPolygon, binAlong}
 use Rattle.locate.specs.Locate.{holds}
 use Rattle.inside.specs.declared.Limits.{Limits}
 use Rattle.inside.specs.Contains.{contains}
 use Rattle.inside.specs.Extent.{limitsFrom, misses}
 use Rattle.inside.proofs.LimitLaws.{missed}
 use Rattle.locate.specs.Layout.{floatsAt, polygonIn, cellPolygonIn, cellPolygonsIn, Limited}
+
+pub bin-of : (low high a z : Float) (n k : ℕ) → z ≡ clamp ((a ⊖ low) ⊘ (high ⊖ low)) → k ≡ floorℕ (z ⊗ ofℕ n) → k % n ≡ binAlong low high n a
+unfolding binAlong
+bin-of low high a z n k ez ek = rw (ek, ez)
 
 module _ (s : Sizes) (words : List ℕ) (floats : List Float) where
   pub length-cellPolygons : length (cellPolygonsIn s words floats) ≡ s .cells

@@ -2,7 +2,7 @@ use mathlib.Core.Path.{sym, _∙_}
 use native.Mathlib.Nat.{mod-lt, mod-eq-of-lt}
 use native.Mathlib.Omega.{arith}
 use Rattle.arith.proofs.Counts.{whole-in}
-use Rattle.locate.specs.Bins.{binAlong}
+use Rattle.locate.proofs.LocateLaws.{bin-of}
 use borrow.Author.Needs.{needs}
 use Rattle.locate.proofs.bin_along.Statement.{statement}
 use Rattle.locate.proofs.bin_along.Tie as tie
@@ -20,12 +20,10 @@ rem-result : tie.Need-rem-result
 rem-result c = search needs
 
 returns : tie.Need-returns
-unfolding binAlong
-returns c = (sym (mod-eq-of-lt (c .if1 .taken)) ∙ rw (c .before .floor-usize .ensures, c .before .before .before .clamp .ensures), c .if1 .taken)
+returns c = (sym (mod-eq-of-lt (c .if1 .taken)) ∙ bin-of _ _ _ _ _ _ (c .before .before .before .clamp .ensures) (c .before .floor-usize .ensures), c .if1 .taken)
 
 returns-2 : tie.Need-returns-2
-unfolding binAlong
-returns-2 c = (rw (c .before .floor-usize .ensures, c .before .before .before .clamp .ensures), mod-lt _ (omega arith))
+returns-2 c = (bin-of _ _ _ _ _ _ (c .before .before .before .clamp .ensures) (c .before .floor-usize .ensures), mod-lt _ (omega arith))
 
 pub bin-along-spec : {M : Type 1} → statement M
 bin-along-spec =
