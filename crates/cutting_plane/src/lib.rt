@@ -20,9 +20,9 @@ pub struct Cut {
 }
 
 // The largest distance of a point from the plane's origin, and from (0, 0, 0).
-pub struct Reach {
-    pub span: f64,
-    pub location: f64,
+struct Reach {
+    span: f64,
+    location: f64,
 }
 
 // Whether some point lies in the plane, below it, above it.
