@@ -65,7 +65,14 @@ fn has(cut: Cut, p: Vec3, x: &[f64], y: &[f64], z: &[f64], n: usize) -> bool
 }
 
 // Adds p to the n points, unless one of them is p; how many there are then.
-pub fn add_new(cut: Cut, p: Vec3, x: &mut [f64], y: &mut [f64], z: &mut [f64], n: usize) -> usize
+pub(crate) fn add_new(
+    cut: Cut,
+    p: Vec3,
+    x: &mut [f64],
+    y: &mut [f64],
+    z: &mut [f64],
+    n: usize,
+) -> usize
     requires { ⌜ Holds (now x) (now y) (now z) (n + 1) ⌝ }
     ensures { λ r. ⌜ Listed (addNew (close cut) (heldIn (now (x .entry)) (now (y .entry)) (now (z .entry)) n) p) (now (x .exit)) (now (y .exit)) (now (z .exit)) r (n + 1) ⌝ }
 {

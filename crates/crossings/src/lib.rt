@@ -5,13 +5,13 @@ pub mod held;
 pub mod meetings;
 
 // An end of a side with its height over the plane.
-pub struct End {
-    pub point: Vec3,
-    pub height: f64,
+struct End {
+    point: Vec3,
+    height: f64,
 }
 
 // Where a side meets the plane.
-pub enum Meeting {
+enum Meeting {
     Point(Vec3),
     None,
 }

@@ -31,7 +31,7 @@ ghost use Rattle.casefile.specs.Trailer.{opened};
 ghost use Rattle.casefile.specs.Field.{valuesOf};
 
 // The values of cell i, which is marked as read.
-pub fn read(case: &[u8], n: Counts, marks: &mut [u8], i: usize) -> Values
+fn read(case: &[u8], n: Counts, marks: &mut [u8], i: usize) -> Values
     requires { ⌜ (opened (now case) ≡ Opened.Case n) × (i < length (now marks)) ⌝ }
     ensures { λ r. ⌜ (r ≡ valuesOf (now (case .entry)) i) × (now (marks .exit) ≡ set (now (marks .entry)) i 1) ⌝ }
 {

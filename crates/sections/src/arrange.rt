@@ -127,7 +127,7 @@ fn arrange_first(
 }
 
 // The n points of three slices, sorted by angle into three others.
-pub fn arrange(
+pub(crate) fn arrange(
     plane: Plane,
     centre: Vec3,
     px: &[f64],

@@ -1,8 +1,8 @@
 // Sections of a mesh by a plane: the piece that a plane cuts from one cell.
 use arith::Vec3;
 
-pub mod arrange;
-pub mod middle;
+mod arrange;
+mod middle;
 pub mod pieces;
 
 // The piece of a cell: its centre and how many vertices it has.

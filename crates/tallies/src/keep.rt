@@ -58,7 +58,7 @@ fn including(t: Sums, measure: f64, value: f64, flux: f64) -> Sums
 }
 
 // The sums with a sample of this measure and these values.
-pub fn add_sample(normal: Vec3, field: u64, t: Sums, measure: f64, v: Values) -> Summed
+fn add_sample(normal: Vec3, field: u64, t: Sums, measure: f64, v: Values) -> Summed
     requires { ⌜ t .used < 4294967296 ⌝ }
     ensures { λ r. ⌜ r ≡ summedOf (summingOf normal field t measure v) ⌝ }
 {
@@ -105,7 +105,7 @@ fn weighing(normal: Vec3, t: Integral, a: f64, v: Values) -> Integral
 }
 
 // The same, or that the sample is invalid.
-pub fn add_integral(normal: Vec3, t: Integral, a: f64, v: Values) -> Weighed
+fn add_integral(normal: Vec3, t: Integral, a: f64, v: Values) -> Weighed
     ensures { λ r. ⌜ r ≡ weighedOf (weighingOf normal t a v) ⌝ }
 {
     if fit(a, v) {

@@ -4,7 +4,7 @@ use reading::Values;
 
 pub mod keep;
 pub mod measures;
-pub mod write;
+mod write;
 
 // The running sums of `section_statistics_csv`.
 pub struct Sums {

@@ -51,7 +51,7 @@ fn area_vector(x: &[f64], y: &[f64], z: &[f64], n: usize) -> Vec3
 }
 
 // The polygon's area against the plane's normal.
-pub fn measure(normal: Vec3, x: &[f64], y: &[f64], z: &[f64], n: usize) -> f64
+pub(crate) fn measure(normal: Vec3, x: &[f64], y: &[f64], z: &[f64], n: usize) -> f64
     requires { ⌜ Holds (now x) (now y) (now z) n × (1 ≤ n) ⌝ }
     ensures { λ r. ⌜ r ≡ measureOf normal (heldIn (now (x .entry)) (now (y .entry)) (now (z .entry)) n) ⌝ }
 {
@@ -59,7 +59,7 @@ pub fn measure(normal: Vec3, x: &[f64], y: &[f64], z: &[f64], n: usize) -> f64
 }
 
 // The field's value in a sample.
-pub fn sample_scalar(normal: Vec3, field: u64, v: Values) -> f64
+pub(crate) fn sample_scalar(normal: Vec3, field: u64, v: Values) -> f64
     ensures { λ r. ⌜ r ≡ scalarOf normal field v ⌝ }
 {
     match field {
@@ -109,7 +109,7 @@ fn side_crosses(plane: Plane, q: Vec2, x: &[f64], y: &[f64], z: &[f64], n: usize
 }
 
 // q lies in the polygon of n points, by the even-odd rule.
-pub fn covers(plane: Plane, q: Vec2, x: &[f64], y: &[f64], z: &[f64], n: usize) -> bool
+pub(crate) fn covers(plane: Plane, q: Vec2, x: &[f64], y: &[f64], z: &[f64], n: usize) -> bool
     requires { ⌜ Holds (now x) (now y) (now z) n ⌝ }
     ensures { λ r. ⌜ r ≡ Probe.covers plane q (heldIn (now (x .entry)) (now (y .entry)) (now (z .entry)) n) ⌝ }
 {

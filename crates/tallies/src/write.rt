@@ -10,7 +10,7 @@ ghost use Rattle.crossings.specs.Work.{heldIn, Holds};
 ghost use Rattle.tallies.specs.Words.{sampleWords};
 
 // The n points of three slices, from `at` on.
-pub fn put_points(answers: &mut [u64], at: usize, x: &[f64], y: &[f64], z: &[f64], n: usize)
+fn put_points(answers: &mut [u64], at: usize, x: &[f64], y: &[f64], z: &[f64], n: usize)
     requires { ⌜ Holds (now x) (now y) (now z) n × (n ≤ 192) × (at < 2147483648) ⌝ }
     ensures { λ _. ⌜ now (answers .exit) ≡ sets (now (answers .entry)) at (pointWords (heldIn (now (x .entry)) (now (y .entry)) (now (z .entry)) n)) ⌝ }
 {
@@ -22,7 +22,7 @@ pub fn put_points(answers: &mut [u64], at: usize, x: &[f64], y: &[f64], z: &[f64
 }
 
 // A sample with its polygon in three slices, from `at` on; where the next one goes.
-pub fn put_sample(
+pub(crate) fn put_sample(
     answers: &mut [u64],
     at: usize,
     cell: usize,
