@@ -1,18 +1,18 @@
 -- Points held in three slices, as a list. Assumes nothing.
-use Prim.Native.Nat.{ℕ, _+_, _≤_, _<_}
+use Prim.Native.Nat.{ℕ, _+_, _-_, _≤_, _<_}
 use native.Mathlib.Omega.{arith}
-use mathlib.Core.Path.{_≡_, ap₂, sym, _∙_}
+use mathlib.Core.Path.{_≡_, refl, ap, ap₂, sym, _∙_}
 use mathlib.Core.Bool.{Bool, true, false}
 use mathlib.Core.List.{List, [], _∷_, _++_}
 use lib.ListN.{length, drop}
-use lib.Seq.{getD-set-same, getD-set-other}
+use lib.Seq.{getD-set-same, getD-set-other, drop-set-lt, drop-drop}
 use lib.Ieee.{Float, nan}
 use Rattle.arith.specs.Lists.{foldl, any, addNew, Side, windows}
 use Rattle.arith.specs.Records.{tab}
 use Rattle.arith.specs.declared.Vec3.{Vec3}
 use Rattle.cutting_plane.proofs.Turns.{Here, Past, window-turn}
 use Rattle.arith.proofs.RecordLaws.{length-tab, drop-tab, tab-next, tab-same}
-use Rattle.crossings.specs.Work.{pointIn, heldIn, Holds, Stored, Listed}
+use Rattle.crossings.specs.Work.{pointIn, heldIn, Holds, Stored, Rest, Listed}
 
 module _ (x y z : List Float) (n : ℕ) where
   pub length-held : length (heldIn x y z n) ≡ n
@@ -49,17 +49,47 @@ module _ {x y z x′ y′ z′ : List Float} (n : ℕ) {p : Vec3} (room : Holds 
       tab-next (pointIn x′ y′ z′) n
       ∙ ap₂ (λ a b. a ++ b ∷ []) (tab-same (pointIn x′ y′ z′) (pointIn x y z) n stored-other) stored-at
 
+-- ---- what stands behind the points
+
+pub rest-same : {x y z : List Float} {n : ℕ} → Rest x y z x y z n
+rest-same = record { of-x = refl; of-y = refl; of-z = refl }
+
+pub rest-stored : {x y z x′ y′ z′ : List Float} {n k : ℕ} {p : Vec3} → n < k → Stored x y z x′ y′ z′ n p → Rest x y z x′ y′ z′ k
+rest-stored {x} {y} {z} {n = n} {k = k} {p = p} h s =
+    record {
+      of-x = rw (s .of-x) (drop-set-lt k x n (p .x) h);
+      of-y = rw (s .of-y) (drop-set-lt k y n (p .y) h);
+      of-z = rw (s .of-z) (drop-set-lt k z n (p .z) h);
+    }
+
+pub rest-as : {x y z x′ y′ z′ : List Float} {n k : ℕ} → n ≡ k → Rest x y z x′ y′ z′ n → Rest x y z x′ y′ z′ k
+rest-as {x} {y} {z} {x′} {y′} {z′} e h = mathlib.Core.Path.subst (λ (t : ℕ). Rest x y z x′ y′ z′ t) e h
+
+later : (a b : List Float) (n k : ℕ) → n ≤ k → drop n a ≡ drop n b → drop k a ≡ drop k b
+later a b n k h e =
+    let d : n + (k - n) ≡ k = omega arith in
+    ap (λ (i : ℕ). drop i a) (sym d) ∙ sym (drop-drop (k - n) n a) ∙ ap (drop (k - n)) e ∙ drop-drop (k - n) n b ∙ ap (λ (i : ℕ). drop i b) d
+
+pub rest-then : {x y z x′ y′ z′ x″ y″ z″ : List Float} {n k : ℕ} → n ≤ k → Rest x y z x′ y′ z′ n → Rest x′ y′ z′ x″ y″ z″ k → Rest x y z x″ y″ z″ k
+rest-then {n = n} {k = k} h a b =
+    record {
+      of-x = b .of-x ∙ later _ _ n k h (a .of-x);
+      of-y = b .of-y ∙ later _ _ n k h (a .of-y);
+      of-z = b .of-z ∙ later _ _ n k h (a .of-z);
+    }
+
 -- ---- the point is added, unless one is like it
 
 module _ (like : Vec3 → Vec3 → Bool) (p : Vec3) {t : Bool} where
-  pub kept-old : (x y z : List Float) (n : ℕ) → t ≡ any (like p) (heldIn x y z n) → t ≡ true → Listed (addNew like (heldIn x y z n) p) x y z n (n + 1)
+  pub kept-old : (x y z : List Float) (n : ℕ) → t ≡ any (like p) (heldIn x y z n) → t ≡ true → Listed (addNew like (heldIn x y z n) p) x y z x y z n n (n + 1)
   unfolding addNew
-  kept-old x y z n e h = record { list = rw (sym e ∙ h); few = omega arith }
+  kept-old x y z n e h = record { list = rw (sym e ∙ h); more = omega arith; few = omega arith; rest = rest-same }
 
   pub added-new : {x y z x′ y′ z′ : List Float} (n : ℕ) → t ≡ any (like p) (heldIn x y z n) → t ≡ false → Holds x y z (n + 1) →
-      Stored x y z x′ y′ z′ n p → Listed (addNew like (heldIn x y z n) p) x′ y′ z′ (n + 1) (n + 1)
+      Stored x y z x′ y′ z′ n p → Listed (addNew like (heldIn x y z n) p) x y z x′ y′ z′ n (n + 1) (n + 1)
   unfolding addNew
-  added-new n e h room s = record { list = rw (sym e ∙ h) (held-more n room s); few = omega arith }
+  added-new n e h room s =
+      record { list = rw (sym e ∙ h) (held-more n room s); more = omega arith; few = omega arith; rest = rest-stored (omega arith) s }
 
 -- a point and the next one
 module _ {B : Type 0} (f : B → Side Vec3 → B) (x y z : List Float) (n i : ℕ) (more : i + 1 < n) where

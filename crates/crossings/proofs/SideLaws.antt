@@ -81,10 +81,10 @@ side-added m c l f k j n a b ea eb ej en = rw (ea, eb, ej, en)
 
 -- ---- lists in slices
 
-pub listed-as : {l k : List Vec3} {x y z : List Float} {n most : ℕ} → l ≡ k → Listed l x y z n most → Listed k x y z n most
-listed-as e h = record { list = h .list ∙ e; few = h .few }
+pub listed-as : {l k : List Vec3} {x y z x′ y′ z′ : List Float} {from n most : ℕ} → l ≡ k → Listed l x y z x′ y′ z′ from n most → Listed k x y z x′ y′ z′ from n most
+listed-as e h = record { list = h .list ∙ e; more = h .more; few = h .few; rest = h .rest }
 
 -- one turn: a list that is extended, while the rest waits
-pub listed-turn : {A : Type 0} {l : List A} {i : ℕ} {a : A} (g : Here l i a) (f : List Vec3 → A → List Vec3) (k : List Vec3) {w : List Vec3} {x y z : List Float} (n : ℕ) {most : ℕ} →
-    foldl f k (drop i l) ≡ w → Listed (f k a) x y z n most → foldl f (heldIn x y z n) (drop (i + 1) l) ≡ w
+pub listed-turn : {A : Type 0} {l : List A} {i : ℕ} {a : A} (g : Here l i a) (f : List Vec3 → A → List Vec3) (k : List Vec3) {w : List Vec3} {x y z x′ y′ z′ : List Float} {from : ℕ} (n : ℕ) {most : ℕ} →
+    foldl f k (drop i l) ≡ w → Listed (f k a) x y z x′ y′ z′ from n most → foldl f (heldIn x′ y′ z′ n) (drop (i + 1) l) ≡ w
 listed-turn g f k n inv h = fold-turn g f k inv (h .list)

@@ -3,7 +3,7 @@ use Prim.Native.Nat.{ℕ, _≤_}
 use mathlib.Core.Path.{_≡_}
 use mathlib.Core.Bool.{cond}
 use mathlib.Core.List.{List}
-use lib.ListN.{length, getD, set}
+use lib.ListN.{length, drop, getD, set}
 use lib.Ieee.{Float, nan}
 use Rattle.arith.specs.Lists.{Side, after}
 use Rattle.arith.specs.Records.{tab}
@@ -38,10 +38,18 @@ pub record Stored (x y z x′ y′ z′ : List Float) (i : ℕ) (p : Vec3) : Typ
   pub of-y : y′ ≡ set y i (p .y)
   pub of-z : z′ ≡ set z i (p .z)
 
--- the list `l` stands in the slices, n of it, at most `most`
-pub record Listed (l : List Vec3) (x y z : List Float) (n most : ℕ) : Type 0 where
-  pub list : heldIn x y z n ≡ l
+-- from n on the slices are as they were
+pub record Rest (x y z x′ y′ z′ : List Float) (n : ℕ) : Type 0 where
+  pub of-x : drop n x′ ≡ drop n x
+  pub of-y : drop n y′ ≡ drop n y
+  pub of-z : drop n z′ ≡ drop n z
+
+-- the list `l` stands in the slices, n of it where there were `from`, at most `most`; behind it they are as they were
+pub record Listed (l : List Vec3) (x y z x′ y′ z′ : List Float) (from n most : ℕ) : Type 0 where
+  pub list : heldIn x′ y′ z′ n ≡ l
+  pub more : from ≤ n
   pub few : n ≤ most
+  pub rest : Rest x y z x′ y′ z′ n
 
 -- ---- a mesh
 

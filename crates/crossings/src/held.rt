@@ -74,7 +74,8 @@ pub(crate) fn add_new(
     n: usize,
 ) -> usize
     requires { ⌜ Holds (now x) (now y) (now z) (n + 1) ⌝ }
-    ensures { λ r. ⌜ Listed (addNew (close cut) (heldIn (now (x .entry)) (now (y .entry)) (now (z .entry)) n) p) (now (x .exit)) (now (y .exit)) (now (z .exit)) r (n + 1) ⌝ }
+    ensures { λ r. ⌜ Listed (addNew (close cut) (heldIn (now (x .entry)) (now (y .entry)) (now (z .entry)) n) p)
+        (now (x .entry)) (now (y .entry)) (now (z .entry)) (now (x .exit)) (now (y .exit)) (now (z .exit)) n r (n + 1) ⌝ }
 {
     if has(cut, p, x, y, z, n) {
         return n;

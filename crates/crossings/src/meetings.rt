@@ -86,7 +86,8 @@ fn add_meeting(
     n: usize,
 ) -> usize
     requires { ⌜ TrueHeight cut a × TrueHeight cut b × Holds (now x) (now y) (now z) (n + 1) ⌝ }
-    ensures { λ r. ⌜ Listed (addMeeting cut (heldIn (now (x .entry)) (now (y .entry)) (now (z .entry)) n) (a .point) (b .point)) (now (x .exit)) (now (y .exit)) (now (z .exit)) r (n + 1) ⌝ }
+    ensures { λ r. ⌜ Listed (addMeeting cut (heldIn (now (x .entry)) (now (y .entry)) (now (z .entry)) n) (a .point) (b .point))
+        (now (x .entry)) (now (y .entry)) (now (z .entry)) (now (x .exit)) (now (y .exit)) (now (z .exit)) n r (n + 1) ⌝ }
 {
     let m = meeting(cut, a, b);
     match m {
@@ -121,7 +122,9 @@ fn add_face(
 ) -> usize
     requires { ⌜ Lent (now case) points s (now words) × Holds (now x) (now y) (now z) (from + 8) ⌝ }
     requires { ⌜ length (faceAt (bare (now case) points s (now words) .faces) f .vertices) ≤ 8 ⌝ }
-    ensures { λ r. ⌜ Listed (addFace (bare (now (case .entry)) points s (now (words .entry))) cut (heldIn (now (x .entry)) (now (y .entry)) (now (z .entry)) from) f) (now (x .exit)) (now (y .exit)) (now (z .exit)) r (from + 8) ⌝ }
+    ensures { λ r. ⌜ Listed (addFace (bare (now (case .entry)) points s (now (words .entry))) cut
+        (heldIn (now (x .entry)) (now (y .entry)) (now (z .entry)) from) f)
+        (now (x .entry)) (now (y .entry)) (now (z .entry)) (now (x .exit)) (now (y .exit)) (now (z .exit)) from r (from + 8) ⌝ }
 {
     let count = area::vertex_count(words, s, f);
     let mut n = from;
@@ -150,7 +153,9 @@ pub fn meetings(
 ) -> usize
     requires { ⌜ Lent (now case) points s (now words) × Holds (now x) (now y) (now z) 192 ⌝ }
     requires { ⌜ Bounded (bare (now case) points s (now words)) ⌝ }
-    ensures { λ r. ⌜ Listed (meetings (bare (now (case .entry)) points s (now (words .entry))) cut (cellAt (bare (now (case .entry)) points s (now (words .entry)) .cells) cell .faces)) (now (x .exit)) (now (y .exit)) (now (z .exit)) r 192 ⌝ }
+    ensures { λ r. ⌜ Listed (meetings (bare (now (case .entry)) points s (now (words .entry))) cut
+        (cellAt (bare (now (case .entry)) points s (now (words .entry)) .cells) cell .faces))
+        (now (x .entry)) (now (y .entry)) (now (z .entry)) (now (x .exit)) (now (y .exit)) (now (z .exit)) 0 r 192 ⌝ }
 {
     let count = area::face_count(words, s, cell);
     let mut n = 0;

@@ -69,7 +69,7 @@ module _ (c : Cut) (f : ℕ → Values) (t : Tally) (cell : ℕ) (centre : Vec3)
 
 -- ---- one cell
 
-module _ (c : Cut) (f : ℕ → Values) (mesh : Mesh) (cell : ℕ) (piece : Piece) (x y z : List Float) (t : Tally) (o m : List ℕ) (p : Pieced mesh c cell piece x y z) where
+module _ (c : Cut) (f : ℕ → Values) (mesh : Mesh) (cell : ℕ) (piece : Piece) {x₀ y₀ z₀ : List Float} (x y z : List Float) (t : Tally) (o m : List ℕ) (p : Pieced mesh c cell piece x₀ y₀ z₀ x y z) where
   pub step-of : (centre : Vec3) (k : ℕ) (r : Tallied) (o′ m′ : List ℕ) → piece ≡ Of centre k → Stepped (stream c f (cellIn cell centre k x y z ∷ []) t o m) t r o′ m′ →
       Stepped (stream c f (pieceOf mesh c cell (cellAt (mesh .cells) cell)) t o m) t r o′ m′
   unfolding pieceIn
@@ -84,7 +84,7 @@ module _ (c : Cut) (f : ℕ → Values) (mesh : Mesh) (cell : ℕ) (piece : Piec
       rw (← w) (record { streamed = of-record _ _ _ _ (stream-nil c f t o m); grown = omega arith })
 
 -- what is known of the piece
-module _ {mesh : Mesh} {c : Cut} {cell : ℕ} {piece : Piece} {x y z : List Float} (p : Pieced mesh c cell piece x y z) where
+module _ {mesh : Mesh} {c : Cut} {cell : ℕ} {piece : Piece} {x₀ y₀ z₀ x y z : List Float} (p : Pieced mesh c cell piece x₀ y₀ z₀ x y z) where
   pub piece-few : (centre : Vec3) (k : ℕ) → piece ≡ Of centre k → k ≤ 192
   unfolding verticesOf
   piece-few centre k e = rw e at (p .few)

@@ -9,6 +9,7 @@ use lib.ListN.{length, drop}
 use lib.Ieee.{Float}
 use borrow.Author.Tests.{lt-leb, le-leb}
 use Rattle.arith.specs.Lists.{foldl, any, only, sort, sidesWith, sides, windows}
+use Rattle.arith.specs.Records.{tab}
 use Rattle.arith.specs.declared.Vec3.{Vec3}
 use Rattle.arith.proofs.All.{All, all-append}
 use Rattle.arith.proofs.RecordLaws.{lt-or-ge}
@@ -18,15 +19,15 @@ use Rattle.area.specs.Layout.{meshIn, facesIn, cellsIn, faceIn, cellIn, meshWor
 use Rattle.area.proofs.LayoutLaws.{face-in, face-out, cell-in, cell-out}
 use Rattle.cutting_plane.specs.declared.Cut.{Cut}
 use Rattle.cutting_plane.specs.declared.Signs.{Signs}
-use Rattle.crossings.proofs.HeldLaws.{held-left}
+use Rattle.crossings.proofs.HeldLaws.{held-left, length-held, rest-same, rest-as}
 use Rattle.sections.specs.declared.Piece.{Piece}
 use Rattle.sections.specs.declared.Piece.the-variants.{Of, Empty}
 use Rattle.cutting_plane.specs.Cut.{near, below, above}
 use Rattle.crossings.specs.Crossings.{rises, parted, addEnd, addBetween, addMeeting, onPlane, foreign, addSide, addFace, meetings}
 use Rattle.sections.specs.Intersect.{earlierOn, addArea, areaOf, middle, wide, pieceAbout, pieceOf}
-use Rattle.crossings.specs.Work.{heldIn, pointIn, Bounded}
+use Rattle.crossings.specs.Work.{heldIn, pointIn, Rest, Bounded}
 use Rattle.cutting_plane.specs.Work.{signWith, addSign, faceSigns, signsOf, noSigns, mayMeet, bare}
-use Rattle.sections.specs.Work.{pieceIn, verticesOf, PiecedAbout, Pieced}
+use Rattle.sections.specs.Work.{pieceIn, verticesOf, arrangedAbout, arrangedOf, Laid, PiecedAbout, Pieced}
 
 -- ---- the area of a polygon, from the first point
 
@@ -38,41 +39,64 @@ area-start x y z n o h e =
 
 -- ---- the piece of some points
 
-module _ (c : Cut) (l : List Vec3) (x y z : List Float) (n : ℕ) (len : n ≡ length l) where
-  pub piece-few : n < 3 → PiecedAbout c l Empty x y z
-  unfolding pieceAbout pieceIn only verticesOf
-  piece-few h = record { piece = λ cell. rw (← len, lt-leb 3 n h); few = omega arith; full = tt }
+pub laid-nil : (x y z : List Float) → Laid [] x y z x y z
+unfolding heldIn tab
+laid-nil x y z = record { list = refl; rest = rest-same }
 
-  module _ (centre : Vec3) (ec : centre ≡ middle l) (el : heldIn x y z n ≡ sort (earlierOn (c .plane) centre) l) (three : 3 ≤ n) (t : Bool) (et : t ≡ wide c (heldIn x y z n)) where
-    pub piece-wide : t ≡ true → n ≤ 192 → PiecedAbout c l (Of centre n) x y z
+laid-first : {l : List Vec3} {x y z x′ y′ z′ : List Float} (n : ℕ) → heldIn x′ y′ z′ n ≡ l → Rest x y z x′ y′ z′ n → Laid l x y z x′ y′ z′
+laid-first {l} {x} {y} {z} {x′} {y′} {z′} n e h =
+    let k : n ≡ length l = sym (length-held x′ y′ z′ n) ∙ ap length e in
+    record { list = rw k at e; rest = rest-as k h }
+
+module _ (c : Cut) (l : List Vec3) (n : ℕ) (len : n ≡ length l) where
+  pub piece-few : (x y z : List Float) → n < 3 → PiecedAbout c l Empty x y z x y z
+  unfolding pieceAbout arrangedAbout pieceIn only verticesOf
+  piece-few x y z h =
+      record {
+        piece = λ cell. rw (← len, lt-leb 3 n h);
+        few = omega arith;
+        full = tt;
+        laid = rw (← len, lt-leb 3 n h) (laid-nil x y z);
+      }
+
+  module _ {x₀ y₀ z₀ x y z : List Float} (centre : Vec3) (ec : centre ≡ middle l) (el : heldIn x y z n ≡ sort (earlierOn (c .plane) centre) l) (er : Rest x₀ y₀ z₀ x y z n)
+      (three : 3 ≤ n) (t : Bool) (et : t ≡ wide c (heldIn x y z n)) where
+    laid-all : Laid (arrangedAbout c l) x₀ y₀ z₀ x y z
+    unfolding arrangedAbout
+    laid-all = rw (← len, le-leb 3 n three, ← ec) (laid-first n el er)
+
+    pub piece-wide : t ≡ true → n ≤ 192 → PiecedAbout c l (Of centre n) x₀ y₀ z₀ x y z
     unfolding pieceAbout pieceIn only verticesOf
     piece-wide h b =
         record {
           piece = λ cell. rw (← ec, ← el, ← len, le-leb 3 n three, sym et ∙ h);
           few = b;
           full = three;
+          laid = laid-all;
         }
 
-    pub piece-flat : t ≡ false → PiecedAbout c l Empty x y z
+    pub piece-flat : t ≡ false → PiecedAbout c l Empty x₀ y₀ z₀ x y z
     unfolding pieceAbout pieceIn only verticesOf
     piece-flat h =
         record {
           piece = λ cell. rw (← ec, ← el, ← len, le-leb 3 n three, sym et ∙ h);
           few = omega arith;
           full = tt;
+          laid = laid-all;
         }
 
 -- ---- the piece of a cell
 
-module _ (m : Mesh) (c : Cut) (cell : ℕ) (x y z : List Float) where
-  pub piece-foreign : (t : Bool) → t ≡ any (foreign m c cell) (cellAt (m .cells) cell .faces) → t ≡ true → Pieced m c cell Empty x y z
-  unfolding pieceOf pieceIn verticesOf
-  piece-foreign t e h = record { piece = rw (sym e ∙ h); few = omega arith; full = tt }
+module _ (m : Mesh) (c : Cut) (cell : ℕ) where
+  pub piece-foreign : (x y z : List Float) (t : Bool) → t ≡ any (foreign m c cell) (cellAt (m .cells) cell .faces) → t ≡ true → Pieced m c cell Empty x y z x y z
+  unfolding pieceOf arrangedOf pieceIn verticesOf
+  piece-foreign x y z t e h = record { piece = rw (sym e ∙ h); few = omega arith; full = tt; laid = rw (sym e ∙ h) (laid-nil x y z) }
 
-  pub piece-met : (t : Bool) (l : List Vec3) (r : Piece) → t ≡ any (foreign m c cell) (cellAt (m .cells) cell .faces) → t ≡ false →
-      l ≡ meetings m c (cellAt (m .cells) cell .faces) → PiecedAbout c l r x y z → Pieced m c cell r x y z
-  unfolding pieceOf
-  piece-met t l r e h el p = record { piece = rw (sym e ∙ h, ← el) (p .piece cell); few = p .few; full = p .full }
+  pub piece-met : {x₀ y₀ z₀ x y z : List Float} (t : Bool) (l : List Vec3) (r : Piece) → t ≡ any (foreign m c cell) (cellAt (m .cells) cell .faces) → t ≡ false →
+      l ≡ meetings m c (cellAt (m .cells) cell .faces) → PiecedAbout c l r x₀ y₀ z₀ x y z → Pieced m c cell r x₀ y₀ z₀ x y z
+  unfolding pieceOf arrangedOf
+  piece-met t l r e h el p =
+      record { piece = rw (sym e ∙ h, ← el) (p .piece cell); few = p .few; full = p .full; laid = rw (sym e ∙ h, ← el) (p .laid) }
 
 -- ---- by its signs
 
@@ -166,12 +190,17 @@ module _ (m : Mesh) (c : Cut) where
       (λ a. none-met (λ p. (near c p ≡ false) × (above c p ≡ false)) not-above fs (all-without (λ p. near c p ≡ false) (λ p. above c p ≡ false) fs (n .1) (signs-clear (λ g. g .above) (above c) (λ g p. unfold signWith in refl) noSigns fs a .1)))
       (and-false (foldl (faceSigns m c) noSigns fs .below) (foldl (faceSigns m c) noSigns fs .above) (r .1))
 
-  pub piece-unmet : (cell : ℕ) (x y z : List Float) (t : Bool) → t ≡ mayMeet (signsOf m c cell) → t ≡ false → Pieced m c cell Empty x y z
-  unfolding pieceOf pieceAbout pieceIn only verticesOf
+  pub piece-unmet : (cell : ℕ) (x y z : List Float) (t : Bool) → t ≡ mayMeet (signsOf m c cell) → t ≡ false → Pieced m c cell Empty x y z x y z
+  unfolding pieceOf pieceAbout arrangedOf arrangedAbout pieceIn only verticesOf
   piece-unmet cell x y z t e h =
-      record { piece = rw (unmet cell (sym e ∙ h)) (by (any (foreign m c cell) (cellAt (m .cells) cell .faces))); few = omega arith; full = tt }
+      record {
+        piece = rw (unmet cell (sym e ∙ h)) (sym (by (any (foreign m c cell) (cellAt (m .cells) cell .faces))));
+        few = omega arith;
+        full = tt;
+        laid = rw (unmet cell (sym e ∙ h), by (any (foreign m c cell) (cellAt (m .cells) cell .faces))) (laid-nil x y z);
+      }
     where
-      by : {A : Type 0} (b : Bool) → [] ≡ cond {A = List A} b [] []
+      by : {A : Type 0} (b : Bool) → cond {A = List A} b [] [] ≡ []
       by true = refl
       by false = refl
 
@@ -213,6 +242,12 @@ module _ (points : List Vec3) (s : Sizes) (words : List ℕ) (floats : List Floa
     unfolding pieceOf meetings
     same-piece cell = rw (same-foreign cell, same-addFace) (unfold meshIn in rw (same-faces cell))
 
+    pub same-arranged : (cell : ℕ) →
+        arrangedOf (meshIn points s words floats) c cell (cellAt (meshIn points s words floats .cells) cell)
+        ≡ arrangedOf (meshIn points s words []) c cell (cellAt (meshIn points s words [] .cells) cell)
+    unfolding arrangedOf meetings
+    same-arranged cell = rw (same-foreign cell, same-addFace) (unfold meshIn in rw (same-faces cell))
+
   pub same-bounds : Bounded (meshIn points s words floats) → Bounded (meshIn points s words [])
   unfolding meshIn
   same-bounds b =
@@ -221,8 +256,13 @@ module _ (points : List Vec3) (s : Sizes) (words : List ℕ) (floats : List Floa
         few-vertices = λ f. rw (← same-vertices f) (b .few-vertices f);
       }
 
-pub pieced-any : (case : List ℕ) (n : ℕ) (s : Sizes) (words : List ℕ) (c : Cut) (cell : ℕ) (r : Piece) (x y z : List Float) → Pieced (bare case n s words) c cell r x y z →
-    (floats : List Float) → Pieced (meshIn (pointsIn case n) s words floats) c cell r x y z
+pub pieced-any : (case : List ℕ) (n : ℕ) (s : Sizes) (words : List ℕ) (c : Cut) (cell : ℕ) (r : Piece) {x y z x′ y′ z′ : List Float} → Pieced (bare case n s words) c cell r x y z x′ y′ z′ →
+    (floats : List Float) → Pieced (meshIn (pointsIn case n) s words floats) c cell r x y z x′ y′ z′
 unfolding bare
-pieced-any case n s words c cell r x y z p floats =
-    record { piece = p .piece ∙ sym (same-piece (pointsIn case n) s words floats c cell); few = p .few; full = p .full }
+pieced-any case n s words c cell r p floats =
+    record {
+      piece = p .piece ∙ sym (same-piece (pointsIn case n) s words floats c cell);
+      few = p .few;
+      full = p .full;
+      laid = rw (same-arranged (pointsIn case n) s words floats c cell) (p .laid);
+    }

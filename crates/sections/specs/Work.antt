@@ -1,21 +1,25 @@
 -- The words of the contracts: a piece with its polygon in three slices, and points sorted by their angles.
 use Prim.Native.Nat.{ℕ, _+_, _≤_, _<_}
 use mathlib.Core.Path.{_≡_}
+use mathlib.Core.Bool.{cond}
 use mathlib.Core.List.{List, [], _∷_}
+use lib.Dec.{leb}
 use lib.ListN.{length, getD}
 use lib.Ieee.{Float, nan}
+use Rattle.arith.specs.Lists.{any, sort}
 use Rattle.arith.specs.Vec.{minus}
 use Rattle.arith.specs.Angle.{angleOf}
 use Rattle.arith.specs.declared.Angle.{Angle}
 use Rattle.arith.specs.declared.Vec3.{Vec3}
-use Rattle.area.specs.Tables.{Mesh, cellAt}
+use Rattle.area.specs.Tables.{Mesh, Cell, cellAt}
 use Rattle.cutting_plane.specs.declared.Cut.{Cut}
 use Rattle.cutting_plane.specs.declared.Plane.{Plane}
 use Rattle.cutting_plane.specs.Plane.{along}
-use Rattle.crossings.specs.Work.{heldIn, Holds}
+use Rattle.crossings.specs.Crossings.{foreign, meetings}
+use Rattle.crossings.specs.Work.{heldIn, Holds, Rest}
 use Rattle.sections.specs.declared.Piece.{Piece}
 use Rattle.sections.specs.declared.Piece.the-variants.{Of, Empty}
-use Rattle.sections.specs.Intersect.{PlaneCell, pieceAbout, pieceOf, middle}
+use Rattle.sections.specs.Intersect.{PlaneCell, earlierOn, pieceAbout, pieceOf, middle}
 
 -- ---- the piece that was found, with its polygon in the slices
 
@@ -33,17 +37,31 @@ abbrev pub Full : Piece → Type 0
 Full (Of centre n) = 3 ≤ n
 Full Empty = Unit
 
+-- three points or more are arranged before their area is known, so that they stand in the slices where there is no piece too
+unfoldable pub arrangedAbout : Cut → List Vec3 → List Vec3
+arrangedAbout c l = cond (leb 3 (length l)) (sort (earlierOn (c .plane) (middle l)) l) []
+
+unfoldable pub arrangedOf : Mesh → Cut → ℕ → Cell → List Vec3
+arrangedOf m c cell k = cond (any (foreign m c cell) (k .faces)) [] (arrangedAbout c (meetings m c (k .faces)))
+
+-- the points l stand at the front of the slices; behind them the slices are as they were
+pub record Laid (l : List Vec3) (x y z x′ y′ z′ : List Float) : Type 0 where
+  pub list : heldIn x′ y′ z′ (length l) ≡ l
+  pub rest : Rest x y z x′ y′ z′ (length l)
+
 -- the piece is that of the points l, and has at most 192 vertices
-pub record PiecedAbout (c : Cut) (l : List Vec3) (r : Piece) (x y z : List Float) : Type 0 where
-  pub piece : (cell : ℕ) → pieceIn cell r x y z ≡ pieceAbout c cell l (middle l)
+pub record PiecedAbout (c : Cut) (l : List Vec3) (r : Piece) (x y z x′ y′ z′ : List Float) : Type 0 where
+  pub piece : (cell : ℕ) → pieceIn cell r x′ y′ z′ ≡ pieceAbout c cell l (middle l)
   pub few : verticesOf r ≤ 192
   pub full : Full r
+  pub laid : Laid (arrangedAbout c l) x y z x′ y′ z′
 
 -- the piece is that of a cell of the mesh
-pub record Pieced (m : Mesh) (c : Cut) (cell : ℕ) (r : Piece) (x y z : List Float) : Type 0 where
-  pub piece : pieceIn cell r x y z ≡ pieceOf m c cell (cellAt (m .cells) cell)
+pub record Pieced (m : Mesh) (c : Cut) (cell : ℕ) (r : Piece) (x y z x′ y′ z′ : List Float) : Type 0 where
+  pub piece : pieceIn cell r x′ y′ z′ ≡ pieceOf m c cell (cellAt (m .cells) cell)
   pub few : verticesOf r ≤ 192
   pub full : Full r
+  pub laid : Laid (arrangedOf m c cell (cellAt (m .cells) cell)) x y z x′ y′ z′
 
 -- ---- points sorted by their angles
 

@@ -12,7 +12,7 @@ ghost use lib.ListN.{length, getD, take};
 ghost use Rattle.arith.specs.Lists as Lists;
 ghost use Rattle.arith.specs.Records.{tab};
 ghost use Rattle.sections.specs.Intersect.{earlierOn};
-ghost use Rattle.crossings.specs.Work.{pointIn, heldIn, Holds};
+ghost use Rattle.crossings.specs.Work.{pointIn, heldIn, Holds, Rest};
 ghost use Rattle.sections.specs.Work.{angleOn, Angled, Gathered};
 
 // The angle of p about the centre, in the plane's axes.
@@ -59,7 +59,9 @@ fn gather(
     z: &mut [f64],
 )
     requires { ⌜ Gathered (now px) (now py) (now pz) (now places) × Holds (now x) (now y) (now z) (length (now places)) ⌝ }
-    ensures { λ _. ⌜ heldIn (now (x .exit)) (now (y .exit)) (now (z .exit)) (length (now (places .entry))) ≡ tab (λ i. pointIn (now (px .entry)) (now (py .entry)) (now (pz .entry)) (getD (now (places .entry)) i 0)) (length (now (places .entry))) ⌝ }
+    ensures { λ _. ⌜ (heldIn (now (x .exit)) (now (y .exit)) (now (z .exit)) (length (now (places .entry)))
+        ≡ tab (λ i. pointIn (now (px .entry)) (now (py .entry)) (now (pz .entry)) (getD (now (places .entry)) i 0)) (length (now (places .entry))))
+        × Rest (now (x .entry)) (now (y .entry)) (now (z .entry)) (now (x .exit)) (now (y .exit)) (now (z .exit)) (length (now (places .entry))) ⌝ }
 {
     let mut i = 0;
     while i < places.len() {
@@ -85,7 +87,10 @@ fn arrange_by(
 )
     requires { ⌜ Holds (now px) (now py) (now pz) (length (now quarters)) × Holds (now x) (now y) (now z) (length (now quarters)) ⌝ }
     requires { ⌜ (length (now slopes) ≡ length (now quarters)) × (length (now places) ≡ length (now quarters)) ⌝ }
-    ensures { λ _. ⌜ heldIn (now (x .exit)) (now (y .exit)) (now (z .exit)) (length (now (quarters .entry))) ≡ Lists.sort (earlierOn plane centre) (heldIn (now (px .entry)) (now (py .entry)) (now (pz .entry)) (length (now (quarters .entry)))) ⌝ }
+    ensures { λ _. ⌜ (heldIn (now (x .exit)) (now (y .exit)) (now (z .exit)) (length (now (quarters .entry)))
+        ≡ Lists.sort (earlierOn plane centre)
+        (heldIn (now (px .entry)) (now (py .entry)) (now (pz .entry)) (length (now (quarters .entry)))))
+        × Rest (now (x .entry)) (now (y .entry)) (now (z .entry)) (now (x .exit)) (now (y .exit)) (now (z .exit)) (length (now (quarters .entry))) ⌝ }
 {
     angles_of(plane, centre, px, py, pz, quarters, slopes);
     sort::sort_by_angle(quarters, slopes, places);
@@ -109,7 +114,9 @@ fn arrange_first(
 )
     requires { ⌜ Holds (now px) (now py) (now pz) n × Holds (now x) (now y) (now z) n ⌝ }
     requires { ⌜ (n ≤ length (now quarters)) × (n ≤ length (now slopes)) × (n ≤ length (now places)) ⌝ }
-    ensures { λ _. ⌜ heldIn (now (x .exit)) (now (y .exit)) (now (z .exit)) n ≡ Lists.sort (earlierOn plane centre) (heldIn (now (px .entry)) (now (py .entry)) (now (pz .entry)) n) ⌝ }
+    ensures { λ _. ⌜ (heldIn (now (x .exit)) (now (y .exit)) (now (z .exit)) n
+        ≡ Lists.sort (earlierOn plane centre) (heldIn (now (px .entry)) (now (py .entry)) (now (pz .entry)) n))
+        × Rest (now (x .entry)) (now (y .entry)) (now (z .entry)) (now (x .exit)) (now (y .exit)) (now (z .exit)) n ⌝ }
 {
     arrange_by(
         plane,
@@ -139,7 +146,9 @@ pub(crate) fn arrange(
     z: &mut [f64],
 )
     requires { ⌜ Holds (now px) (now py) (now pz) n × Holds (now x) (now y) (now z) n × (n ≤ 192) ⌝ }
-    ensures { λ _. ⌜ heldIn (now (x .exit)) (now (y .exit)) (now (z .exit)) n ≡ Lists.sort (earlierOn plane centre) (heldIn (now (px .entry)) (now (py .entry)) (now (pz .entry)) n) ⌝ }
+    ensures { λ _. ⌜ (heldIn (now (x .exit)) (now (y .exit)) (now (z .exit)) n
+        ≡ Lists.sort (earlierOn plane centre) (heldIn (now (px .entry)) (now (py .entry)) (now (pz .entry)) n))
+        × Rest (now (x .entry)) (now (y .entry)) (now (z .entry)) (now (x .exit)) (now (y .exit)) (now (z .exit)) n ⌝ }
 {
     let mut quarters = [0u64; 192];
     let mut slopes = [0.0; 192];

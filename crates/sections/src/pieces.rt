@@ -37,7 +37,8 @@ fn piece_about(
     z: &mut [f64],
 ) -> Piece
     requires { ⌜ Holds (now px) (now py) (now pz) n × Holds (now x) (now y) (now z) n × (n ≤ 192) ⌝ }
-    ensures { λ r. ⌜ PiecedAbout cut (heldIn (now (px .entry)) (now (py .entry)) (now (pz .entry)) n) r (now (x .exit)) (now (y .exit)) (now (z .exit)) ⌝ }
+    ensures { λ r. ⌜ PiecedAbout cut (heldIn (now (px .entry)) (now (py .entry)) (now (pz .entry)) n) r
+        (now (x .entry)) (now (y .entry)) (now (z .entry)) (now (x .exit)) (now (y .exit)) (now (z .exit)) ⌝ }
 {
     if n < 3 {
         return Piece::Empty;
@@ -65,7 +66,8 @@ fn cut_cell(
 ) -> Piece
     requires { ⌜ Lent (now case) points s (now words) × Holds (now x) (now y) (now z) 192 ⌝ }
     requires { ⌜ Bounded (bare (now case) points s (now words)) ⌝ }
-    ensures { λ r. ⌜ Pieced (bare (now (case .entry)) points s (now (words .entry))) cut cell r (now (x .exit)) (now (y .exit)) (now (z .exit)) ⌝ }
+    ensures { λ r. ⌜ Pieced (bare (now (case .entry)) points s (now (words .entry))) cut cell r
+        (now (x .entry)) (now (y .entry)) (now (z .entry)) (now (x .exit)) (now (y .exit)) (now (z .exit)) ⌝ }
 {
     if meetings::has_foreign(case, points, words, s, cut, cell) {
         return Piece::Empty;
@@ -91,7 +93,8 @@ pub fn piece_of(
 ) -> Piece
     requires { ⌜ Lent (now case) points s (now words) × Holds (now x) (now y) (now z) 192 ⌝ }
     requires { ⌜ Bounded (bare (now case) points s (now words)) ⌝ }
-    ensures { λ r. ⌜ ((floats : List Float) → Pieced (meshIn (pointsIn (now (case .entry)) points) s (now (words .entry)) floats) cut cell r (now (x .exit)) (now (y .exit)) (now (z .exit))) ⌝ }
+    ensures { λ r. ⌜ ((floats : List Float) → Pieced (meshIn (pointsIn (now (case .entry)) points) s (now (words .entry)) floats) cut cell r
+        (now (x .entry)) (now (y .entry)) (now (z .entry)) (now (x .exit)) (now (y .exit)) (now (z .exit))) ⌝ }
 {
     if heights::may_meet(case, points, words, s, cut, cell) {
         cut_cell(case, points, words, s, cut, cell, x, y, z)

@@ -8,23 +8,24 @@ use Rattle.arith.specs.Records.{tab}
 use Rattle.area.specs.Tables.{cellAt}
 use Rattle.crossings.specs.Crossings.{addFace, meetings}
 use Rattle.cutting_plane.specs.Work.{bare}
-use Rattle.crossings.specs.Work.{heldIn}
+use Rattle.crossings.specs.Work.{heldIn, Rest}
 use Rattle.cutting_plane.proofs.Turns.{fold-done}
 use Rattle.cutting_plane.proofs.MeshLaws.{faces-left, faces-past}
+use Rattle.crossings.proofs.HeldLaws.{rest-same, rest-then}
 use Rattle.crossings.proofs.SideLaws.{few-faces, listed-turn}
 use borrow.Author.Needs.{needs}
 use Rattle.crossings.proofs.meetings.meetings.Statement.{statement}
 use Rattle.crossings.proofs.meetings.meetings.Tie as tie
 
 abbrev Inv-loop : tie.InvT-loop
-Inv-loop case points words s cut cell x₀ y₀ z₀ count n₀ j₀ x y z n j = (j ≤ count) × (n ≤ 8 * j) × (length x ≡ length x₀) × (length y ≡ length y₀) × (length z ≡ length z₀) × (foldl (addFace (bare case points s words) cut) (heldIn x y z n) (drop j (cellAt (bare case points s words .cells) cell .faces)) ≡ meetings (bare case points s words) cut (cellAt (bare case points s words .cells) cell .faces))
+Inv-loop case points words s cut cell x₀ y₀ z₀ count n₀ j₀ x y z n j = (j ≤ count) × (n ≤ 8 * j) × Rest x₀ y₀ z₀ x y z n × (length x ≡ length x₀) × (length y ≡ length y₀) × (length z ≡ length z₀) × (foldl (addFace (bare case points s words) cut) (heldIn x y z n) (drop j (cellAt (bare case points s words .cells) cell .faces)) ≡ meetings (bare case points s words) cut (cellAt (bare case points s words .cells) cell .faces))
 
 abbrev μ-loop : tie.MeasureT-loop
 μ-loop case points words s cut cell x₀ y₀ z₀ count n₀ j₀ x y z n j = count - j
 
 loop-holds : tie.Need-loop-holds Inv-loop μ-loop
 unfolding meetings heldIn tab
-loop-holds c = (search needs, search needs, refl, refl, refl, refl)
+loop-holds c = (search needs, search needs, rest-same, refl, refl, refl, refl)
 
 add-face-requires : tie.Need-add-face-requires Inv-loop μ-loop
 add-face-requires c κs =
@@ -40,14 +41,14 @@ loop-again c =
     let a = c .before .before .before .before .before .before .before .before .before .before .before .before .before .before .before .before .before .before .before .args in
     let i = c .before .before .before .before .before .before .before .before .before .before .before .before .loop .inv in
     let g = faces-left (a .case .now) (a .points) (a .s) (a .words .now) (a .cell) (c .before .before .before .before .before .before .before .before .before .before .before .before .before .face-count .result) (c .before .before .before .before .before .before .before .before .before .before .before .before .before .face-count .ensures .0 []) (c .before .before .before .before .before .before .before .before .before .before .before .before .loop .j) _ (c .before .before .before .before .before .before .before .before .before .before .cell-face .ensures .0 []) (c .before .before .before .before .before .before .before .before .before .before .before .loop-test .taken) in
-    (omega arith, omega (arith, c .before .before .before .before .before .before .add-face .ensures .few), search needs, search needs, search needs, listed-turn g _ _ _ (i .5) (c .before .before .before .before .before .before .add-face .ensures))
+    (omega arith, omega (arith, c .before .before .before .before .before .before .add-face .ensures .few), rest-then (c .before .before .before .before .before .before .add-face .ensures .more) (i .2) (c .before .before .before .before .before .before .add-face .ensures .rest), search needs, search needs, search needs, listed-turn g _ _ _ (i .6) (c .before .before .before .before .before .before .add-face .ensures))
 
 returns : tie.Need-returns Inv-loop μ-loop
 returns c =
     let a = c .before .before .before .before .before .before .before .before .args in
     let i = c .before .loop .inv in
     let few = few-faces (a .case .now) (a .points) (a .s) (a .words .now) (a .cell) (c .before .before .face-count .result) (c .before .before .face-count .ensures .0 []) (c .before .before .before .before .before .before .before .before .pre .1) in
-    record { list = fold-done (faces-past (a .case .now) (a .points) (a .s) (a .words .now) (a .cell) (c .before .before .face-count .result) (c .before .before .face-count .ensures .0 []) (c .before .loop .j) (c .loop-test .left)) _ _ (i .5); few = omega arith }
+    record { list = fold-done (faces-past (a .case .now) (a .points) (a .s) (a .words .now) (a .cell) (c .before .before .face-count .result) (c .before .before .face-count .ensures .0 []) (c .before .loop .j) (c .loop-test .left)) _ _ (i .6); more = omega arith; few = omega arith; rest = i .2 }
 
 pub meetings-spec : {M : Type 1} → statement M
 meetings-spec =

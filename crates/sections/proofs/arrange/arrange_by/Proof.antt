@@ -1,6 +1,6 @@
 use mathlib.Core.Path.{ap, sym, _∙_}
 use Rattle.arith.specs.Sort.{sortedPlaces}
-use Rattle.crossings.proofs.HeldLaws.{holds-as}
+use Rattle.crossings.proofs.HeldLaws.{holds-as, rest-as}
 use Rattle.sections.proofs.AngleLaws.{sorted-within, arranged}
 use borrow.Author.Needs.{needs}
 use Rattle.sections.proofs.arrange.arrange_by.Statement.{statement}
@@ -14,7 +14,7 @@ gather-requires c κs =
 returns : tie.Need-returns
 returns c =
     let p = c .before .before .before .before .before .before .before .before .before .before .before .before .before .before .before .before .before .before .before .before .before .before .before .before .before .before .before .before .before .before .before .before .before .pre in
-    arranged _ _ _ _ _ _ _ _ _ _ _ _ (c .before .before .before .before .before .before .before .before .before .before .before .before .before .before .before .before .before .before .before .before .before .angles-of .ensures) (c .before .before .before .before .before .before .before .before .before .before .before .before .before .sort-by-angle .ensures .0 ∙ ap (λ k. sortedPlaces (c .before .before .before .before .before .before .before .before .before .before .before .before .before .before .before .before .before .before .before .before .before .angles-of .last .1 .1 .1 .1 .1 .0) (c .before .before .before .before .before .before .before .before .before .before .before .before .before .before .before .before .before .before .before .before .before .angles-of .last .1 .1 .1 .1 .1 .1 .0) k) (c .before .before .before .before .before .before .before .before .before .before .before .before .before .before .before .before .before .before .before .before .before .angles-of .kept .1 .1 .1 .1 .1 .0)) (c .before .before .before .before .before .before .before .before .before .before .before .before .before .sort-by-angle .kept .1 .1 .0 ∙ p .1 .1) (c .before .before .before .before .before .before .gather .ensures)
+    (arranged _ _ _ _ _ _ _ _ _ _ _ _ (c .before .before .before .before .before .before .before .before .before .before .before .before .before .before .before .before .before .before .before .before .before .angles-of .ensures) (c .before .before .before .before .before .before .before .before .before .before .before .before .before .sort-by-angle .ensures .0 ∙ ap (λ k. sortedPlaces (c .before .before .before .before .before .before .before .before .before .before .before .before .before .before .before .before .before .before .before .before .before .angles-of .last .1 .1 .1 .1 .1 .0) (c .before .before .before .before .before .before .before .before .before .before .before .before .before .before .before .before .before .before .before .before .before .angles-of .last .1 .1 .1 .1 .1 .1 .0) k) (c .before .before .before .before .before .before .before .before .before .before .before .before .before .before .before .before .before .before .before .before .before .angles-of .kept .1 .1 .1 .1 .1 .0)) (c .before .before .before .before .before .before .before .before .before .before .before .before .before .sort-by-angle .kept .1 .1 .0 ∙ p .1 .1) (c .before .before .before .before .before .before .gather .ensures .0), rest-as (c .before .before .before .before .before .before .before .before .before .before .before .before .before .sort-by-angle .kept .1 .1 .0 ∙ p .1 .1) (c .before .before .before .before .before .before .gather .ensures .1))
 
 pub arrange-by-spec : {M : Type 1} → statement M
 arrange-by-spec =
