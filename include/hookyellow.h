@@ -1,12 +1,24 @@
 /* Hookyellow: lines and plane sections of the air flow in a room, and the cells that each was made from.
  *
- * `rt staticlib capi` writes target/staticlib/libcapi.a. docs/FORMAT.md has the case, request and answer formats. */
+ * `rt staticlib capi` writes target/staticlib/libcapi.a. docs/FORMAT.md has the case, request and answer formats.
+ *
+ * Every pointer comes with its length, which counts elements. Any length and any contents may be given.
+ * - Where the length is 0 nothing is read or written there, and the pointer may be NULL.
+ * - Else it points to so many elements and is aligned for one: uint8_t at any address, uint32_t at a multiple of 4, double,
+ *   uint64_t and size_t at a multiple of 8.
+ * - What is written (words, floats, marks, answers, needs) overlaps nothing else that is given; case and requests may overlap.
+ * No function keeps a pointer, allocates, waits or holds anything between two calls: calls in several threads do not meet as
+ * long as what they write is each thread's own. No call takes more than HOOKYELLOW_STACK bytes of stack, however large the
+ * case (docs/PERFORMANCE.md, "Stack"). */
 #ifndef HOOKYELLOW_H
 #define HOOKYELLOW_H
 
 #include <stdbool.h>
 #include <stddef.h>
 #include <stdint.h>
+
+/* More than any call takes of the stack, in bytes. */
+#define HOOKYELLOW_STACK 32768
 
 #ifdef __cplusplus
 extern "C" {
@@ -32,14 +44,15 @@ typedef struct hookyellow_line_options {
 
 /* The least lengths of the buffers of a job on a case: needs[0] words, needs[1] floats and needs[2] marks.
  *
- * Answers 0, or the refusal of the case (1 to 3), under which needs is as it was. Stores nothing in fewer than three places. */
+ * Answers 0. Or, with needs as it was, the refusal of the case (1 to 3), or 21 where needs_length is below 3; 21 has no other
+ * meaning. */
 uint64_t hookyellow_needs(const uint8_t *case_bytes, size_t case_length,
                           size_t *needs, size_t needs_length);
 
 /* Runs a job: builds the mesh of the case and serves the requests in order.
  *
- * Answers 0, or the refusal (1 to 19), under which answers and marks are as they were. Any bytes and any lengths may be
- * given. No buffer may overlap another. The work area (words and floats) needs nothing in it and holds nothing of use afterwards. */
+ * Answers 0, or the refusal (1 to 19), under which answers and marks are as they were. The work area (words and floats) needs
+ * nothing in it and holds nothing of use afterwards. */
 uint64_t hookyellow_job(const uint8_t *case_bytes, size_t case_length,
                         const uint8_t *requests, size_t requests_length,
                         uint32_t *words, size_t words_length,
@@ -49,7 +62,7 @@ uint64_t hookyellow_job(const uint8_t *case_bytes, size_t case_length,
 
 /* Each request alone: a job of that one request. Result, buffers and answer are as in hookyellow_job; 2 answer words at least. */
 
-/* 1: the cell at a point. */
+/* 1: the cell that a point locates in. */
 uint64_t hookyellow_locate(const uint8_t *case_bytes, size_t case_length,
                            hookyellow_vector point,
                            uint32_t *words, size_t words_length,

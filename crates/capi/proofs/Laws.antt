@@ -29,14 +29,13 @@ pub area-needed : (c : Surveyed-case) (words floats : ℕ) → areaShort c words
 unfolding areaShort wordsNeeded floatsNeeded
 area-needed c words floats = refl
 
-module _ (file : List ℕ) (k : ℕ) (e : surveyOf file ≡ refused k) where
-  pub refused-number : k ≡ needsNumber (surveyOf file)
-  unfolding needsNumber
-  refused-number = rw e
+-- the answer and the places, as `hookyellow_needs` promises them
+abbrev Told : List ℕ → ℕ → List ℕ → List ℕ → Type 0
+Told file r l l′ = (r ≡ needsNumber (surveyOf file) (length l)) × (l′ ≡ needsOf (surveyOf file) l)
 
-  pub refused-needs : (l : List ℕ) → l ≡ needsOf (surveyOf file) l
-  unfolding needsOf
-  refused-needs l = rw e
+pub refused-told : (file : List ℕ) (k : ℕ) → surveyOf file ≡ refused k → (l : List ℕ) → Told file k l l
+unfolding needsNumber needsOf
+refused-told file k e l = (rw e, rw e)
 
 module _ (file : List ℕ) (n : Counts) (f : ℕ) (s : Surveys file n f) where
   there : surveyOf file ≡ fine (record { counts = n; definitions = s .ds })
@@ -48,15 +47,11 @@ module _ (file : List ℕ) (n : Counts) (f : ℕ) (s : Surveys file n f) where
       let o = opens file n (s .opens) in
       (omega (arith, faces, s .count), o .cells)
 
-  pub case-number : 0 ≡ needsNumber (surveyOf file)
-  unfolding needsNumber
-  case-number = rw there
-
   module _ (l : List ℕ) where
-    pub no-room : length l < 3 → l ≡ needsOf (surveyOf file) l
-    unfolding needsOf
-    no-room short = rw (there, lt-ltb (length l) 3 short)
+    pub no-place : length l < 3 → Told file 21 l l
+    unfolding needsNumber needsOf
+    no-place short = (rw (there, lt-ltb (length l) 3 short), rw (there, lt-ltb (length l) 3 short))
 
-    pub stored : 3 ≤ length l → set (set (set l 0 (16 * f + 96 * n .cells)) 1 (12 * f + 64 * n .cells)) 2 (n .cells) ≡ needsOf (surveyOf file) l
-    unfolding needsOf wordsNeeded floatsNeeded
-    stored long = rw (there, le-ltb (length l) 3 long, s .count)
+    pub stored : 3 ≤ length l → Told file 0 l (set (set (set l 0 (16 * f + 96 * n .cells)) 1 (12 * f + 64 * n .cells)) 2 (n .cells))
+    unfolding needsNumber needsOf wordsNeeded floatsNeeded
+    stored long = (rw (there, le-ltb (length l) 3 long), rw (there, le-ltb (length l) 3 long, s .count))

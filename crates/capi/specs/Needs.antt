@@ -16,12 +16,12 @@ wordsNeeded c = 16 * facesCounted (c .definitions) + 96 * c .counts .cells
 unfoldable pub floatsNeeded : Surveyed-case → ℕ
 floatsNeeded c = 12 * facesCounted (c .definitions) + 64 * c .counts .cells
 
--- 0, or the refusal
-unfoldable pub needsNumber : Result Surveyed-case → ℕ
-needsNumber (refused k) = k
-needsNumber (fine c) = 0
+-- 0, or the refusal of the case, or 21 where there are fewer than three places; 01 has no 21
+unfoldable pub needsNumber : Result Surveyed-case → ℕ → ℕ
+needsNumber (refused k) places = k
+needsNumber (fine c) places = cond (ltb places 3) 21 0
 
--- words, floats and marks, where there is room for the three
+-- words, floats and marks, where there are places for the three
 unfoldable pub needsOf : Result Surveyed-case → List ℕ → List ℕ
 needsOf (refused k) l = l
 needsOf (fine c) l = cond (ltb (length l) 3) l (set (set (set l 0 (wordsNeeded c)) 1 (floatsNeeded c)) 2 (c .counts .cells))

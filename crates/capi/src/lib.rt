@@ -9,6 +9,9 @@ ghost use Rattle.mesh.specs.Case.{surveyOf};
 ghost use Rattle.job.specs.Promise.{Promised};
 ghost use Rattle.capi.specs.Needs.{needsNumber, needsOf};
 
+// What `hookyellow_needs` answers where it has no place for what it found; no other function answers it.
+const NO_PLACE: u64 = 21;
+
 // A point or a vector.
 #[repr(C)]
 pub struct Vector {
@@ -52,17 +55,17 @@ pub extern "C" fn hookyellow_job(
 }
 
 // Answers 0 and stores the least number of work words, of floats and of marks of a job on a case;
-// or answers its refusal. Stores nothing in fewer than three places.
+// or stores nothing and answers the refusal of the case (1 to 3), or 21 for fewer than three places.
 #[no_mangle]
 pub extern "C" fn hookyellow_needs(case: &[u8], needs: &mut [usize]) -> u64
-    ensures { λ r. ⌜ r ≡ needsNumber (surveyOf (now (case .entry))) ⌝ }
+    ensures { λ r. ⌜ r ≡ needsNumber (surveyOf (now (case .entry))) (length (now (needs .entry))) ⌝ }
     ensures { λ _. ⌜ now (needs .exit) ≡ needsOf (surveyOf (now (case .entry))) (now (needs .entry)) ⌝ }
 {
     match mesh::survey(case) {
         Surveyed::Refused(k) => k,
         Surveyed::Case(n, faces) => {
             if needs.len() < 3 {
-                return 0;
+                return NO_PLACE;
             }
             needs[0] = 16 * faces + 96 * n.cells;
             needs[1] = 12 * faces + 64 * n.cells;

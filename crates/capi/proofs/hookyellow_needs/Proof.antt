@@ -2,7 +2,7 @@
 use native.Mathlib.Omega.{arith}
 use lib.ListN.{length-set}
 use Rattle.mesh.proofs.Laws.{survey-case, survey-refused}
-use Rattle.capi.proofs.Laws.{refused-number, refused-needs, few, case-number, no-room, stored}
+use Rattle.capi.proofs.Laws.{refused-told, few, no-place, stored}
 use borrow.Author.Needs.{needs}
 use Rattle.capi.proofs.hookyellow_needs.Statement.{statement}
 use Rattle.capi.proofs.hookyellow_needs.Tie as tie
@@ -10,7 +10,7 @@ use Rattle.capi.proofs.hookyellow_needs.Tie as tie
 returns : tie.Need-returns
 returns c =
     let s = survey-case _ _ (c .before .before .before .before .survey .ensures) (c .before .before .n .given .1) in
-    (case-number _ _ _ s, no-room _ _ _ s _ (c .if1 .taken))
+    no-place _ _ _ s _ (c .if1 .taken)
 
 mul-needs : tie.Need-mul-needs
 mul-needs c = let h = few _ _ _ (survey-case _ _ (c .before .before .before .before .survey .ensures) (c .before .before .n .given .1)) in omega (arith, h .0, h .1)
@@ -35,13 +35,12 @@ slice-write-needs-2 c = simp length-set (omega arith)
 
 returns-2 : tie.Need-returns-2
 returns-2 c =
-    let e = survey-refused _ (c .before .before .before .survey .ensures) (c .before .k .given .1) in
-    (refused-number _ _ e, refused-needs _ _ e _)
+    refused-told _ _ (survey-refused _ (c .before .before .before .survey .ensures) (c .before .k .given .1)) _
 
 returns-3 : tie.Need-returns-3
 returns-3 c =
     let s = survey-case _ _ (c .before .before .before .before .before .before .survey .ensures) (c .before .before .before .before .n .given .1) in
-    (case-number _ _ _ s, stored _ _ _ s _ (c .before .before .if1 .left))
+    stored _ _ _ s _ (c .before .before .if1 .left)
 
 pub hookyellow-needs-spec : {M : Type 1} → statement M
 hookyellow-needs-spec =

@@ -1,0 +1,164 @@
+/* 01's known rooms through include/hookyellow.h. The same text is C11 and C++. `.ci/run` compiles it as both and runs it:
+ *
+ *     rt staticlib capi
+ *     cc -std=c11 -Wall -Wextra -pedantic -Werror -I include bindings/c/pair.c target/staticlib/libcapi.a -o pair && ./pair
+ *
+ * Everything that is expected stands in docs/01-scope.md: in "Known rooms", or under the number of a refusal. Ends with 1
+ * where a check fails. */
+#include "hookyellow.h"
+#include <stdio.h>
+#include <string.h>
+
+#define NONE UINT64_MAX
+#define CASE case_bytes, case_length
+#define BUFFERS words, 320, floats, 224, marks, 3, answers, 24
+
+static uint8_t case_bytes[1024], requests[3 * 128];
+static size_t case_length, requests_length;
+static uint32_t words[320];
+static double floats[224];
+static uint8_t marks[3];
+static uint64_t answers[24];
+static int checks, failed;
+
+static void check(int holds, const char *what) {
+    checks++;
+    if (!holds) {
+        failed++;
+        printf("pair: %s\n", what);
+    }
+}
+
+/* "Numbers in files are little-endian; a float is its 64 bits." */
+static void put(uint8_t *bytes, size_t *at, uint64_t number, int width) {
+    for (int i = 0; i < width; i++) bytes[(*at)++] = (uint8_t)(number >> (8 * i));
+}
+
+static uint64_t bits(double x) {
+    uint64_t b;
+    memcpy(&b, &x, sizeof b);
+    return b;
+}
+
+static void put_floats(uint8_t *bytes, size_t *at, const double *list, size_t n) {
+    for (size_t i = 0; i < n; i++) put(bytes, at, bits(list[i]), 8);
+}
+
+/* "Case file: points, definition words, velocities, pressures, then a 32-byte trailer that points back" */
+static void build(uint32_t dimension, const double *points, uint32_t p, const uint32_t *definitions, uint32_t w,
+                  const double *velocities, const double *pressures, uint32_t c) {
+    uint32_t trailer[8] = {dimension, p, w, c, 0, 24 * p, 24 * p + 4 * w, 24 * p + 4 * w + 24 * c};
+    case_length = 0;
+    put_floats(case_bytes, &case_length, points, 3 * p);
+    for (uint32_t i = 0; i < w; i++) put(case_bytes, &case_length, definitions[i], 4);
+    put_floats(case_bytes, &case_length, velocities, 3 * c);
+    put_floats(case_bytes, &case_length, pressures, c);
+    for (int i = 0; i < 8; i++) put(case_bytes, &case_length, trailer[i], 4);
+}
+
+/* "Pair: points (0,0) (1,0) (2,0) (0,1) (1,1) (2,1), heights 0; polygons 0 1 4 3 and 1 2 5 4; velocities (1,0,0), (3,0,0),
+ * pressures 0." */
+static void build_pair(void) {
+    const double points[18] = {0, 0, 0, 1, 0, 0, 2, 0, 0, 0, 1, 0, 1, 1, 0, 2, 1, 0};
+    const uint32_t polygons[12] = {0, 4, 0, 1, 4, 3, 0, 4, 1, 2, 5, 4};
+    const double velocities[6] = {1, 0, 0, 3, 0, 0}, pressures[2] = {0, 0};
+    build(2, points, 6, polygons, 12, velocities, pressures, 2);
+}
+
+/* "Unit cube, velocity (0,0,2), pressure 3" */
+static void build_cube(void) {
+    const double points[24] = {0, 0, 0, 1, 0, 0, 1, 1, 0, 0, 1, 0, 0, 0, 1, 1, 0, 1, 1, 1, 1, 0, 1, 1};
+    const uint32_t hexahedron[9] = {2, 0, 1, 2, 3, 4, 5, 6, 7};
+    const double velocity[3] = {0, 0, 2}, pressure[1] = {3};
+    build(3, points, 8, hexahedron, 9, velocity, pressure, 1);
+}
+
+/* "Request: 16 words of 8 bytes, the code first, then the arguments; words not used are zero." */
+static void request(const uint64_t *list, size_t n) {
+    for (size_t i = 0; i < 16; i++) put(requests, &requests_length, i < n ? list[i] : 0, 8);
+}
+
+static void fill(void) {
+    for (int i = 0; i < 24; i++) answers[i] = 5;
+    for (int i = 0; i < 3; i++) marks[i] = 7;
+}
+
+/* The answer buffer holds these words and then zeros; the marks are 0 or 1 for the cells of Pair, and byte 2 is kept. */
+static int leaves(const uint64_t *list, size_t n, int first, int second) {
+    for (size_t i = 0; i < 24; i++)
+        if (answers[i] != (i < n ? list[i] : 0)) return 0;
+    return marks[0] == first && marks[1] == second && marks[2] == 7;
+}
+
+/* "Refused jobs (1 to 19) give only the number and leave answers and marks untouched." */
+static int untouched(void) {
+    for (int i = 0; i < 24; i++)
+        if (answers[i] != 5) return 0;
+    return marks[0] == 7 && marks[1] == 7 && marks[2] == 7;
+}
+
+/* "Pair with locate (1.5,0.5,0), velocity (0.75,0.5,0), the 0.5 line", and the lines that are printed for it */
+static void check_job(void) {
+    const uint64_t due[21] = {0, 1, NONE,
+                              0, 4, 1, 0x3ff8000000000000, 0, 0,
+                              0, 10, 3, 0x3fd0000000000000, 0x3fe0000000000000, 0,
+                              0x3fe0000000000000, 0x3fe0000000000000, 0, 0x3fe8000000000000, 0x3fe0000000000000, 0};
+    const uint64_t locate[4] = {1, bits(1.5), bits(0.5), 0}, velocity[4] = {2, bits(0.75), bits(0.5), 0};
+    const uint64_t line[9] = {3, bits(0.25), bits(0.5), 0, 0, bits(0.25), 10, bits(0.5), 0};
+    requests_length = 0;
+    request(locate, 4), request(velocity, 4), request(line, 9);
+    fill();
+    check(hookyellow_job(CASE, requests, requests_length, BUFFERS) == 0, "the job is refused");
+    check(leaves(due, 21, 1, 1), "the job leaves other answers or marks");
+}
+
+/* The starred rooms of Pair, each request alone */
+static void check_alone(void) {
+    const hookyellow_vector inside = {0.5, 0.5, 0}, end = {2, 0.5, 0}, quarter = {0.25, 0.5, 0};
+    const hookyellow_line_options still = {0.25, 10, 0.5, 1};
+    const uint64_t cell[3] = {0, 1, 0}, none[3] = {0, 1, NONE}, one[6] = {0, 4, 1, 0x3ff0000000000000, 0, 0};
+    const uint64_t seed[6] = {0, 4, 1, 0x3fd0000000000000, 0x3fe0000000000000, 0};
+    fill();
+    check(hookyellow_locate(CASE, inside, BUFFERS) == 0 && leaves(cell, 3, 0, 0), "locate (0.5,0.5): 0");
+    check(hookyellow_locate(CASE, end, BUFFERS) == 0 && leaves(none, 3, 0, 0), "locate (2,0.5): none");
+    check(hookyellow_velocity(CASE, quarter, BUFFERS) == 0 && leaves(one, 6, 1, 1), "velocity at (0.25,0.5): (1,0,0)");
+    check(hookyellow_streamline(CASE, quarter, false, still, BUFFERS) == 0 && leaves(seed, 6, 1, 1),
+          "line with stagnation 1: the seed alone");
+}
+
+/* Refusals 1, 4 and 32, with NULL for what has length 0; how much Pair needs: "16F+96C words or 12F+64C floats" */
+static void check_limits(void) {
+    const hookyellow_vector start = {0.25, 0.25, 0}, end = {0.25, 0.75, 0};
+    const hookyellow_line_options options = {0.25, 10, 0.5, 0};
+    const uint64_t refused[2] = {32, 0};
+    size_t needs[3] = {9, 9, 9};
+    check(hookyellow_needs(CASE, needs, 2) == 21 && needs[0] == 9 && needs[1] == 9, "two places for three needs");
+    check(hookyellow_needs(NULL, 0, needs, 3) == 1 && needs[0] == 9, "the needs of no bytes");
+    check(hookyellow_needs(CASE, needs, 3) == 0 && needs[0] == 320 && needs[1] == 224 && needs[2] == 2, "the needs of Pair");
+    fill();
+    check(hookyellow_job(NULL, 0, NULL, 0, NULL, 0, NULL, 0, NULL, 0, NULL, 0) == 1, "no bytes: 1");
+    check(hookyellow_job(CASE, requests, requests_length, words, 319, floats, 224, marks, 3, answers, 24) == 4 && untouched(),
+          "a work area that is one word short: 4");
+    check(hookyellow_job(CASE, NULL, 0, words, 320, floats, 224, marks, 3, NULL, 0) == 0 && marks[0] == 0 && marks[1] == 0,
+          "no requests");
+    check(hookyellow_rake(CASE, start, end, 1, false, options, BUFFERS) == 0 && leaves(refused, 2, 0, 0), "a rake of one seed: 32");
+}
+
+/* "plane z = 0.5, u along X, v along Y: area 1, flux 2" */
+static void check_cube(void) {
+    const hookyellow_plane plane = {{0, 0, 0.5}, {1, 0, 0}, {0, 1, 0}};
+    uint64_t result = hookyellow_integrals(CASE, plane, BUFFERS);
+    check(result == 0 && answers[0] == 0 && answers[1] == 4, "the integrals of the cube are refused");
+    check(answers[2] == bits(1) && answers[5] == bits(2) && marks[0] == 1, "area 1, flux 2");
+}
+
+int main(void) {
+    build_pair();
+    check_job();
+    check_alone();
+    check_limits();
+    build_cube();
+    check_cube();
+    printf("pair: %d checks, %d failed\n", checks, failed);
+    return failed != 0;
+}
