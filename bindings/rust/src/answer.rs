@@ -7,9 +7,10 @@ const NONE: u64 = u64::MAX;
 /// An answer. Every float is the one whose bits the answer word holds.
 #[derive(Clone, Debug, PartialEq)]
 pub enum Answer {
-    /// 1: the cell at the point, if any.
+    /// 1: the cell that the point locates in; none where it locates nowhere, as some points of a cell do (docs/DIFFERENCES.md,
+    /// "Bins lose the far border").
     Locate(Option<usize>),
-    /// 2: the velocity at the point, if it lies in a cell.
+    /// 2: the velocity at the point; none where it locates nowhere.
     Velocity(Option<Vector>),
     /// 3: the line from the seed.
     Streamline(Streamline),

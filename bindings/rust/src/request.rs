@@ -62,7 +62,7 @@ pub struct LineOptions {
 /// One request. [`Request::Locate`] to [`Request::Rake`] need a 2D case, the others a 3D one (else 31).
 #[derive(Clone, Copy, Debug, PartialEq)]
 pub enum Request {
-    /// 1: the cell at a point.
+    /// 1: the cell that a point locates in.
     Locate {
         /// The point.
         point: Vector,

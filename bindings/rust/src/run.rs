@@ -29,7 +29,10 @@ pub struct Single<T> {
     pub cells_read: Vec<usize>,
 }
 
-/// Builds the mesh of a case and serves requests in order. The workspace is lengthened as it says.
+/// Builds the mesh of a case and serves requests in order.
+///
+/// The buffers of the workspace are lengthened first as [`Workspace`] says: to what the case needs (unless it is refused with 1
+/// to 3), and to the answer words of the requests. Under a refusal they stay that long, and marks and answers hold what they held.
 pub fn job(case: &Case, requests: &[Request], workspace: &mut Workspace) -> Result<Outcome, Refusal> {
     let bytes: Vec<u8> = requests.iter().flat_map(Request::to_bytes).collect();
     let cells_read =
@@ -58,12 +61,12 @@ fn single<T>(
     Ok(Single { answer, cells_read })
 }
 
-/// The cell at a point, if any.
+/// The cell that a point locates in, or none where it locates nowhere.
 pub fn locate(case: &Case, point: Vector, workspace: &mut Workspace) -> Result<Single<Option<usize>>, Refusal> {
     single(case, workspace, answer::locate, |buffers| call!(hookyellow_locate, case, buffers, point))
 }
 
-/// The velocity at a point, if it lies in a cell.
+/// The velocity at a point, or none where it locates nowhere.
 pub fn velocity(case: &Case, point: Vector, workspace: &mut Workspace) -> Result<Single<Option<Vector>>, Refusal> {
     single(case, workspace, answer::velocity, |buffers| call!(hookyellow_velocity, case, buffers, point))
 }
