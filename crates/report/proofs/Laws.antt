@@ -1,42 +1,64 @@
--- Which text a report is, by what was found. Assumes nothing.
-use Prim.Native.Nat.{ℕ, _/_, _≤_, _<_}
-use mathlib.Core.Path.{_≡_, refl, ap, sym, _∙_}
+-- How a report ends, and which text it is. Assumes nothing.
+use Prim.Native.Nat.{ℕ, _≤_, _<_}
+use mathlib.Core.Path.{_≡_, refl, ap, sym}
 use mathlib.Core.List.{List}
 use lib.ListN.{length}
 use borrow.Author.Tests.{lt-ltb, le-ltb, eq-eqb, ne-eqb}
 use Rattle.reading.specs.After.{After}
-use Rattle.job.specs.Job.{outcome}
 use Rattle.job.specs.Promise.{Promised}
 use Rattle.listing.specs.Listing.{doneText, refusedText}
-use Rattle.report.specs.Report.{textOf, reportOf}
+use Rattle.listing.specs.Written.{Listed}
+use Rattle.report.specs.Report.{ended, textOf, Reported}
 
-text-refused : (a : After) {k : ℕ} (count : ℕ) → k ≡ a .result → (k ≡ 0 → ⊥) → textOf count a ≡ refusedText k
-unfolding textOf
-text-refused a {k} count e h = rw (sym e, ne-eqb k 0 h) refl
-
-text-done : (a : After) {k : ℕ} (count : ℕ) → k ≡ a .result → k ≡ 0 → textOf count a ≡ doneText (a .answers) count (a .marks)
-unfolding textOf
-text-done a {k} count e h = rw (sym e, eq-eqb k 0 h) refl
+-- ---- refusal 20, or the job's end
 
 module _ (file requests : List ℕ) (words floats : ℕ) (answers marks : List ℕ) where
-  pub case-long : 65536 < length file → reportOf file requests words floats answers marks ≡ refusedText 20
-  unfolding reportOf
+  pub case-long : 65536 < length file → ended file requests words floats answers marks ≡ record { result = 20; answers = answers; marks = marks }
+  unfolding ended
   case-long h = rw (lt-ltb 65536 (length file) h) refl
 
-  pub requests-long : length file ≤ 65536 → 65536 < length requests → reportOf file requests words floats answers marks ≡ refusedText 20
-  unfolding reportOf
+  pub requests-long
+      : length file ≤ 65536
+      → 65536 < length requests
+      → ended file requests words floats answers marks ≡ record { result = 20; answers = answers; marks = marks }
+  unfolding ended
   requests-long f h = rw (le-ltb 65536 (length file) f, lt-ltb 65536 (length requests) h) refl
 
-  short : length file ≤ 65536 → length requests ≤ 65536 → reportOf file requests words floats answers marks ≡ textOf (length requests / 128) (outcome file requests words floats answers marks)
-  unfolding reportOf
-  short f q = rw (le-ltb 65536 (length file) f, le-ltb 65536 (length requests) q) refl
+  pub both-short
+      : {n k : ℕ} {answers′ marks′ : List ℕ}
+      → length file ≤ 65536
+      → length requests ≤ 65536
+      → Promised file requests words floats answers marks (record { result = n; answers = answers′; marks = marks′ })
+      → k ≡ n
+      → ended file requests words floats answers marks ≡ record { result = k; answers = answers′; marks = marks′ }
+  unfolding ended
+  both-short f q p e = rw (le-ltb 65536 (length file) f, le-ltb 65536 (length requests) q, e) (sym (p .ends))
 
-  pub job-refused : {n k : ℕ} {answers′ marks′ : List ℕ} → length file ≤ 65536 → length requests ≤ 65536
-      → Promised file requests words floats answers marks (record { result = n; answers = answers′; marks = marks′ }) → k ≡ n → (k ≡ 0 → ⊥)
-      → reportOf file requests words floats answers marks ≡ refusedText k
-  job-refused f q p e h = short f q ∙ ap (textOf (length requests / 128)) (sym (p .ends)) ∙ text-refused _ (length requests / 128) e h
+-- ---- the text
 
-  pub job-done : {n k : ℕ} {answers′ marks′ : List ℕ} → length file ≤ 65536 → length requests ≤ 65536
-      → Promised file requests words floats answers marks (record { result = n; answers = answers′; marks = marks′ }) → k ≡ n → k ≡ 0
-      → reportOf file requests words floats answers marks ≡ doneText answers′ (length requests / 128) marks′
-  job-done f q p e h = short f q ∙ ap (textOf (length requests / 128)) (sym (p .ends)) ∙ text-done _ (length requests / 128) e h
+module _ (count k : ℕ) (answers marks text text′ : List ℕ) (r : ℕ) where
+  pub text-done
+      : k ≡ 0
+      → Listed (doneText answers count marks) text text′ r
+      → Listed (textOf count (record { result = k; answers = answers; marks = marks })) text text′ r
+  unfolding textOf
+  text-done h t = rw (eq-eqb k 0 h) t
+
+  pub text-refused
+      : (k ≡ 0 → ⊥)
+      → Listed (refusedText k) text text′ r
+      → Listed (textOf count (record { result = k; answers = answers; marks = marks })) text text′ r
+  unfolding textOf
+  text-refused h t = rw (ne-eqb k 0 h) t
+
+pub reported
+    : (a : After) (count k : ℕ) (answers marks text text′ : List ℕ) (r : ℕ)
+    → a ≡ record { result = k; answers = answers; marks = marks }
+    → Listed (textOf count (record { result = k; answers = answers; marks = marks })) text text′ r
+    → Reported a count text text′ r answers marks
+reported a count k answers marks text text′ r e t =
+    record {
+      listed = rw e t;
+      same-answers = ap (λ (x : After). x .answers) (sym e);
+      same-marks = ap (λ (x : After). x .marks) (sym e);
+    }

@@ -1,20 +1,28 @@
--- 01, "The program `airjob`": the text that it prints for the bytes of its two files and the buffers that it lends. Quoted lines are 01's.
-use Prim.Native.Nat.{ℕ, _/_}
-use mathlib.Core.Bool.{cond}
+-- 01, "The program `airjob`": what it prints for the bytes of its two files, and how it leaves the buffers that it lends. Quoted lines are 01's.
+use Prim.Native.Nat.{ℕ}
+use mathlib.Core.Path.{_≡_}
+use mathlib.Core.Bool.{cond, _||_}
 use mathlib.Core.List.{List}
 use lib.Dec.{ltb, eqb}
 use lib.ListN.{length}
 use Rattle.reading.specs.After.{After}
 use Rattle.job.specs.Job.{outcome}
 use Rattle.listing.specs.Listing.{doneText, refusedText}
+use Rattle.listing.specs.Written.{Listed}
+
+-- "20, by the program before the job, for a file missing or above 65,536 bytes"; like every refusal it leaves answers and marks untouched
+unfoldable pub ended : List ℕ → List ℕ → ℕ → ℕ → List ℕ → List ℕ → After
+ended file requests words floats answers marks =
+    cond (ltb 65536 (length file) || ltb 65536 (length requests))
+    (record { result = 20; answers = answers; marks = marks })
+    (outcome file requests words floats answers marks)
 
 -- "A line per answer [..]; last `read` and the marked cells; a refused job prints `refused` and its number"; the result of a job that was done is 0
 unfoldable pub textOf : ℕ → After → List ℕ
 textOf count a = cond (eqb (a .result) 0) (doneText (a .answers) count (a .marks)) (refusedText (a .result))
 
--- "20, by the program before the job, for a file missing or above 65,536 bytes"; a request has 128 bytes
-unfoldable pub reportOf : List ℕ → List ℕ → ℕ → ℕ → List ℕ → List ℕ → List ℕ
-reportOf file requests words floats answers marks =
-    cond (ltb 65536 (length file)) (refusedText 20)
-    (cond (ltb 65536 (length requests)) (refusedText 20)
-    (textOf (length requests / 128) (outcome file requests words floats answers marks)))
+-- what `report` promises: the text of an end with `count` requests, and that end's answers and marks
+pub record Reported (a : After) (count : ℕ) (text text′ : List ℕ) (r : ℕ) (answers marks : List ℕ) : Type 0 where
+  pub listed : Listed (textOf count a) text text′ r
+  pub same-answers : answers ≡ a .answers
+  pub same-marks : marks ≡ a .marks

@@ -2,11 +2,12 @@
 use job::Outcome;
 use listing::put_done;
 use listing::put_refusal;
+ghost use Prim.Native.Nat.{_/_};
 ghost use mathlib.Core.Path.{_≡_};
 ghost use lib.ListN.{length};
 ghost use Rattle.job.specs.Job.{numberOf};
 ghost use Rattle.listing.specs.Written.{Listed};
-ghost use Rattle.report.specs.Report.{reportOf};
+ghost use Rattle.report.specs.Report.{ended, textOf, Reported};
 
 // The longest file, in bytes.
 const LONGEST: usize = 65536;
@@ -21,6 +22,40 @@ fn number_of(r: Outcome) -> u64
     }
 }
 
+// Runs the job, unless a file is too long: 0, or the refusal.
+fn run(
+    case: &[u8],
+    requests: &[u8],
+    words: &mut [u32],
+    floats: &mut [f64],
+    marks: &mut [u8],
+    answers: &mut [u64],
+) -> u64
+    ensures { λ r. ⌜ ended (now (case .entry)) (now (requests .entry))
+        (length (now (words .entry))) (length (now (floats .entry))) (now (answers .entry)) (now (marks .entry))
+        ≡ record { result = r; answers = now (answers .exit); marks = now (marks .exit) } ⌝ }
+{
+    if case.len() > LONGEST {
+        return 20;
+    }
+    if requests.len() > LONGEST {
+        return 20;
+    }
+    number_of(job::job(case, requests, words, floats, marks, answers))
+}
+
+// The text of a job with this result. How long it is, or one more than the room for it.
+fn show(k: u64, answers: &[u64], count: usize, marks: &[u8], text: &mut [u8]) -> usize
+    ensures { λ r. ⌜ Listed (textOf count (record { result = k; answers = now (answers .entry); marks = now (marks .entry) }))
+        (now (text .entry)) (now (text .exit)) r ⌝ }
+{
+    if k == 0 {
+        put_done(text, answers, count, marks)
+    } else {
+        put_refusal(text, k)
+    }
+}
+
 // Runs the job and writes its text; a file that is too long is refused before. How long the text is, or one
 // more than the room for it.
 pub fn report(
@@ -32,18 +67,10 @@ pub fn report(
     answers: &mut [u64],
     text: &mut [u8],
 ) -> usize
-    ensures { λ r. ⌜ Listed (reportOf (now (case .entry)) (now (requests .entry)) (length (now (words .entry))) (length (now (floats .entry))) (now (answers .entry)) (now (marks .entry))) (now (text .entry)) (now (text .exit)) r ⌝ }
+    ensures { λ r. ⌜ Reported (ended (now (case .entry)) (now (requests .entry))
+        (length (now (words .entry))) (length (now (floats .entry))) (now (answers .entry)) (now (marks .entry)))
+        (length (now (requests .entry)) / 128) (now (text .entry)) (now (text .exit)) r (now (answers .exit)) (now (marks .exit)) ⌝ }
 {
-    if case.len() > LONGEST {
-        return put_refusal(text, 20);
-    }
-    if requests.len() > LONGEST {
-        return put_refusal(text, 20);
-    }
-    let k = number_of(job::job(case, requests, words, floats, marks, answers));
-    if k == 0 {
-        put_done(text, answers, requests.len() / 128, marks)
-    } else {
-        put_refusal(text, k)
-    }
+    let k = run(case, requests, words, floats, marks, answers);
+    show(k, answers, requests.len() / 128, marks, text)
 }

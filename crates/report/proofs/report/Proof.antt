@@ -1,53 +1,42 @@
--- `report::report` meets its contract. Assumes nothing.
-use lib.ListN.{length}
+-- `report::report`: the end, and its text. Assumes nothing.
 use borrow.Author.Needs.{needs}
-use Rattle.report.proofs.Laws.{case-long, requests-long, job-refused, job-done}
+use Rattle.report.proofs.Laws.{reported}
 use Rattle.report.proofs.report.Statement.{statement}
 use Rattle.report.proofs.report.Tie as tie
 
+run-requires : tie.Need-run-requires
+run-requires c κs = search needs
+
+show-requires : tie.Need-show-requires
+show-requires c κs = search needs
+
+same-length : tie.Need-same-length
+same-length c = search needs
+
+same-length-2 : tie.Need-same-length-2
+same-length-2 c = search needs
+
+same-length-3 : tie.Need-same-length-3
+same-length-3 c = search needs
+
+same-length-4 : tie.Need-same-length-4
+same-length-4 c = search needs
+
+same-length-5 : tie.Need-same-length-5
+same-length-5 c = search needs
+
 returns : tie.Need-returns
-returns c =
-    let a = c .before .before .before .before .before .before .before .before .before .before .before .before .args in
-    rw (case-long (a .case .now) (a .requests .now) (length (a .words .now)) (length (a .floats .now)) (a .answers .now) (a .marks .now) (c .before .before .before .before .if1 .taken)) (c .before .before .put-refusal .ensures)
-
-returns-2 : tie.Need-returns-2
-returns-2 c =
-    let a = c .before .before .before .before .before .before .before .before .before .before .before .before .before .args in
-    rw (requests-long (a .case .now) (a .requests .now) (length (a .words .now)) (length (a .floats .now)) (a .answers .now) (a .marks .now) (c .before .before .before .before .before .if1 .left) (c .before .before .before .before .if2 .taken)) (c .before .before .put-refusal2 .ensures)
-
-returns-3 : tie.Need-returns-3
-returns-3 c =
-    let a = c .before .before .before .before .before .before .before .before .before .before .before .before .before .before .before .before .before .before .before .before .before .before .before .before .before .before .before .before .before .before .args in
-    rw (job-done (a .case .now) (a .requests .now) (length (a .words .now)) (length (a .floats .now)) (a .answers .now) (a .marks .now) (c .before .before .before .before .before .before .before .before .before .before .before .before .before .before .before .before .before .before .before .before .before .before .if1 .left) (c .before .before .before .before .before .before .before .before .before .before .before .before .before .before .before .before .before .before .before .before .before .if2 .left) (c .before .before .before .before .before .before .before .before .before .before .before .before .before .before .before .before .job .ensures .0) (c .before .before .before .before .before .before .before .number-of .ensures) (c .before .before .before .before .before .before .if3 .taken)) (c .before .before .put-done .ensures)
-
-returns-4 : tie.Need-returns-4
-returns-4 c =
-    let a = c .before .before .before .before .before .before .before .before .before .before .before .before .before .before .before .before .before .before .before .before .before .before .before .before .before .before .before .before .args in
-    rw (job-refused (a .case .now) (a .requests .now) (length (a .words .now)) (length (a .floats .now)) (a .answers .now) (a .marks .now) (c .before .before .before .before .before .before .before .before .before .before .before .before .before .before .before .before .before .before .before .before .if1 .left) (c .before .before .before .before .before .before .before .before .before .before .before .before .before .before .before .before .before .before .before .if2 .left) (c .before .before .before .before .before .before .before .before .before .before .before .before .before .before .job .ensures .0) (c .before .before .before .before .before .number-of .ensures) (c .before .before .before .before .if3 .left)) (c .before .before .put-refusal3 .ensures)
+returns c = search (reported, needs)
 
 pub report-spec : {M : Type 1} → statement M
 report-spec =
     tie.close
     (tie.spec
-    (λ c κs. search needs)
-    (λ c. search needs)
-    returns
-    (λ c κs. search needs)
-    (λ c. search needs)
-    returns-2
-    (λ c κs. search needs)
-    (λ c κs. search needs)
-    (λ c κs. search needs)
-    (λ c κs. search needs)
-    (λ c. search needs)
-    (λ c. search needs)
-    (λ c. search needs)
-    (λ c. search needs)
-    (λ c. search needs)
-    returns-3
-    (λ c. search needs)
-    (λ c. search needs)
-    (λ c. search needs)
-    (λ c. search needs)
-    (λ c. search needs)
-    returns-4)
+    run-requires
+    show-requires
+    same-length
+    same-length-2
+    same-length-3
+    same-length-4
+    same-length-5
+    returns)
