@@ -20,7 +20,7 @@ def numbers(text):
 
 
 def definition(source, name):
-    return re.search(r"^%s =\n(.*?)(?=\n\n)" % name, source, re.S | re.M).group(1)
+    return re.search(r"^%s =\s(.*?)(?=\n\n)" % name, source, re.S | re.M).group(1)
 
 
 def written(text):
@@ -31,9 +31,10 @@ def written(text):
 
 def printed(expected):
     """The lines that a job with this outcome prints."""
+    refused = re.search(r"refused (\d+)", expected)
+    if refused:
+        return ["refused " + refused.group(1)]
     part = lambda name: re.search(r"%s = ([^;]*);" % name, expected).group(1)
-    if int(part("refusal"), 0):
-        return ["refused %d" % int(part("refusal"), 0)]
     words, lines = numbers(part("words")), []
     while words:
         n = words[1]

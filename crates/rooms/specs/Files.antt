@@ -7,7 +7,9 @@ use Rattle.arith.specs.F64.{word}
 use Rattle.arith.specs.Lists.{concat}
 use Rattle.arith.specs.declared.Vec3.{Vec3}
 use Rattle.writing.specs.Words.{vecWords}
-use Rattle.rooms.specs.Printed.{Printed, bytes, printed, lends}
+use Rattle.reading.specs.Result.{Result, fine}
+use Rattle.rooms.specs.Printed.{Printed, Known, bytes, lends}
+use Rattle.rooms.specs.OnePass.{Computes}
 
 -- "points, definition words, velocities, pressures, then a 32-byte trailer"
 unfoldable pub caseFile : ℕ → List Vec3 → List ℕ → List Vec3 → List Float → List ℕ
@@ -24,9 +26,14 @@ caseFile dimension points words velocities pressures =
 unfoldable pub request : List ℕ → List ℕ
 request l = bytes 8 (l ++ replicate (16 - length l) 0)
 
--- what `airjob` prints for a job of one request; it "lends 16,384 words, 8,192 floats, 16,384 marks and 8,192 answer words"
-unfoldable pub asked : List ℕ → List ℕ → Printed
-asked file l = printed file (request l) (lends 16384 8192 16384 8192)
+-- an answer of these words, made from these cells
+unfoldable pub told : List ℕ → List ℕ → Result Printed
+told words cells = fine (record { words = 0 ∷ length words ∷ words; cells = cells })
 
-unfoldable pub told : List ℕ → List ℕ → Printed
-told words cells = record { refusal = 0; words = 0 ∷ length words ∷ words; cells = cells }
+-- a job of one request gives these words, made from these cells; `airjob` "lends 16,384 words, 8,192 floats, 16,384 marks and 8,192 answer words"
+abbrev pub Gives : List ℕ → List ℕ → List ℕ → List ℕ → Type 0
+Gives file l words cells = Known file (request l) (lends 16384 8192 16384 8192) (told words cells)
+
+-- the same, computed
+abbrev pub Computed : List ℕ → List ℕ → List ℕ → List ℕ → Type 0
+Computed file l words cells = Computes file (request l) (lends 16384 8192 16384 8192) (told words cells)

@@ -1,5 +1,6 @@
 pub mod Computing
 pub mod Printed
+pub mod OnePass
 pub mod Files
 pub mod Starred
 pub mod Rakes
