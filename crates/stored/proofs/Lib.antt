@@ -1,1 +1,2 @@
 mod FnvLaws
+mod PieceLaws

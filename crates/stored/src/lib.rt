@@ -1,10 +1,15 @@
 // Reads a file of stored cases. Numbers are u32. A text is a number of pieces, then the pieces: a
 // number of bytes, the length that the text has after it, and the bytes, which are repeated up to
 // that length. So a text of megabytes is held in few bytes.
+//
+// Nothing is assumed of what a read gives, so no contract here can say which number or which bytes it is; each
+// says where they stand, and that the rest of the room is kept. That a name is printed no contract says.
 use arith::bytes;
 use libc::STDOUT_FILENO;
-ghost use Prim.Native.Nat.{_≤_, _<_};
+ghost use Prim.Native.Nat.{_≤_, _<_, _-_};
+ghost use mathlib.Core.Path.{_≡_};
 ghost use lib.ListN.{length};
+ghost use Rattle.stored.specs.Pieces.{repeated, Added, Assembled, Named};
 
 pub mod fnv;
 
@@ -19,7 +24,9 @@ pub fn number(fd: i32, most: usize) -> usize
 }
 
 // Prints the next name of the file; `room` is to read it into.
-pub fn show_name(fd: i32, room: &mut [u8]) {
+pub fn show_name(fd: i32, room: &mut [u8])
+    ensures { λ _. ⌜ Named (now (room .entry)) (now (room .exit)) ⌝ }
+{
     let n = number(fd, room.len());
     io::read_full(fd, &mut room[..n]);
     io::write_all(STDOUT_FILENO, &room[..n]);
@@ -29,6 +36,7 @@ pub fn show_name(fd: i32, room: &mut [u8]) {
 // Repeats the n bytes before `from` up to `end`.
 fn repeat(room: &mut [u8], n: usize, from: usize, end: usize)
     requires { ⌜ (n ≤ from) × (end ≤ length (now room)) ⌝ }
+    ensures { λ _. ⌜ now (room .exit) ≡ repeated (end - from) n from (now (room .entry)) ⌝ }
 {
     let mut k = from;
     while k < end {
@@ -37,10 +45,10 @@ fn repeat(room: &mut [u8], n: usize, from: usize, end: usize)
     }
 }
 
-// Adds the next piece of the file to the first `from` bytes, and answers how many there are then.
+// Adds the next piece of the file to the first `from` bytes, where there are so many. How many there are then.
 pub fn piece(fd: i32, room: &mut [u8], from: usize) -> usize
     requires { ⌜ from ≤ length (now room) ⌝ }
-    ensures { λ r. ⌜ r ≤ length (now (room .exit)) ⌝ }
+    ensures { λ r. ⌜ Added from (now (room .entry)) (now (room .exit)) r ⌝ }
 {
     let n = number(fd, room.len() - from);
     let end = number(fd, room.len());
@@ -52,7 +60,7 @@ pub fn piece(fd: i32, room: &mut [u8], from: usize) -> usize
 
 // Puts the next pieces of the file together, and answers how many bytes they are.
 pub fn assemble(fd: i32, room: &mut [u8]) -> usize
-    ensures { λ r. ⌜ r ≤ length (now (room .exit)) ⌝ }
+    ensures { λ r. ⌜ Assembled (now (room .entry)) (now (room .exit)) r ⌝ }
 {
     let pieces = number(fd, 65536);
     let mut end = 0;

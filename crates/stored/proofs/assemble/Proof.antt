@@ -4,11 +4,13 @@ use mathlib.Core.Path.{_≡_}
 use borrow.Author.Needs.{needs}
 use native.Mathlib.Omega.{arith}
 use lib.ListN.{length}
+use Rattle.stored.specs.Pieces.{Text, none}
+use Rattle.stored.proofs.PieceLaws.{next-piece}
 use Rattle.stored.proofs.assemble.Statement.{statement}
 use Rattle.stored.proofs.assemble.Tie as tie
 
 abbrev Inv-loop : tie.InvT-loop
-Inv-loop fd room₀ pieces end₀ i₀ room end i = (end ≤ length room) × (length room ≡ length room₀)
+Inv-loop fd room₀ pieces end₀ i₀ room end i = (end ≤ length room) × (length room ≡ length room₀) × Text room₀ end room
 
 abbrev μ-loop : tie.MeasureT-loop
 μ-loop fd room₀ pieces end₀ i₀ room end i = pieces - i
@@ -17,7 +19,7 @@ number-requires : tie.Need-number-requires Inv-loop μ-loop
 number-requires c κs = search needs
 
 loop-holds : tie.Need-loop-holds Inv-loop μ-loop
-loop-holds c = search needs
+loop-holds c = search (none, needs)
 
 piece-requires : tie.Need-piece-requires Inv-loop μ-loop
 piece-requires c κs = search needs
@@ -29,7 +31,7 @@ loop-less : tie.Need-loop-less Inv-loop μ-loop
 loop-less c = omega arith
 
 loop-again : tie.Need-loop-again Inv-loop μ-loop
-loop-again c = search needs
+loop-again c = search (next-piece, needs)
 
 same-length : tie.Need-same-length Inv-loop μ-loop
 same-length c = search needs

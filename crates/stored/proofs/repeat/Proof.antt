@@ -1,14 +1,16 @@
--- `stored::repeat` is safe and ends. The measure is what is left up to the end. Assumes nothing.
+-- `stored::repeat`: what is left to repeat, from the room as it is, gives the whole. The measure is what is left up to the end. Assumes nothing.
 use Prim.Native.Nat.{_≤_, _-_}
 use mathlib.Core.Path.{_≡_}
 use borrow.Author.Needs.{needs}
 use native.Mathlib.Omega.{arith}
 use lib.ListN.{length, length-set}
+use Rattle.stored.specs.Pieces.{repeated}
+use Rattle.stored.proofs.PieceLaws.{next-repeat, no-repeat}
 use Rattle.stored.proofs.repeat.Statement.{statement}
 use Rattle.stored.proofs.repeat.Tie as tie
 
 abbrev Inv-loop : tie.InvT-loop
-Inv-loop room₀ n from end k₀ room k = (n ≤ k) × (length room ≡ length room₀)
+Inv-loop room₀ n from end k₀ room k = (n ≤ k) × (length room ≡ length room₀) × (repeated (end - k) n k room ≡ repeated (end - from) n from room₀)
 
 abbrev μ-loop : tie.MeasureT-loop
 μ-loop room₀ n from end k₀ room k = end - k
@@ -32,13 +34,13 @@ loop-less : tie.Need-loop-less Inv-loop μ-loop
 loop-less c = omega arith
 
 loop-again : tie.Need-loop-again Inv-loop μ-loop
-loop-again c = simp length-set (omega arith)
+loop-again c = search (next-repeat, needs)
 
 same-length : tie.Need-same-length Inv-loop μ-loop
 same-length c = search needs
 
 returns : tie.Need-returns Inv-loop μ-loop
-returns c = search needs
+returns c = search (no-repeat, needs)
 
 pub repeat-spec : {M : Type 1} → statement M
 repeat-spec =

@@ -1,7 +1,8 @@
--- `stored::show_name` is safe. Assumes nothing.
+-- `stored::show_name`: where the name stands. Assumes nothing.
 use borrow.Author.Needs.{needs}
 use native.Mathlib.Omega.{arith}
 use lib.ListN.{length-take}
+use Rattle.stored.proofs.PieceLaws.{named}
 use Rattle.stored.proofs.show_name.Statement.{statement}
 use Rattle.stored.proofs.show_name.Tie as tie
 
@@ -36,7 +37,7 @@ same-length : tie.Need-same-length
 same-length c = search needs
 
 returns : tie.Need-returns
-returns c = search needs
+returns c = named (c .before .before .before .before .before .before .before .before .before .before .args .room .now) (c .before .before .before .before .before .before .read-full .last .1 .0) (c .before .before .before .before .before .before .before .before .number .result) (c .before .before .before .before .before .before .before .before .number .ensures .0) (c .before .before .before .before .before .before .read-full .kept .1 .0)
 
 pub show-name-spec : {M : Type 1} → statement M
 show-name-spec =
