@@ -1,7 +1,7 @@
 -- Laws of the chains: the walk along one, the search, and what keeps them. Assumes nothing.
 use mathlib.Core.Path.{_≡_, refl, sym, ap, _∙_}
 use mathlib.Core.Bool.{Bool, true, false}
-use mathlib.Core.List.{List}
+use mathlib.Core.List.{List, _++_}
 use Prim.Native.Nat.{ℕ, suc, _+_, _-_, _*_, _%_, _<_, _≤_}
 use native.Mathlib.Nat.{mod-lt}
 use native.Mathlib.Omega.{arith}
@@ -11,7 +11,7 @@ use lib.Seq.{length-take-le}
 use Rattle.arith.specs.Lists.{same, sorted}
 use Rattle.arith.proofs.RecordLaws.{chunk-lent, length-chunk}
 use Rattle.keys.specs.Keys.{total}
-use Rattle.keys.proofs.KeyLaws.{same-true}
+use Rattle.keys.proofs.KeyLaws.{same-true, sorted-front}
 use Rattle.keys.proofs.OrderLaws.{total-sorted}
 use Rattle.face_table.specs.Records.{Body, bodyOf, bodyIn, headIn}
 use Rattle.face_table.specs.Chains.{last, bucketOf, inBucket, keyAt, Chains, Searchable}
@@ -110,9 +110,9 @@ pub ruleset walks = (walk-start, walk-turn, walk-hit, walk-end, walk-less, walk-
 
 -- ---- the search
 
-pub looked-up : (w key vertices : List ℕ) (n r : ℕ) → take (length vertices) key ≡ sorted vertices → r ≡ last (keyAt (bodyIn w) (take (length vertices) key)) n
+pub looked-up : (w key vertices rest : List ℕ) (n r : ℕ) → key ≡ sorted vertices ++ rest → r ≡ last (keyAt (bodyIn w) (take (length vertices) key)) n
     → r ≡ last (keyAt (bodyIn w) (sorted vertices)) n
-looked-up w key vertices n r ek er = er ∙ ap (λ (k : List ℕ). last (keyAt (bodyIn w) k) n) ek
+looked-up w key vertices rest n r ek er = er ∙ ap (λ (k : List ℕ). last (keyAt (bodyIn w) k) n) (sorted-front key vertices rest ek)
 
 pub looked-in : (w key : List ℕ) (n r : ℕ) → r ≡ last (keyAt (bodyIn w) key) n → r ≤ n
 looked-in w key n r e = let l = last-le (keyAt (bodyIn w) key) n in omega arith

@@ -1,9 +1,8 @@
 -- The record of a face in the lent area, and what is stored there.
 use Prim.Native.Nat.{ℕ, _+_, _*_}
-use mathlib.Core.Path.{_≡_}
-use mathlib.Core.List.{List}
-use mathlib.Core.Logic.{_≢_}
-use lib.ListN.{length, getD, take, drop}
+use mathlib.Core.List.{List, [], _∷_}
+use lib.ListN.{length, getD, take}
+use lib.Seq.{sets}
 use lib.Ieee.{Float, nan}
 use Rattle.arith.specs.Records.{tab, part, chunk}
 use Rattle.area.specs.Tables.{Face}
@@ -70,14 +69,12 @@ joined b other = record { count = b .count; vertices = b .vertices; owner = b .o
 
 -- ---- a record stored
 
--- the words of face f are now these; no other face's have changed, and nothing after them
-pub record FaceStored (w w′ : List ℕ) (f : ℕ) (body : Body) : Type 0 where
-  pub here : bodyIn w′ f ≡ body
-  pub others : (j : ℕ) → j ≢ f → bodyIn w′ j ≡ bodyIn w j
-  pub rest : drop (12 * f + 12) w′ ≡ drop (12 * f + 12) w
+-- the words of a face of one cell from a place on: its vertices behind their count, then its cell, no second cell, and its link
+unfoldable pub freshAt : List ℕ → ℕ → List ℕ → ℕ → ℕ → List ℕ
+freshAt w at vertices cell link = sets (sets w at (length vertices ∷ vertices)) (at + 9) (cell ∷ 0 ∷ link ∷ [])
 
--- the floats of face f alike
-pub record MeasuredStored (fl fl′ : List Float) (f : ℕ) (m : Measured) : Type 0 where
-  pub here : measuredIn fl′ f ≡ m
-  pub others : (j : ℕ) → j ≢ f → measuredIn fl′ j ≡ measuredIn fl j
-  pub rest : drop (12 * f + 12) fl′ ≡ drop (12 * f + 12) fl
+-- what was measured of a face, in the order of its floats
+abbrev pub floatsOf : Measured → List Float
+floatsOf m =
+    m .centre .x ∷ m .centre .y ∷ m .centre .z ∷ m .area ∷ m .normal .x ∷ m .normal .y ∷ m .normal .z
+    ∷ m .«area_vector» .x ∷ m .«area_vector» .y ∷ m .«area_vector» .z ∷ []

@@ -5,9 +5,10 @@ use arith::number::wide;
 ghost use mathlib.Core.Path.{_≡_};
 ghost use Prim.Native.Nat.{_+_, _*_, _≤_, _<_};
 ghost use lib.ListN.{length, getD, set};
+ghost use lib.Seq.{sets};
 ghost use Rattle.arith.specs.Lists as Lists;
 ghost use Rattle.arith.specs.Lists.{sorted};
-ghost use Rattle.face_table.specs.Records.{bodyOf, bodyIn, measuredOf, headIn, fresh, joined, FaceStored, MeasuredStored};
+ghost use Rattle.face_table.specs.Records.{bodyOf, bodyIn, headIn, freshAt, floatsOf};
 ghost use Rattle.face_table.specs.Chains.{last, keyAt, Searchable};
 
 // What was measured of a face: its centre, its area, its unit normal and its area vector.
@@ -35,29 +36,22 @@ fn has_key(r: &[u32], key: &[u32]) -> bool
 // A new face of one cell.
 fn put_face(r: &mut [u32], vertices: &[u32], cell: u32, link: u32)
     requires { ⌜ (length (now r) ≡ 12) × (length (now vertices) ≤ 8) ⌝ }
-    ensures { λ _. ⌜ bodyOf (now (r .exit)) ≡ fresh (now (vertices .entry)) cell link ⌝ }
+    ensures { λ _. ⌜ now (r .exit) ≡ freshAt (now (r .entry)) 0 (now (vertices .entry)) cell link ⌝ }
 {
+    r[0] = narrow(vertices.len());
     let mut j = 0;
     while j < vertices.len() {
         r[1 + j] = vertices[j];
         j += 1;
     }
-    r[0] = narrow(vertices.len());
     r[9] = cell;
     r[10] = 0;
     r[11] = link;
 }
 
-fn put_other(r: &mut [u32], other: u32)
-    requires { ⌜ length (now r) ≡ 12 ⌝ }
-    ensures { λ _. ⌜ bodyOf (now (r .exit)) ≡ joined (bodyOf (now (r .entry))) other ⌝ }
-{
-    r[10] = other;
-}
-
 fn put_measured(r: &mut [f64], m: Measured)
     requires { ⌜ length (now r) ≡ 12 ⌝ }
-    ensures { λ _. ⌜ measuredOf (now (r .exit)) ≡ m ⌝ }
+    ensures { λ _. ⌜ now (r .exit) ≡ sets (now (r .entry)) 0 (floatsOf m) ⌝ }
 {
     r[0] = m.centre.x;
     r[1] = m.centre.y;
@@ -76,7 +70,7 @@ fn put_measured(r: &mut [f64], m: Measured)
 // Face f, of one cell.
 pub fn store_face(words: &mut [u32], f: usize, vertices: &[u32], cell: u32, link: u32)
     requires { ⌜ (12 * f + 12 ≤ length (now words)) × (length (now vertices) ≤ 8) ⌝ }
-    ensures { λ _. ⌜ FaceStored (now (words .entry)) (now (words .exit)) f (fresh (now (vertices .entry)) cell link) ⌝ }
+    ensures { λ _. ⌜ now (words .exit) ≡ freshAt (now (words .entry)) (12 * f) (now (vertices .entry)) cell link ⌝ }
 {
     let s = 12 * f;
     let e = s + 12;
@@ -86,17 +80,15 @@ pub fn store_face(words: &mut [u32], f: usize, vertices: &[u32], cell: u32, link
 // The second cell of face f, + 1.
 pub fn store_other(words: &mut [u32], f: usize, other: u32)
     requires { ⌜ 12 * f + 12 ≤ length (now words) ⌝ }
-    ensures { λ _. ⌜ FaceStored (now (words .entry)) (now (words .exit)) f (joined (bodyIn (now (words .entry)) f) other) ⌝ }
+    ensures { λ _. ⌜ now (words .exit) ≡ set (now (words .entry)) (12 * f + 10) other ⌝ }
 {
-    let s = 12 * f;
-    let e = s + 12;
-    put_other(&mut words[s..e], other);
+    words[12 * f + 10] = other;
 }
 
 // What was measured of face f.
 pub fn store_measured(floats: &mut [f64], f: usize, m: Measured)
     requires { ⌜ 12 * f + 12 ≤ length (now floats) ⌝ }
-    ensures { λ _. ⌜ MeasuredStored (now (floats .entry)) (now (floats .exit)) f m ⌝ }
+    ensures { λ _. ⌜ now (floats .exit) ≡ sets (now (floats .entry)) (12 * f) (floatsOf m) ⌝ }
 {
     let s = 12 * f;
     let e = s + 12;

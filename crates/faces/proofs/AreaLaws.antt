@@ -1,12 +1,11 @@
 -- Laws of the table in the lent area: the mesh's part lent and back, an empty table, and what leaves a table as it is. Assumes nothing.
 use mathlib.Core.Path.{_≡_, refl, sym, ap, _∙_}
 use mathlib.Core.List.{List, _++_}
-use Prim.Native.Nat.{ℕ, _+_, _*_, _<_, _≤_}
-use native.Mathlib.Nat.{not-suc-le-zero}
-use native.Mathlib.Decide.{ℕ-discrete}
+use Prim.Native.Nat.{ℕ, _+_, _*_, _%_, _<_, _≤_}
+use native.Mathlib.Nat.{le-antisymm, mod-lt, not-suc-le-zero}
 use native.Mathlib.Omega.{arith}
-use lib.ListN.{length, getD, take, drop, set, length-set, take-append-drop}
-use lib.Seq.{take-at, take-take, length-take-le, getD-take, drop-append-le, drop-set-lt, getD-set-same, getD-set-other}
+use lib.ListN.{length, getD, take, drop, set, replicate, length-replicate, getD-replicate, replicate-append-replicate, length-append, take-append-drop, List·getD-append}
+use lib.Seq.{sets, length-sets, sets-eq, take-at, take-take, take-set-lt, drop-set-lt, length-take-le, getD-take, getD-append-add}
 use lib.Ieee.{Float}
 use Rattle.arith.specs.Lists.{sorted}
 use Rattle.arith.specs.Records.{chunk}
@@ -16,13 +15,14 @@ use Rattle.area.specs.Layout.{facesIn, faceIn, meshWords, meshFloats, LentWords
 use Rattle.area.specs.declared.Sizes.{Sizes}
 use Rattle.area.proofs.LayoutLaws.{face-in, length-listAt}
 use Rattle.face_table.specs.declared.Measured.{Measured}
-use Rattle.face_table.specs.Records.{bodyOf, bodyIn, measuredOf, measuredIn, faceOf, tableIn, headIn}
-use Rattle.face_table.specs.Chains.{last, Chains, Chained}
-use Rattle.face_table.proofs.RecordParts.{face-parts, read-count}
+use Rattle.keys.specs.Keys.{total}
+use Rattle.face_table.specs.Records.{bodyOf, bodyIn, measuredOf, measuredIn, faceOf, tableIn, headIn, freshAt, floatsOf}
+use Rattle.face_table.specs.Chains.{last, bucketOf, Chains, Chained}
+use Rattle.face_table.proofs.RecordParts.{face-parts, read-count, fresh-take, fresh-drop, sets-front, sets-behind, sets-snoc}
 use Rattle.face_table.proofs.ChainLaws.{chains-same}
 use Rattle.faces.specs.declared.Added.{Added}
 use Rattle.faces.specs.declared.Added.the-variants.{New, Second, Third}
-use Rattle.faces.specs.Using.{Ready, Settled, after, sized, Usable, Used, Cleared}
+use Rattle.faces.specs.Using.{Ready, wordsAfter, floatsAfter, Settled, after, storedAt, sized, Usable, Used}
 use Rattle.faces.proofs.TableLaws.{table-at}
 
 -- ---- area's faces are the table's
@@ -32,6 +32,43 @@ pub table-in : (w : List ℕ) (fl : List Float) (s : Sizes) (words : List ℕ) (
 unfolding facesIn tableIn
 table-in w fl s words floats ew ef ch =
     rw (ew, ef) (tab-same (faceIn w fl) (λ f. faceOf (bodyIn w f) (measuredIn fl f)) (s .faces) (λ k l. face-parts w fl k (let r = ch .room in let f = ch .few in omega arith) (ch .short k l)))
+
+-- ---- what a used face leaves of the first e, and behind them
+
+module _ (slots : ℕ) (vertices : List ℕ) (cell : ℕ) (w : List ℕ) (few : length vertices ≤ 8) (e : ℕ) (h : 13 * slots ≤ e) where
+  head-low : 0 < slots → 12 * slots + bucketOf slots vertices < e
+  head-low some = let b = mod-lt (total vertices) some in omega arith
+
+  pub words-front : (r : Added) → storedAt r < slots → take e (wordsAfter r slots vertices cell w) ≡ wordsAfter r slots vertices cell (take e w)
+  unfolding wordsAfter headIn
+  words-front (New f) low =
+      let k = 12 * slots + bucketOf slots vertices in
+      let lt : k < e = head-low (omega arith) in
+      rw (take-set-lt e (freshAt w (12 * f) vertices cell (getD w k 0)) k (f + 1) lt, fresh-take w vertices (12 * f) cell (getD w k 0) few e (omega arith), getD-take e w k 0 lt)
+  words-front (Second f) low = take-set-lt e w (12 * f + 10) (cell + 1) (omega arith)
+  words-front Third low = refl
+
+  pub words-behind : (r : Added) → storedAt r < slots → drop e (wordsAfter r slots vertices cell w) ≡ drop e w
+  unfolding wordsAfter
+  words-behind (New f) low =
+      let k = 12 * slots + bucketOf slots vertices in
+      let lt : k < e = head-low (omega arith) in
+      drop-set-lt e (freshAt w (12 * f) vertices cell (headIn w slots (bucketOf slots vertices))) k (f + 1) lt ∙ fresh-drop w vertices (12 * f) cell _ few e (omega arith)
+  words-behind (Second f) low = drop-set-lt e w (12 * f + 10) (cell + 1) (omega arith)
+  words-behind Third low = refl
+
+module _ (slots : ℕ) (m : Measured) (fl : List Float) (e : ℕ) (h : 12 * slots ≤ e) where
+  pub floats-front : (r : Added) → storedAt r < slots → take e (floatsAfter r m fl) ≡ floatsAfter r m (take e fl)
+  unfolding floatsAfter
+  floats-front (New f) low = sets-front e (floatsOf m) fl (12 * f) (omega arith)
+  floats-front (Second f) low = refl
+  floats-front Third low = refl
+
+  pub floats-behind : (r : Added) → storedAt r < slots → drop e (floatsAfter r m fl) ≡ drop e fl
+  unfolding floatsAfter
+  floats-behind (New f) low = sets-behind e (floatsOf m) fl (12 * f) (omega arith)
+  floats-behind (Second f) low = refl
+  floats-behind Third low = refl
 
 -- ---- the mesh's part, lent and back
 
@@ -69,10 +106,19 @@ module _ (s : Sizes) (words : List ℕ) (floats : List Float) (vertices : List �
     unfolding meshFloats
     back-floats = take-at mf (drop (12 * s .slots + 4 * s .cells) floats) (12 * s .slots + 4 * s .cells) (lf ∙ floats-long)
 
-    -- from c on, where c lies in the part, the list is as it was if the part is
-    kept-from : {A : Type 0} (l k : List A) (e b : ℕ) → length k ≡ length (take e l) → b ≤ length (take e l) → drop b k ≡ drop b (take e l) → drop b (k ++ drop e l) ≡ drop b l
-    kept-from {A} l k e b long le h =
-        drop-append-le b k (drop e l) (omega arith) ∙ ap (λ (t : List A). t ++ drop e l) h ∙ sym (drop-append-le b (take e l) (drop e l) le) ∙ ap (drop b) (take-append-drop e l)
+    left-words : mw ++ drop (16 * s .slots + 8 * s .cells) words ≡ wordsAfter r (s .slots) vertices cell words
+    left-words =
+        let e = 16 * s .slots + 8 * s .cells in
+        let h : 13 * s .slots ≤ e = omega arith in
+        rw (st .words-left, ec, ← words-front (s .slots) vertices cell words (u .short) e h r (st .low), ← words-behind (s .slots) vertices cell words (u .short) e h r (st .low))
+        (take-append-drop e (wordsAfter r (s .slots) vertices cell words))
+
+    left-floats : mf ++ drop (12 * s .slots + 4 * s .cells) floats ≡ floatsAfter r m floats
+    left-floats =
+        let e = 12 * s .slots + 4 * s .cells in
+        let h : 12 * s .slots ≤ e = omega arith in
+        rw (st .floats-left, ← floats-front (s .slots) m floats e h r (st .low), ← floats-behind (s .slots) m floats e h r (st .low))
+        (take-append-drop e (floatsAfter r m floats))
 
     pub part-used : Used s words (mw ++ drop (16 * s .slots + 8 * s .cells) words) floats (mf ++ drop (12 * s .slots + 4 * s .cells) floats) vertices m cell r
     part-used =
@@ -82,8 +128,10 @@ module _ (s : Sizes) (words : List ℕ) (floats : List Float) (vertices : List �
               table-in mw mf (sized s (after r (s .faces))) (mw ++ drop (16 * s .slots + 8 * s .cells) words) (mf ++ drop (12 * s .slots + 4 * s .cells) floats) back-words back-floats (st .chains)
               ∙ rw (before, ← ec) (st .faces);
           chained = rw back-words (st .chains);
-          words-kept = kept-from words mw (16 * s .slots + 8 * s .cells) (13 * s .slots) lw (let e = words-long in omega arith) (st .kept .words);
-          floats-kept = kept-from floats mf (12 * s .slots + 4 * s .cells) (12 * s .slots) lf (let e = floats-long in omega arith) (st .kept .floats);
+          words-left = left-words;
+          floats-left = left-floats;
+          words-kept = rw left-words (words-behind (s .slots) vertices cell words (u .short) (13 * s .slots) (omega arith) r (st .low));
+          floats-kept = rw left-floats (floats-behind (s .slots) m floats (12 * s .slots) (omega arith) r (st .low));
         }
 
 pub part-words : (s : Sizes) (words : List ℕ) (floats : List Float) (vertices : List ℕ) (cell : ℕ) → Usable s words floats vertices cell → 16 * s .slots + 8 * s .cells ≡ length (take (16 * s .slots + 8 * s .cells) words)
@@ -96,60 +144,49 @@ pub ruleset uses = (part-words, part-floats, part-ready, part-used)
 
 -- ---- an empty table
 
--- the first b heads are 0, and nothing after the heads has changed
-pub record Clearing (words₀ words : List ℕ) (slots b : ℕ) : Type 0 where
-  pub inside : b ≤ slots
-  pub long : length words ≡ length words₀
-  pub empty : (k : ℕ) → k < b → headIn words slots k ≡ 0
-  pub kept : drop (13 * slots) words ≡ drop (13 * slots) words₀
+abbrev zeros : ℕ → List ℕ
+zeros n = replicate n 0
 
-pub clear-start : (words : List ℕ) (slots : ℕ) → Clearing words words slots 0
-clear-start words slots = record { inside = omega arith; long = refl; empty = λ k l. absurd (not-suc-le-zero l); kept = refl }
+pub clear-turn : (words words₀ words′ : List ℕ) (slots b : ℕ) → words ≡ sets words₀ (12 * slots) (zeros b) → words′ ≡ set words (12 * slots + b) 0
+    → words′ ≡ sets words₀ (12 * slots) (zeros (b + 1))
+clear-turn words words₀ words′ slots b inv e =
+    let k : length (zeros b) ≡ b = length-replicate b 0 in
+    rw (e, inv, ← replicate-append-replicate {A = ℕ} b 1 0, sets-snoc (zeros b) words₀ (12 * slots) 0, k)
 
-pub clear-turn : (words₀ words words′ : List ℕ) (s : Sizes) (b : ℕ) → Clearing words₀ words (s .slots) b → b < s .slots → LentWords s words₀ → words′ ≡ set words (12 * s .slots + b) 0
-    → Clearing words₀ words′ (s .slots) (b + 1)
-unfolding headIn
-clear-turn words₀ words words′ s b inv more lent e =
-    record {
-      inside = omega arith;
-      long = rw (e, length-set) (inv .long);
-      empty = λ k l. rw e (by k l (ℕ-discrete k b));
-      kept = rw e (drop-set-lt (13 * s .slots) words (12 * s .slots + b) 0 (omega arith) ∙ inv .kept);
-    }
-  where
-    by : (k : ℕ) → k < b + 1 → Dec (k ≡ b) → getD (set words (12 * s .slots + b) 0) (12 * s .slots + k) 0 ≡ 0
-    by k l (yes q) =
-        let h = inv .long in
-        let g = lent .long in
-        rw q (getD-set-same words (12 * s .slots + b) 0 0 (omega arith))
-    by k l (no ne) =
-        let far : 12 * s .slots + k ≡ 12 * s .slots + b → ⊥ = λ q. ne (omega arith) in
-        let lt : k < b = omega arith in
-        getD-set-other words (12 * s .slots + b) (12 * s .slots + k) 0 0 far ∙ inv .empty k lt
+pub clear-room : (words words₀ : List ℕ) (s : Sizes) (b : ℕ) → length words ≡ length words₀ → b < s .slots → LentWords s words₀ → 12 * s .slots + b < length words
+clear-room words words₀ s b long more lent = let g = lent .long in omega arith
 
-pub clear-room : (words₀ words : List ℕ) (s : Sizes) (b : ℕ) → Clearing words₀ words (s .slots) b → b < s .slots → LentWords s words₀ → 12 * s .slots + b < length words
-clear-room words₀ words s b inv more lent = let h = inv .long in let g = lent .long in omega arith
+pub clear-done : (words words₀ : List ℕ) (slots b : ℕ) → words ≡ sets words₀ (12 * slots) (zeros b) → b ≤ slots → slots ≤ b
+    → words ≡ sets words₀ (12 * slots) (zeros slots)
+clear-done words words₀ slots b inv le ge = rw (le-antisymm le ge) at inv
 
-pub cleared : (words₀ words : List ℕ) (s : Sizes) (b : ℕ) → Clearing words₀ words (s .slots) b → s .slots ≤ b → LentWords s words₀ → Cleared s words₀ words
+pub ruleset clears = (clear-turn, clear-room, clear-done)
+
+-- no bucket has a face
+pub cleared : (words₀ words : List ℕ) (s : Sizes) → LentWords s words₀ → words ≡ sets words₀ (12 * s .slots) (zeros (s .slots)) → Chained (sized s 0) words
 unfolding meshWords headIn last
-cleared words₀ words s b inv ge lent =
-    let h = inv .long in
+cleared words₀ words s lent e =
     let g = lent .long in
-    let e : length (take (16 * s .slots + 8 * s .cells) words) ≡ 16 * s .slots + 8 * s .cells = length-take-le (16 * s .slots + 8 * s .cells) words (omega arith) in
+    let n = 12 * s .slots in
+    let many : length (zeros (s .slots)) ≡ s .slots = length-replicate (s .slots) 0 in
+    let long : length words ≡ length words₀ = rw e (length-sets words₀ n (zeros (s .slots))) in
+    let before : length (take n words₀) ≡ n = length-take-le n words₀ (omega arith) in
+    let part : length (take (16 * s .slots + 8 * s .cells) words) ≡ 16 * s .slots + 8 * s .cells = length-take-le (16 * s .slots + 8 * s .cells) words (omega arith) in
+    let rest = drop (n + length (zeros (s .slots))) words₀ in
+    let whole : words ≡ take n words₀ ++ zeros (s .slots) ++ rest = e ∙ sets-eq (zeros (s .slots)) words₀ n (omega arith) in
     record {
-      chained =
-          record {
-            few = omega arith;
-            room = rw e (omega arith);
-            short = λ k l. absurd (not-suc-le-zero l);
-            links = λ k l. absurd (not-suc-le-zero l);
-            heads = λ k l. getD-take (16 * s .slots + 8 * s .cells) words (12 * s .slots + k) 0 (omega arith) ∙ inv .empty k (omega arith);
-            distinct = λ j k lj lk e. absurd (not-suc-le-zero lj);
-          };
-      words-kept = inv .kept;
+      few = omega arith;
+      room = rw part (omega arith);
+      short = λ k l. absurd (not-suc-le-zero l);
+      links = λ k l. absurd (not-suc-le-zero l);
+      heads =
+          λ k l. getD-take (16 * s .slots + 8 * s .cells) words (n + k) 0 (omega arith)
+          ∙ ap (λ (t : List ℕ). getD t (n + k) 0) whole
+          ∙ List·getD-append (take n words₀ ++ zeros (s .slots)) rest 0 (n + k) (simp length-append (omega arith))
+          ∙ (rw before at (getD-append-add (take n words₀) (zeros (s .slots)) k 0))
+          ∙ getD-replicate (s .slots) k 0 0 l;
+      distinct = λ j k lj lk e. absurd (not-suc-le-zero lj);
     }
-
-pub ruleset clears = (clear-start, clear-turn, clear-room, cleared)
 
 -- ---- what leaves a table as it is: stores from word 13 F and float 12 F on
 

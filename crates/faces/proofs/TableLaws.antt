@@ -11,7 +11,7 @@ use native.Mathlib.Omega.{arith}
 use borrow.Author.Tests.{eq-eqb, ne-eqb}
 use lib.Dec.{eqb}
 use lib.ListN.{length, getD, take, drop, set, length-set}
-use lib.Seq.{getD-set-same, getD-set-other, getD-drop, drop-drop, drop-set-lt, drop-set-add, take-set-le, set-at, set-append-left}
+use lib.Seq.{sets, getD-set-same, getD-set-other, getD-drop, drop-set-add, take-set-le, set-at, set-append-left}
 use lib.Ieee.{Float}
 use Rattle.arith.specs.Lists.{firstFrom, same, sorted}
 use Rattle.arith.specs.Records.{chunk, tab}
@@ -22,13 +22,14 @@ use Rattle.area.proofs.LayoutLaws.{found-none, found-one}
 use Rattle.keys.specs.Keys.{total}
 use Rattle.keys.proofs.KeyLaws.{same-true, same-self}
 use Rattle.face_table.specs.declared.Measured.{Measured}
-use Rattle.face_table.specs.Records.{Body, bodyOf, bodyIn, measuredIn, faceOf, tableIn, headIn, fresh, joined, FaceStored, MeasuredStored}
+use Rattle.face_table.specs.Records.{Body, bodyOf, bodyIn, measuredIn, faceOf, tableIn, headIn, fresh, joined, freshAt, floatsOf}
 use Rattle.face_table.specs.Chains.{last, bucketOf, inBucket, keyAt, Chains}
 use Rattle.face_table.proofs.Last.{last-hit, last-miss, last-same, last-passes, last-none}
+use Rattle.face_table.proofs.RecordParts.{FaceStored, MeasuredStored, face-stored, other-stored, measured-stored}
 use Rattle.face_table.proofs.ChainLaws.{Linked, chains-same}
 use Rattle.faces.specs.Table.{hasKey, lookup, newFace, withNeighbour, joining, settled, adding}
 use Rattle.faces.specs.declared.Added.the-variants.{New, Second, Third}
-use Rattle.faces.specs.Using.{Ready, Kept, Extended, Settled}
+use Rattle.faces.specs.Using.{Ready, wordsAfter, floatsAfter, Extended, Settled}
 
 -- ---- what a store leaves
 
@@ -40,16 +41,11 @@ chunk-before w k v j h =
     ap (λ (i : ℕ). chunk (set w i v) 12 j) e ∙ ap (take 12) (drop-set-add (12 * j) w (k - 12 * j) v) ∙ take-set-le 12 (drop (12 * j) w) (k - 12 * j) v far
 
 -- what stands from b on
-pub rest-at : (w w′ : List ℕ) (b i : ℕ) → drop b w′ ≡ drop b w → b ≤ i → getD w′ i 0 ≡ getD w i 0
+rest-at : (w w′ : List ℕ) (b i : ℕ) → drop b w′ ≡ drop b w → b ≤ i → getD w′ i 0 ≡ getD w i 0
 rest-at w w′ b i h le =
     let e : i ≡ b + (i - b) = omega arith in
     ap (λ (k : ℕ). getD w′ k 0) e ∙ sym (getD-drop b w′ (i - b) 0) ∙ ap (λ (l : List ℕ). getD l (i - b) 0) h ∙ getD-drop b w (i - b) 0
     ∙ ap (λ (k : ℕ). getD w k 0) (sym e)
-
-pub rest-from : {A : Type 0} (w w′ : List A) (b c : ℕ) → drop b w′ ≡ drop b w → b ≤ c → drop c w′ ≡ drop c w
-rest-from {A} w w′ b c h le =
-    let e : b + (c - b) ≡ c = omega arith in
-    ap (λ (k : ℕ). drop k w′) (sym e) ∙ sym (drop-drop (c - b) b w′) ∙ ap (drop (c - b)) h ∙ drop-drop (c - b) b w ∙ ap (λ (k : ℕ). drop k w) e
 
 -- ---- one face more
 
@@ -59,8 +55,14 @@ face-new vertices m cell link = rw (← found-none 0 refl)
 
 module _ (w w₁ w₂ : List ℕ) (fl fl′ : List Float) (slots n s link place : ℕ) (vertices : List ℕ) (m : Measured) (cell : ℕ)
     (rd : Ready w fl slots n vertices cell) (es : s ≡ total vertices) (el : link ≡ headIn w slots (s % slots))
-    (f : FaceStored w w₁ n (fresh vertices cell link)) (long : length w₁ ≡ length w) (ep : place ≡ n)
-    (h : w₂ ≡ set w₁ (12 * slots + s % slots) (place + 1)) (g : MeasuredStored fl fl′ n m) where
+    (ef : w₁ ≡ freshAt w (12 * n) vertices cell link) (long : length w₁ ≡ length w) (ep : place ≡ n)
+    (h : w₂ ≡ set w₁ (12 * slots + s % slots) (place + 1)) (eg : fl′ ≡ sets fl (12 * n) (floatsOf m)) where
+  f : FaceStored w w₁ n (fresh vertices cell link)
+  f = face-stored w w₁ vertices n cell link (let r = rd .chains .room in let l = rd .space in omega arith) (rd .short) long ef
+
+  g : MeasuredStored fl fl′ n m
+  g = measured-stored fl fl′ n m (let r = rd .floats in let l = rd .space in omega arith) eg
+
   some : 0 < slots
   some = let l = rd .space in omega arith
 
@@ -152,13 +154,8 @@ module _ (w w₁ w₂ : List ℕ) (fl fl′ : List Float) (slots n s link place 
             tab-next (λ k. faceOf (bodyIn w₂ k) (measuredIn fl′ k)) n
             ∙ ap₂ (λ (l : List Face) (x : Face). l ++ x ∷ []) (tab-same _ _ n (λ k l. rw (old k l, old-measured k l))) (rw (new, g .here) (face-new vertices m cell link));
         chains = more-chains;
-        kept =
-            record {
-              words =
-                  rw h (drop-set-lt (13 * slots) w₁ (12 * slots + s % slots) (place + 1) (let b = bucket in omega arith))
-                  ∙ rest-from w w₁ (12 * n + 12) (13 * slots) (f .rest) (let r = rd .space in omega arith);
-              floats = rest-from fl fl′ (12 * n + 12) (12 * slots) (g .rest) (let r = rd .space in omega arith);
-            };
+        words-left = unfold wordsAfter in rw (h, ef, el, es, ep);
+        floats-left = unfold floatsAfter in eg;
       }
 
 pub head-ready : (w : List ℕ) (fl : List Float) (slots n s : ℕ) (vertices : List ℕ) (cell : ℕ) → Ready w fl slots n vertices cell → 12 * slots + s % slots < length w
@@ -210,9 +207,6 @@ module _ (w w′ : List ℕ) (fl : List Float) (slots n i cell : ℕ) (st : Face
   joined-chains long =
       chains-same w w′ slots n ch (let r = ch .room in omega arith) (λ j l. linked j (ℕ-discrete j i))
       (λ b l. rest-at w w′ (12 * i + 12) (12 * slots + b) (st .rest) (let f = ch .few in omega arith))
-
-  joined-kept : Kept w w′ fl fl slots
-  joined-kept = record { words = rest-from w w′ (12 * i + 12) (13 * slots) (st .rest) (let f = ch .few in omega arith); floats = refl }
 
   joined-faces : tableIn w′ fl n ≡ set (tableIn w fl n) i (withNeighbour cell (faceOf (bodyIn w i) (measuredIn fl i)))
   unfolding tableIn
@@ -281,13 +275,13 @@ lookup-one w fl slots n key i ch e low =
 -- ---- the three answers
 
 pub is-new : (w w′ : List ℕ) (fl fl′ : List Float) (slots n : ℕ) (vertices : List ℕ) (m : Measured) (cell at : ℕ)
-    → at ≡ last (keyAt (bodyIn w) (sorted vertices)) n → at ≡ 0 → Extended w w′ fl fl′ slots n vertices m cell
+    → at ≡ last (keyAt (bodyIn w) (sorted vertices)) n → at ≡ 0 → n < slots → Extended w w′ fl fl′ slots n vertices m cell
     → Settled w w′ fl fl′ slots n vertices m cell (New n)
 unfolding adding settled
-is-new w w′ fl fl′ slots n vertices m cell at el ez x =
+is-new w w′ fl fl′ slots n vertices m cell at el ez low x =
     let z : last (keyAt (bodyIn w) (sorted vertices)) n ≡ 0 = sym el ∙ ez in
     let e : lookup (sorted vertices) (tableIn w fl n) ≡ Nothing = lookup-none w fl n (sorted vertices) z in
-    record { answer = rw (e, length-table w fl n); faces = x .faces ∙ rw e; chains = x .chains z; kept = x .kept }
+    record { answer = rw (e, length-table w fl n); faces = x .faces ∙ rw e; chains = x .chains z; words-left = x .words-left; floats-left = x .floats-left; low = low }
 
 module _ (w : List ℕ) (fl : List Float) (slots n : ℕ) (vertices : List ℕ) (m : Measured) (cell at : ℕ)
     (el : at ≡ last (keyAt (bodyIn w) (sorted vertices)) n) (nz : at ≡ 0 → ⊥) (le : at ≤ n) (rd : Ready w fl slots n vertices cell) where
@@ -302,22 +296,25 @@ module _ (w : List ℕ) (fl : List Float) (slots n : ℕ) (vertices : List ℕ) 
   face-there : faceAt (tableIn w fl n) (at - 1) ≡ faceOf (bodyIn w (at - 1)) (measuredIn fl (at - 1))
   face-there = table-at w fl n (at - 1) low-face
 
-  pub is-second : (w′ : List ℕ) (o : ℕ) → o ≡ bodyIn w (at - 1) .other → o ≡ 0 → FaceStored w w′ (at - 1) (joined (bodyIn w (at - 1)) (cell + 1))
+  pub is-second : (w′ : List ℕ) (o : ℕ) → o ≡ bodyIn w (at - 1) .other → o ≡ 0 → w′ ≡ set w (12 * (at - 1) + 10) (cell + 1)
       → length w′ ≡ length w → Settled w w′ fl fl slots n vertices m cell (Second (at - 1))
-  unfolding adding settled joining faceOf
-  is-second w′ o eo z st long =
+  unfolding adding settled joining faceOf wordsAfter floatsAfter
+  is-second w′ o eo z put long =
+      let st = other-stored w w′ (at - 1) (cell + 1) (let r = rd .chains .room in let s = rd .space in omega arith) long put in
       let e : faceAt (tableIn w fl n) (at - 1) .neighbour ≡ Nothing =
       ap (λ (f : Face). f .neighbour) face-there ∙ sym (found-none (bodyIn w (at - 1) .other) (sym eo ∙ z)) in
       record {
         answer = rw (there, e);
         faces = joined-faces w w′ fl slots n (at - 1) cell st (rd .chains) low-face ∙ rw (there, e, face-there);
         chains = joined-chains w w′ fl slots n (at - 1) cell st (rd .chains) low-face long;
-        kept = joined-kept w w′ fl slots n (at - 1) cell st (rd .chains) low-face;
+        words-left = put;
+        floats-left = refl;
+        low = let s = rd .space in omega arith;
       }
 
   pub is-third : (o : ℕ) → o ≡ bodyIn w (at - 1) .other → (o ≡ 0 → ⊥) → Settled w w fl fl slots n vertices m cell Third
-  unfolding adding settled joining faceOf
+  unfolding adding settled joining faceOf wordsAfter floatsAfter
   is-third o eo z =
       let e : faceAt (tableIn w fl n) (at - 1) .neighbour ≡ At (bodyIn w (at - 1) .other - 1) =
       ap (λ (f : Face). f .neighbour) face-there ∙ sym (found-one (bodyIn w (at - 1) .other) (λ q. z (eo ∙ q))) in
-      record { answer = rw (there, e); faces = rw (there, e); chains = rd .chains; kept = record { words = refl; floats = refl } }
+      record { answer = rw (there, e); faces = rw (there, e); chains = rd .chains; words-left = refl; floats-left = refl; low = let s = rd .space in omega arith }

@@ -2,8 +2,12 @@
 use area::Sizes;
 use arith::number::narrow;
 use face_table::Measured;
+ghost use mathlib.Core.Path.{_≡_};
+ghost use Prim.Native.Nat.{_*_};
+ghost use lib.ListN.{replicate};
+ghost use lib.Seq.{sets};
 ghost use Rattle.area.specs.Layout.{LentWords};
-ghost use Rattle.faces.specs.Using.{Ready, Extended, Settled, Usable, Used, Cleared};
+ghost use Rattle.faces.specs.Using.{Ready, Extended, Settled, Usable, Used};
 
 pub enum Added {
     // the face is new, and has this number
@@ -87,10 +91,10 @@ pub fn use_face(
     )
 }
 
-// An empty table.
+// An empty table: no bucket has a face.
 pub fn clear(words: &mut [u32], s: Sizes)
     requires { ⌜ LentWords s (now words) ⌝ }
-    ensures { λ _. ⌜ Cleared s (now (words .entry)) (now (words .exit)) ⌝ }
+    ensures { λ _. ⌜ now (words .exit) ≡ sets (now (words .entry)) (12 * s .slots) (replicate (s .slots) 0) ⌝ }
 {
     let slots = s.slots;
     let mut b = 0;

@@ -1,11 +1,15 @@
 use mathlib.Core.Path.{refl}
+use Rattle.faces.proofs.AreaLaws.{cleared}
 use Rattle.cells.proofs.CellLaws.{addable-kept}
 use borrow.Author.Needs.{needs}
 use Rattle.cells.proofs.add_cells.Statement.{statement}
 use Rattle.cells.proofs.add_cells.Tie as tie
 
 fill-cells-requires : tie.Need-fill-cells-requires
-fill-cells-requires c κs = (addable-kept _ _ _ _ _ _ _ _ (c .before .before .before .before .before .before .before .before .before .before .pre) (c .before .before .before .before .clear .kept .0) refl, c .before .before .before .before .clear .ensures .chained)
+fill-cells-requires c κs =
+    let b = c .before .before .before .before in
+    let pre = b .before .before .before .before .before .before .pre in
+    (addable-kept _ _ _ _ _ _ _ _ pre (b .clear .kept .0) refl, cleared _ _ _ (pre .lent-words) (b .clear .ensures))
 
 pub add-cells-spec : {M : Type 1} → statement M
 add-cells-spec =

@@ -1,14 +1,15 @@
 use Prim.Native.Nat.{_≤_, _-_}
 use mathlib.Core.Path.{_≡_}
 use native.Mathlib.Omega.{arith}
-use lib.ListN.{length, take, drop, length-set}
+use lib.ListN.{length, take, length-set}
+use lib.Seq.{sets}
 use Rattle.face_table.proofs.RecordParts.{records}
 use borrow.Author.Needs.{needs}
 use Rattle.face_table.proofs.put_face.Statement.{statement}
 use Rattle.face_table.proofs.put_face.Tie as tie
 
 abbrev Inv-loop : tie.InvT-loop
-Inv-loop r₀ vertices cell link j₀ r j = (j ≤ length vertices) × (length r ≡ 12) × (take j (drop 1 r) ≡ take j vertices)
+Inv-loop r₀ vertices cell link j₀ r j = (j ≤ length vertices) × (length r ≡ 12) × (r ≡ sets r₀ 1 (take j vertices))
 
 abbrev μ-loop : tie.MeasureT-loop
 μ-loop r₀ vertices cell link j₀ r j = length vertices - j
@@ -22,16 +23,16 @@ put-face-spec =
     (tie.spec
     Inv-loop
     μ-loop
-    (λ c. search (records, needs))
-    (λ c. search (records, needs))
-    (λ c. search (records, needs))
-    (λ c. search (records, needs))
-    (λ c. search (records, needs))
-    (λ c. search (records, needs))
-    (λ c. search (records, needs))
-    (λ c. search (records, needs))
-    (λ c. search (records, needs))
     (λ c κs. search (records, needs))
+    (λ c. search (records, needs))
+    (λ c. search (records, needs))
+    (λ c. search (records, needs))
+    (λ c. search (records, needs))
+    (λ c. search (records, needs))
+    (λ c. search (records, needs))
+    (λ c. search (records, needs))
+    (λ c. search (records, needs))
+    (λ c. search (records, needs))
     (λ c. search (records, needs))
     (λ c. search (records, needs))
     (λ c. search (records, needs))

@@ -1,6 +1,5 @@
 use native.Mathlib.Omega.{arith}
 use lib.ListN.{length-set}
-use Rattle.face_table.proofs.RecordParts.{measured-put}
 use borrow.Author.Needs.{needs}
 use Rattle.face_table.proofs.put_measured.Statement.{statement}
 use Rattle.face_table.proofs.put_measured.Tie as tie
@@ -23,9 +22,6 @@ slice-write-r-9 c = simp length-set (omega arith)
 slice-write-r-10 : tie.Need-slice-write-r-10
 slice-write-r-10 c = simp length-set (omega arith)
 
-returns : tie.Need-returns
-returns c = measured-put (c .args .r .now) (c .args .m) (c .pre)
-
 pub put-measured-spec : {M : Type 1} → statement M
 put-measured-spec =
     tie.close
@@ -41,4 +37,4 @@ put-measured-spec =
     slice-write-r-9
     slice-write-r-10
     (λ c. search needs)
-    returns)
+    (λ c. search needs))

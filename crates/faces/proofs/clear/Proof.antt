@@ -1,11 +1,14 @@
-use Prim.Native.Nat.{_-_}
-use Rattle.faces.proofs.AreaLaws.{Clearing, clears}
+use Prim.Native.Nat.{_≤_, _-_, _*_}
+use mathlib.Core.Path.{_≡_}
+use lib.ListN.{length, replicate}
+use lib.Seq.{sets}
+use Rattle.faces.proofs.AreaLaws.{clears}
 use borrow.Author.Needs.{needs}
 use Rattle.faces.proofs.clear.Statement.{statement}
 use Rattle.faces.proofs.clear.Tie as tie
 
 abbrev Inv-loop : tie.InvT-loop
-Inv-loop words₀ slots b₀ words b = Clearing words₀ words slots b
+Inv-loop words₀ slots b₀ words b = (b ≤ slots) × (length words ≡ length words₀) × (words ≡ sets words₀ (12 * slots) (replicate b 0))
 
 abbrev μ-loop : tie.MeasureT-loop
 μ-loop words₀ slots b₀ words b = slots - b

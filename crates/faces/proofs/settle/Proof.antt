@@ -6,7 +6,7 @@ use Rattle.faces.proofs.settle.Tie as tie
 returns : tie.Need-returns
 returns c =
     let b = c .before .before .before .before .before .before .before in
-    is-new _ _ _ _ _ _ _ _ _ _ (b .before .find .ensures .0) (b .if1 .taken) (c .before .before .before .before .add .ensures)
+    is-new _ _ _ _ _ _ _ _ _ _ (b .before .find .ensures .0) (b .if1 .taken) (b .before .before .before .before .before .before .pre .space) (c .before .before .before .before .add .ensures)
 
 returns-2 : tie.Need-returns-2
 returns-2 c =
