@@ -2,7 +2,7 @@
 use mathlib.Core.Path.{_≡_, refl, sym, ap, _∙_}
 use mathlib.Core.Bool.{Bool, true, false, cond}
 use mathlib.Core.List.{List, []}
-use mathlib.Core.Logic.{_⊎_, inl, inr, _≢_}
+use mathlib.Core.Logic.{_⊎_, inl, inr, _≢_, ⊎-elim}
 use Prim.Native.Nat.{ℕ, zero, suc, _+_, _-_, _*_, _<_, _≤_}
 use native.Mathlib.Nat.{not-suc-le-zero}
 use native.Mathlib.Numerals.{add-one}
@@ -24,7 +24,7 @@ use Rattle.area.specs.declared.Sizes.{Sizes}
 use Rattle.area.specs.Tables.{Face, Cell, faceAt, cellAt}
 use Rattle.area.specs.Layout.{listAt, found, faceIn, cellIn, facesIn, cellsIn, meshWords, meshFloats, wordsEnd, LentWords}
 use Rattle.area.proofs.LayoutLaws.{face-in, face-out, cell-in, length-cellsIn, length-listAt, listAt-in}
-use Rattle.connection.specs.Neighbours.{otherOf, beyond, addFound, addNeighbour, neighboursOf, linkedAt, linked, firstIn, countIn, Laid, Linked}
+use Rattle.connection.specs.Neighbours.{otherOf, beyond, addFound, addNeighbour, neighboursOf, linkedAt, linked, firstIn, countIn, Laid, Outside, Linked}
 use Rattle.connection.proofs.Counting.{below-suc}
 use Rattle.connection.specs.Search.{Beyond, Added, Crossed, neighboursIn, Written, Listed}
 
@@ -63,7 +63,7 @@ same-list w w′ at n h = tab-same _ _ n h
 
 pub added-was : (w : List ℕ) (at n d : ℕ) (t : Bool) → t ≡ any (eqb d) (listAt w at n) → t ≡ true → Added w w at n d n
 unfolding addNew
-added-was w at n d t et e = record { list = rw (sym et ∙ e); more = omega arith; kept = λ j h. refl }
+added-was w at n d t et e = record { list = rw (sym et ∙ e); more = omega arith; grows = omega arith; kept = λ j h. refl }
 
 pub added-new : (w : List ℕ) (at n d x : ℕ) (t : Bool) → t ≡ any (eqb d) (listAt w at n) → t ≡ false → x ≡ d → at + n < length w
     → Added w (set w (at + n) x) at n d (n + 1)
@@ -75,7 +75,8 @@ added-new w at n d x t et e ex room =
     record {
       list = rw (sym et ∙ e) (tab-next (λ k. getD w′ (at + k) 0) n ∙ rw (one, old));
       more = omega arith;
-      kept = λ j ne. getD-set-other w (at + n) j x 0 ne;
+      grows = omega arith;
+      kept = λ j q. getD-set-other w (at + n) j x 0 (⊎-elim (λ a. omega arith) (λ b. omega arith) q);
     }
 
 pub ruleset adding = (added-was, added-new)
@@ -133,11 +134,11 @@ pub ruleset looking = (beyond-none, beyond-owner, beyond-other)
 module _ (s : Sizes) (w : List ℕ) (cell f at n : ℕ) (x : Found) (b : Beyond s w cell f x) where
   pub crossed-none : x ≡ Nothing → Crossed s w w cell f at n n
   unfolding addNeighbour addFound
-  crossed-none e = record { list = λ floats. rw (← b .found floats, e); more = omega arith; kept = λ j h. refl }
+  crossed-none e = record { list = λ floats. rw (← b .found floats, e); more = omega arith; grows = omega arith; kept = λ j h. refl }
 
   pub crossed-one : (w′ : List ℕ) (d r : ℕ) → x ≡ At d → Added w w′ at n d r → Crossed s w w′ cell f at n r
   unfolding addNeighbour addFound
-  crossed-one w′ d r e a = record { list = λ floats. rw (← b .found floats, e) (a .list); more = a .more; kept = a .kept }
+  crossed-one w′ d r e a = record { list = λ floats. rw (← b .found floats, e) (a .list); more = a .more; grows = a .grows; kept = a .kept }
 
   pub crossed-small : (d : ℕ) → x ≡ At d → d < 4294967296
   crossed-small d e = b .small d e
@@ -236,7 +237,7 @@ pub record Listing (s : Sizes) (w₀ w : List ℕ) (i at end n k : ℕ) : Type 0
   pub few : n ≤ k
   pub from : 14 * s .slots ≤ at
   pub within : at + end ≤ 15 * s .slots
-  pub kept : (j : ℕ) → (j < at) ⊎ (at + end ≤ j) → getD w j 0 ≡ getD w₀ j 0
+  pub kept : (j : ℕ) → (j < at) ⊎ (at + n ≤ j) → getD w j 0 ≡ getD w₀ j 0
 
 -- how many faces a cell has
 count-of : (s : Sizes) (w : List ℕ) (i : ℕ) → i < s .cells → (floats : List Float) → length (cellAt (cellsIn s w floats) i .faces) ≡ countIn s w i
@@ -263,8 +264,8 @@ listing-start s w i at end laid h ea ee =
     }
 
 module _ (s : Sizes) (w₀ w : List ℕ) (i at end n k : ℕ) (t : Listing s w₀ w i at end n k) where
-  listing-same : Same s w₀ w
-  listing-same =
+  listing-same : n ≤ end → Same s w₀ w
+  listing-same short =
       let a = t .from in
       let b = t .within in
       record { low = λ j h. t .kept j (inl (omega arith)); cells = λ c m h l. t .kept (16 * s .slots + 8 * c + m) (inr (omega arith)) }
@@ -282,19 +283,24 @@ module _ (s : Sizes) (w₀ w : List ℕ) (i at end n k : ℕ) (t : Listing s w�
         few = let a = t .few in let b = cr .more in omega arith;
         from = t .from;
         within = t .within;
-        kept = λ j q. cr .kept j (other j q) ∙ t .kept j q;
+        kept = λ j q. cr .kept j (⊎-elim (λ l. inl (further j l)) (λ g. inr g) q) ∙ t .kept j (⊎-elim (λ l. inl l) (λ g. inr (behind j g)) q);
       }
     where
-      other : (j : ℕ) → (j < at) ⊎ (at + end ≤ j) → j ≢ at + n
-      other j (inl l) = omega arith
-      other j (inr g) = let a = t .few in omega arith
+      same : Same s w₀ w
+      same = listing-same (let a = t .few in omega arith)
+
+      further : (j : ℕ) → j < at → j < at + n
+      further j l = omega arith
+
+      behind : (j : ℕ) → at + r ≤ j → at + n ≤ j
+      behind j g = let a = cr .grows in omega arith
 
       left : (floats : List Float) → foldl (addNeighbour (facesIn s w₀ floats) i) (listAt w′ at r) (drop (k + 1) (cellAt (cellsIn s w₀ floats) i .faces)) ≡ neighboursIn s w₀ floats i
       left floats =
           let fl = cellAt (cellsIn s w₀ floats) i .faces in
-          let e : f ≡ getD fl k 0 = rw (same-cell s w₀ w lent laid listing-same i h floats) at (ef floats) in
+          let e : f ≡ getD fl k 0 = rw (same-cell s w₀ w lent laid same i h floats) at (ef floats) in
           let c : listAt w′ at r ≡ addNeighbour (facesIn s w₀ floats) i (listAt w at n) (getD fl k 0) =
-          rw (same-faces s w₀ w lent laid listing-same floats, e) at (cr .list floats) in
+          rw (same-faces s w₀ w lent laid same floats, e) at (cr .list floats) in
           let l : k < length fl = rw (← t .all floats) more in
           rw c (sym (foldl-next fl k 0 l (addNeighbour (facesIn s w₀ floats) i) (listAt w at n)) ∙ t .left floats)
 
@@ -304,7 +310,7 @@ module _ (s : Sizes) (w₀ w : List ℕ) (i at end n k : ℕ) (t : Listing s w�
       record {
         list = λ floats. (rw (drop-end (cellAt (cellsIn s w₀ floats) i .faces) k (rw (← t .all floats) ge)) at (t .left floats));
         few = let a = t .few in let b = t .at-end in omega arith;
-        kept = λ j q. t .kept j (rw (t .at-end) q);
+        kept = t .kept;
       }
 
 pub ruleset listings = (listing-start, listing-room, listing-turn, listing-done)
@@ -323,7 +329,7 @@ cell-listed s w w′ i first n x lent laid h ef wr ex long =
     record {
       list = λ floats. rw (c, ← ef) (same-list w′ w″ (14 * s .slots + first) n (λ k q. getD-set-other w′ at (14 * s .slots + first + k) x 0 (omega arith)) ∙ wr .list floats);
       few = rw c few;
-      kept = λ j q ne. getD-set-other w′ at j x 0 ne ∙ wr .kept j (rw ef q);
+      kept = λ j o. getD-set-other w′ at j x 0 (o .count) ∙ wr .kept j (rw (ef, ← c) (o .list));
     }
 
 pub count-small : (s : Sizes) (w w′ : List ℕ) (i at n : ℕ) → LentWords s w → Laid s w → i < s .cells → Written s w w′ i at n → n < 4294967296
@@ -337,6 +343,7 @@ pub record Filled (s : Sizes) (w₀ w : List ℕ) (i : ℕ) : Type 0 where
   pub lists : (c : ℕ) → c < i → (floats : List Float) → listAt w (14 * s .slots + firstIn s w₀ c) (getD w (16 * s .slots + 8 * c + 3) 0) ≡ neighboursIn s w₀ floats c
   pub few : (c : ℕ) → c < i → getD w (16 * s .slots + 8 * c + 3) 0 ≤ countIn s w₀ c
   pub same : Same s w₀ w
+  pub rest : (j : ℕ) → ((c : ℕ) → c < i → Outside s w₀ w c j) → getD w j 0 ≡ getD w₀ j 0
 
 pub fill-start : (s : Sizes) (w : List ℕ) → Filled s w w 0
 fill-start s w =
@@ -344,6 +351,7 @@ fill-start s w =
       lists = λ c h. absurd (not-suc-le-zero h);
       few = λ c h. absurd (not-suc-le-zero h);
       same = record { low = λ j h. refl; cells = λ c k h l. refl };
+      rest = λ j o. refl;
     }
 
 pub fill-laid : (s : Sizes) (w₀ w : List ℕ) (i : ℕ) → LentWords s w₀ → Laid s w₀ → Filled s w₀ w i → Laid s w
@@ -355,17 +363,22 @@ fill-turn s w₀ w w′ i lent laid h f l =
       lists = λ c b. lists c (below-suc (rw (add-one i) at b));
       few = λ c b. few c (below-suc (rw (add-one i) at b));
       same = record { low = λ j b. kept j (inl (omega arith)) (omega arith) ∙ f .same .low j b; cells = λ c k b q. kept (16 * s .slots + 8 * c + k) (inr (omega arith)) (omega arith) ∙ f .same .cells c k b q };
+      rest = λ j o. at-rest j (o i (omega arith)) ∙ f .rest j (λ c b. let q = o c (omega arith) in record { list = rw (← counted c b) (q .list); count = q .count });
     }
   where
     end : firstIn s w₀ i + countIn s w₀ i ≤ s .slots
     end = list-end s w₀ laid i h
 
+    at-rest : (j : ℕ) → Outside s w₀ w′ i j → getD w′ j 0 ≡ getD w j 0
+    at-rest j o = l .kept j (record { list = rw (f .same .cells i 1 h (omega arith)) (o .list); count = o .count })
+
     kept : (j : ℕ) → (j < 14 * s .slots + firstIn s w₀ i) ⊎ (15 * s .slots ≤ j) → j ≢ 16 * s .slots + 8 * i + 3 → getD w′ j 0 ≡ getD w j 0
-    kept j q ne = l .kept j (rw (f .same .cells i 1 h (omega arith), f .same .cells i 2 h (omega arith)) (by q)) ne
+    kept j q ne = at-rest j (record { list = by q; count = ne })
       where
-        by : (j < 14 * s .slots + firstIn s w₀ i) ⊎ (15 * s .slots ≤ j) → (j < 14 * s .slots + firstIn s w₀ i) ⊎ (14 * s .slots + firstIn s w₀ i + countIn s w₀ i ≤ j)
+        by : (j < 14 * s .slots + firstIn s w₀ i) ⊎ (15 * s .slots ≤ j)
+            → (j < 14 * s .slots + firstIn s w₀ i) ⊎ (14 * s .slots + firstIn s w₀ i + getD w′ (16 * s .slots + 8 * i + 3) 0 ≤ j)
         by (inl a) = inl a
-        by (inr b) = let e = end in inr (omega arith)
+        by (inr b) = let e = end in let n = l .few in let c = f .same .cells i 2 h (omega arith) in inr (omega arith)
 
     -- the count of an earlier cell
     counted : (c : ℕ) → c < i → getD w′ (16 * s .slots + 8 * c + 3) 0 ≡ getD w (16 * s .slots + 8 * c + 3) 0
@@ -407,7 +420,7 @@ module _ (s : Sizes) (w₀ w : List ℕ) (lent : LentWords s w₀) (laid : Laid 
 
   all-linked : Linked s w₀ w
   unfolding linked
-  all-linked = record { cells = cells; faces = same-faces s w₀ w lent laid (f .same) }
+  all-linked = record { cells = cells; faces = same-faces s w₀ w lent laid (f .same); rest = f .rest }
     where
       cells : (floats : List Float) → cellsIn s w floats ≡ tab (linkedAt (facesIn s w₀ floats) (cellsIn s w₀ floats)) (length (cellsIn s w₀ floats))
       cells floats = rw (length-cellsIn s w₀ floats) (listed-cells floats)

@@ -9,21 +9,20 @@ use native.Mathlib.Omega.{arith}
 use borrow.Author.Tests.{eq-eqb, ne-eqb, eqb-true}
 use lib.Dec.{eqb}
 use lib.Ieee.{Float}
-use lib.ListN.{length, take, List·getD-eq-default}
+use lib.ListN.{length, List·getD-eq-default}
 use Rattle.arith.specs.Lists.{any, foldl, addNew}
 use Rattle.arith.specs.declared.Found.{Found}
 use Rattle.arith.specs.declared.Found.the-variants.{At, Nothing}
 use Rattle.arith.proofs.RecordLaws.{getD-tab, length-tab, lt-or-ge}
 use Rattle.area.specs.Tables.{Face, Cell, faceAt, cellAt, noFace, noCell}
 use Rattle.area.specs.declared.Sizes.{Sizes}
-use Rattle.area.specs.Layout.{facesIn, cellsIn, meshWords, wordsEnd}
+use Rattle.area.specs.Layout.{facesIn, cellsIn}
 use Rattle.area.proofs.LayoutLaws.{length-cellsIn}
 use Rattle.connection.specs.Neighbours.{otherOf, beyond, addFound, addNeighbour, neighboursOf, linkedAt, linked, Linked}
 use Rattle.connection.specs.Connection.{sidesAre, joins, share, connected, meets, connectedCells}
 use Rattle.connection.specs.Search.{Connected}
 use Rattle.connection.proofs.Counting.{clash, true-or, true-and, or-left, or-right, same-test}
 use Rattle.connection.proofs.Rounds.{any-at, any-some, connected-same}
-use Rattle.connection.proofs.SearchLaws.{same-cells}
 
 -- ---- members of a list
 
@@ -246,11 +245,6 @@ linked-connected fs cs agree =
     rw (length-tab (linkedAt fs cs) (length cs)) (connected-same (meets (linked fs cs)) (share fs) (length cs) (λ i j hi hj. same-touch fs cs agree i j hi))
 
 -- what a builder learns that fills the lists and then asks for connection
-pub linked-kept : (s : Sizes) (w w′ w″ : List ℕ) → Linked s w w′ → take (wordsEnd s) w″ ≡ take (wordsEnd s) w′ → Linked s w w″
-unfolding facesIn meshWords
-linked-kept s w w′ w″ l e =
-    record { cells = λ floats. same-cells s w″ w′ floats e ∙ l .cells floats; faces = λ floats. rw e (l .faces floats) }
-
 pub ensured : (s : Sizes) (w w′ w″ : List ℕ) (r : Bool) (floats : List Float) → Linked s w w′ → Connected s w′ w″ r → Agree (facesIn s w floats) (cellsIn s w floats)
     → r ≡ connected (s .cells) (facesIn s w floats)
 ensured s w w′ w″ r floats l k agree =

@@ -13,7 +13,7 @@ use Rattle.arith.specs.declared.Found.the-variants.{At}
 use Rattle.area.specs.declared.Sizes.{Sizes}
 use Rattle.area.specs.Tables.{cellAt, faceAt}
 use Rattle.area.specs.Layout.{listAt, facesIn, cellsIn, wordsEnd}
-use Rattle.connection.specs.Neighbours.{beyond, addNeighbour, neighboursOf, firstIn, countIn}
+use Rattle.connection.specs.Neighbours.{beyond, addNeighbour, neighboursOf, firstIn, countIn, Outside}
 use Rattle.connection.specs.Connection.{rounds, meets, connectedCells}
 
 -- ---- neighbour lists
@@ -27,13 +27,15 @@ pub record Beyond (s : Sizes) (w : List ℕ) (cell f : ℕ) (r : Found) : Type 0
 pub record Added (w w′ : List ℕ) (at n d r : ℕ) : Type 0 where
   pub list : listAt w′ at r ≡ addNew eqb (listAt w at n) d
   pub more : r ≤ n + 1
-  pub kept : (j : ℕ) → j ≢ at + n → getD w′ j 0 ≡ getD w j 0
+  pub grows : n ≤ r
+  pub kept : (j : ℕ) → (j < at + n) ⊎ (at + r ≤ j) → getD w′ j 0 ≡ getD w j 0
 
 -- the same with the cell beyond face f, where there is one
 pub record Crossed (s : Sizes) (w w′ : List ℕ) (cell f at n r : ℕ) : Type 0 where
   pub list : (floats : List Float) → listAt w′ at r ≡ addNeighbour (facesIn s w floats) cell (listAt w at n) f
   pub more : r ≤ n + 1
-  pub kept : (j : ℕ) → j ≢ at + n → getD w′ j 0 ≡ getD w j 0
+  pub grows : n ≤ r
+  pub kept : (j : ℕ) → (j < at + n) ⊎ (at + r ≤ j) → getD w′ j 0 ≡ getD w j 0
 
 -- the neighbours of one cell
 abbrev pub neighboursIn : Sizes → List ℕ → List Float → ℕ → List ℕ
@@ -43,13 +45,13 @@ neighboursIn s w floats i = neighboursOf (facesIn s w floats) i (cellAt (cellsIn
 pub record Written (s : Sizes) (w w′ : List ℕ) (i at r : ℕ) : Type 0 where
   pub list : (floats : List Float) → listAt w′ at r ≡ neighboursIn s w floats i
   pub few : r ≤ countIn s w i
-  pub kept : (j : ℕ) → (j < at) ⊎ (at + countIn s w i ≤ j) → getD w′ j 0 ≡ getD w j 0
+  pub kept : (j : ℕ) → (j < at) ⊎ (at + r ≤ j) → getD w′ j 0 ≡ getD w j 0
 
--- cell i has its neighbour list, and nothing changed but its words and its count
+-- cell i has its neighbour list and its count, and nothing else changed
 pub record Listed (s : Sizes) (w w′ : List ℕ) (i : ℕ) : Type 0 where
   pub list : (floats : List Float) → listAt w′ (14 * s .slots + firstIn s w i) (getD w′ (16 * s .slots + 8 * i + 3) 0) ≡ neighboursIn s w floats i
   pub few : getD w′ (16 * s .slots + 8 * i + 3) 0 ≤ countIn s w i
-  pub kept : (j : ℕ) → (j < 14 * s .slots + firstIn s w i) ⊎ (14 * s .slots + firstIn s w i + countIn s w i ≤ j) → j ≢ 16 * s .slots + 8 * i + 3 → getD w′ j 0 ≡ getD w j 0
+  pub kept : (j : ℕ) → Outside s w w′ i j → getD w′ j 0 ≡ getD w j 0
 
 -- ---- the search: flag of cell i in word base + 2 i, place k of the queue in word base + 2 k + 1
 
