@@ -229,6 +229,7 @@ module _ (d : ℕ) (case : List ℕ) (points : ℕ) (ps : List Vec3) (ws words :
             cells = sym (go .rest) ∙ mapAll-refused cells i draft inside (finished d ps) (firstCells s words floats i) 15 (refused-here m);
             faces = go .faces;
             long = long;
+            later = λ j b. go .later j (omega arith);
           })
 
   pub go-done : (floats : List Float) (i : ℕ) (c : Cursor) → Going d ps ws s words floats₀ floats i (c .at) → i ≤ s .cells → s .cells ≤ i → length floats ≡ length floats₀
@@ -241,6 +242,7 @@ module _ (d : ℕ) (case : List ℕ) (points : ℕ) (ps : List Vec3) (ws words :
         cells = sym (go .rest) ∙ rw none (ap fine (append-nil _ ∙ ap (tab _) e));
         faces = go .faces;
         long = long;
+        later = λ j b. go .later j (omega arith);
       }
 
 pub ruleset all-cells = (go-start, go-ready, go-next, go-stop, go-done)

@@ -1,16 +1,16 @@
 -- The second pass of `from_cells`: each cell's centre and its area or volume, by `cell_geometry`.
-use Prim.Native.Nat.{ℕ, _*_}
+use Prim.Native.Nat.{ℕ, _*_, _≤_}
 use mathlib.Core.Path.{_≡_}
 use mathlib.Core.List.{List, [], map}
-use lib.ListN.{length, take}
-use lib.Ieee.{Float}
+use lib.ListN.{length, getD, take}
+use lib.Ieee.{Float, nan}
 use Rattle.arith.specs.declared.Vec3.{Vec3}
 use Rattle.reading.specs.Result.{Result, refused, fine, _>>=_, mapAll}
 use Rattle.definitions.specs.Faces.{Definition, facesOf}
 use Rattle.definitions.specs.Definitions.{definitions}
 use Rattle.area.specs.declared.Sizes.{Sizes}
 use Rattle.area.specs.Tables.{Cell}
-use Rattle.area.specs.Layout.{cellsIn, LentWords, LentFloats}
+use Rattle.area.specs.Layout.{cellsIn, floatsEnd, LentWords, LentFloats}
 use Rattle.volumes.specs.Geometry.{cellGeometry}
 use Rattle.measure.specs.Records.{Points}
 use Rattle.cells.specs.Cells.{Draft}
@@ -43,8 +43,9 @@ pub record Finishable (case : List ℕ) (points : ℕ) (ws words : List ℕ) (fl
   pub lists : Lists ws s words (s .cells) (s .slots)
   pub defined : definitionsOf (draftsIn ws s words floats (s .cells)) ≡ defs
 
--- what it leaves: the cells, or refusal 15; the face table is as it was
+-- what it leaves: the cells, or refusal 15; the faces before them and what stands behind them are as they were
 pub record Finishing (d : ℕ) (ps : List Vec3) (ws : List ℕ) (s : Sizes) (words : List ℕ) (floats floats′ : List Float) (r : Finished) : Type 0 where
   pub cells : mapAll (finished d ps) (draftsIn ws s words floats (s .cells)) ≡ finishedAs r (cellsIn s words floats′)
   pub faces : take (12 * s .slots) floats′ ≡ take (12 * s .slots) floats
   pub long : length floats′ ≡ length floats
+  pub later : (j : ℕ) → floatsEnd s ≤ j → getD floats′ j nan ≡ getD floats j nan

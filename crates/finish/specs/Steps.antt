@@ -51,7 +51,7 @@ pub data RecordFinishing (d : ℕ) (ps : List Vec3) (ws : List ℕ) (s : Sizes) 
       → RecordFinishing d ps ws s floats floats′ i at Finished.Done
   zero : geometryAt d ps ws s floats i at ≡ refused 15 → floats′ ≡ floats → RecordFinishing d ps ws s floats floats′ i at Finished.ZeroVolume
 
--- a right record is at the cursor
+-- a right record is at the cursor: `survey` has walked over all of them, so the walker does not refuse one here with 3
 pub record CellReady (case : List ℕ) (points : ℕ) (ws : List ℕ) (floats : List Float) (s : Sizes) (i : ℕ) (c : Cursor) : Type 0 where
   pub lent-floats : LentFloats s floats
   pub points-there : Points case points

@@ -23,7 +23,7 @@ pub enum Finished {
 }
 
 // Where the next record starts, or that the cell has no volume.
-pub enum CellFinished {
+enum CellFinished {
     Next(Cursor),
     ZeroVolume,
 }
@@ -88,6 +88,8 @@ fn finish_cell(
     ensures { λ r. ⌜ CellFinishing dimension (pointsIn (now (case .entry)) points) (wordsIn (now (ws .entry))) s (now (floats .entry)) (now (floats .exit)) i (c .at) r ⌝ }
 {
     match walker::record_at(ws, c) {
+        // This cannot come: a right record is at c, since all of them were walked over before the
+        // first pass (`CellReady`). A bad one would have been refused there, with 3.
         Step::Wrong(_) => CellFinished::ZeroVolume,
         Step::Record(h, next) => {
             match finish_record(case, points, dimension, ws, floats, s, i, h) {
