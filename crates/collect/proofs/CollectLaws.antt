@@ -41,38 +41,44 @@ module _ (d : ℕ) (ws : List ℕ) (h : Head) (g : Headed ws h) where
       by (solid-head low high p) = absurd (omega arith)
       by (polyhedron-head k p) = absurd (omega arith)
 
-  pub polygon-in-3d : h .kind ≡ 0 → (d ≡ 2 → ⊥) → true ≡ wrongKind d (definitionAt ws (h .at))
-  polygon-in-3d e n = sym (is-polygon e ∙ rw (ne-eqb d 2 n))
+  pub polygon-in-3d : h .kind ≡ 0 → (d ≡ 2 → ⊥) → not (eqb d 2) ≡ wrongKind d (definitionAt ws (h .at))
+  polygon-in-3d e n = rw (is-polygon e, ne-eqb d 2 n)
 
   pub polygon-test : h .kind ≡ 0 → d ≡ 2 → ltb (h .faces) 3 ≡ wrongKind d (definitionAt ws (h .at))
   polygon-test e n = sym (is-polygon e ∙ rw (eq-eqb d 2 n))
 
-  pub solid-in-2d : (h .kind ≡ 0 → ⊥) → (d ≡ 3 → ⊥) → true ≡ wrongKind d (definitionAt ws (h .at))
-  unfolding wrongKind
-  solid-in-2d e n = by (head-case ws h g)
-    where
-      by : HeadCase ws h → true ≡ wrongKind d (definitionAt ws (h .at))
-      by (polygon-head k p) = absurd (e k)
-      by (solid-head low high p) = rw (p .read, ne-eqb d 3 n)
-      by (polyhedron-head k p) = rw (p .read, ne-eqb d 3 n)
-
-  pub polyhedron-test : h .kind ≡ 5 → d ≡ 3 → ltb (h .faces) 4 ≡ wrongKind d (definitionAt ws (h .at))
+  is-polyhedron : h .kind ≡ 5 → wrongKind d (definitionAt ws (h .at)) ≡ (not (eqb d 3) || ltb (h .faces) 4)
   unfolding wrongKind facesOf
-  polyhedron-test e n = by (head-case ws h g)
+  is-polyhedron e = by (head-case ws h g)
     where
-      by : HeadCase ws h → ltb (h .faces) 4 ≡ wrongKind d (definitionAt ws (h .at))
+      by : HeadCase ws h → wrongKind d (definitionAt ws (h .at)) ≡ (not (eqb d 3) || ltb (h .faces) 4)
       by (polygon-head k p) = absurd (omega arith)
       by (solid-head low high p) = absurd (omega arith)
-      by (polyhedron-head k p) = let f = head-faces ws h g .all in rw (f, p .read, eq-eqb d 3 n)
+      by (polyhedron-head k p) = let f = head-faces ws h g .all in rw (f, p .read)
 
-  pub solid-right : (h .kind ≡ 0 → ⊥) → (h .kind ≡ 5 → ⊥) → d ≡ 3 → false ≡ wrongKind d (definitionAt ws (h .at))
+  pub polyhedron-in-2d : h .kind ≡ 5 → (d ≡ 3 → ⊥) → not (eqb d 3) ≡ wrongKind d (definitionAt ws (h .at))
+  polyhedron-in-2d e n = rw (is-polyhedron e, ne-eqb d 3 n)
+
+  pub polyhedron-test : h .kind ≡ 5 → d ≡ 3 → ltb (h .faces) 4 ≡ wrongKind d (definitionAt ws (h .at))
+  polyhedron-test e n = sym (is-polyhedron e ∙ rw (eq-eqb d 3 n))
+
+  pub solid-test : 1 ≤ h .kind → h .kind ≤ 4 → not (eqb d 3) ≡ wrongKind d (definitionAt ws (h .at))
   unfolding wrongKind
-  solid-right e f n = by (head-case ws h g)
+  solid-test low high = by (head-case ws h g)
     where
-      by : HeadCase ws h → false ≡ wrongKind d (definitionAt ws (h .at))
-      by (polygon-head k p) = absurd (e k)
-      by (solid-head low high p) = rw (p .read, eq-eqb d 3 n)
-      by (polyhedron-head k p) = absurd (f k)
+      by : HeadCase ws h → not (eqb d 3) ≡ wrongKind d (definitionAt ws (h .at))
+      by (polygon-head k p) = absurd (omega arith)
+      by (solid-head l u p) = rw (p .read)
+      by (polyhedron-head k p) = absurd (omega arith)
+
+  -- every record's kind is known
+  pub known-kind : h .kind ≤ 5
+  known-kind = by (head-case ws h g)
+    where
+      by : HeadCase ws h → h .kind ≤ 5
+      by (polygon-head k p) = omega arith
+      by (solid-head low high p) = omega arith
+      by (polyhedron-head k p) = omega arith
 
 -- ---- the numbers of one face
 
