@@ -33,7 +33,7 @@ pub fn point_at(case: &[u8], points: usize, i: usize) -> Vec3
 }
 
 // Word i of the first `end`.
-pub fn word_in(words: &[u32], end: usize, i: usize) -> usize
+fn word_in(words: &[u32], end: usize, i: usize) -> usize
     requires { ⌜ end ≤ length (now words) ⌝ }
     ensures { λ r. ⌜ (r ≡ getD (take end (now (words .entry))) i 0) × (r < 4294967296) ⌝ }
 {
@@ -41,7 +41,7 @@ pub fn word_in(words: &[u32], end: usize, i: usize) -> usize
 }
 
 // Float i of the first `end`.
-pub fn float_in(floats: &[f64], end: usize, i: usize) -> f64
+fn float_in(floats: &[f64], end: usize, i: usize) -> f64
     requires { ⌜ end ≤ length (now floats) ⌝ }
     ensures { λ r. ⌜ r ≡ getD (take end (now (floats .entry))) i nan ⌝ }
 {
@@ -49,7 +49,7 @@ pub fn float_in(floats: &[f64], end: usize, i: usize) -> f64
 }
 
 // The three floats from i on, of the first `end`.
-pub fn vec_in(floats: &[f64], end: usize, i: usize) -> Vec3
+fn vec_in(floats: &[f64], end: usize, i: usize) -> Vec3
     requires { ⌜ (end ≤ length (now floats)) × (i ≤ 4294967296) ⌝ }
     ensures { λ r. ⌜ r ≡ vecFrom (take end (now (floats .entry))) i ⌝ }
 {

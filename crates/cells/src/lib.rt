@@ -34,26 +34,26 @@ pub enum Drafted {
 }
 
 // A face's number and the number of faces in the table, or the refusal.
-pub enum FacePlaced {
+enum FacePlaced {
     Face(usize, usize),
     Refused(u64),
 }
 
 // The next face of the record and the number of faces in the table, or the refusal.
-pub enum FaceAdded {
+enum FaceAdded {
     Next(FaceCursor, usize),
     Refused(u64),
 }
 
 // Where the next record starts, where the next cell's lists start, and the number of faces in
 // the table.
-pub struct Progress {
+struct Progress {
     pub at: usize,
     pub first: usize,
     pub faces: usize,
 }
 
-pub enum CellAdded {
+enum CellAdded {
     Next(Progress),
     Refused(u64),
 }
@@ -282,6 +282,7 @@ fn add_cell(
     let at = p.at;
     let step = walker::record_at(ws, Cursor { at });
     match step {
+        // This cannot come: the definitions are right (`Addable`).
         Step::Wrong(k) => CellAdded::Refused(k),
         Step::Record(h, next) => {
             let found = collect::reference_of(dimension, case, points, ws, h);

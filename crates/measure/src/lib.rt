@@ -26,19 +26,19 @@ ghost use Rattle.measure.specs.Orientation as Orientation;
 ghost use Rattle.measure.specs.Records.{Points, facesAt, FaceTaken, EdgeAdded, FanAdded, fansOf};
 
 // A sum with a face more, and the next face.
-pub struct Weighed {
+struct Weighed {
     pub weight: Weight,
     pub next: FaceCursor,
 }
 
 // The same in 3D, or that the face is degenerate.
-pub enum Fanned {
+enum Fanned {
     Added(Weighed),
     Degenerate,
 }
 
 // The sum over all faces in 3D, or that one is degenerate.
-pub enum Fans {
+enum Fans {
     Sum(Weight),
     Degenerate,
 }
