@@ -6,7 +6,7 @@ use Rattle.tallies.proofs.keep.including.Tie as tie
 
 returns : tie.Need-returns
 unfolding including
-returns c = rw (c .before .before .before .before .before .before .before .abs .ensures, c .before .before .before .before .before .before .before .before .min2 .ensures, c .before .before .before .before .before .before .before .before .before .max2 .ensures, c .before .before .before .before .before .before .before .before .before .before .max .ensures, c .before .before .before .before .before .before .before .before .before .before .before .min .ensures, add-one)
+returns c = rw (c .before .before .before .before .before .before .before .abs .ensures, c .before .before .before .before .before .before .before .before .min2 .ensures, c .before .before .before .before .before .before .before .before .before .max2 .ensures, c .before .before .before .before .before .before .before .before .before .before .max .ensures, c .before .before .before .before .before .before .before .before .before .before .before .min .ensures, ← add-one (c .before .before .before .before .before .before .before .before .before .before .before .before .args .t .used))
 
 pub including-spec : {M : Type 1} → statement M
 including-spec =
