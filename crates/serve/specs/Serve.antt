@@ -33,7 +33,8 @@ unfoldable pub decided : Result (Asks (List ℕ)) → Asks (Result (List ℕ))
 decided (refused n) = give (refused n)
 decided (fine t) = t >>= λ ws. give (fine ws)
 
--- codes 1 to 4; 5 to 8 "need 3D" (31)
+-- codes 1 to 4. 31 is due before a request's arguments are looked at: `requestOf` (crates/requests/specs/Requests.antt) refuses with it, and makes no
+-- request of codes 5 to 8 over a 2D mesh. So the last four cases do not come in a job; they are here since the definition is of every request.
 unfoldable pub serveFlat : StreamlineField → Request → Asks (Result (List ℕ))
 serveFlat f (Refused n) = give (refused n)
 serveFlat f (Locate p) = give (fine (foundWords (locateIn f p)))
@@ -45,7 +46,7 @@ serveFlat f (Statistics s field) = give (refused 31)
 serveFlat f (Integrals s) = give (refused 31)
 serveFlat f (Probe s p) = give (refused 31)
 
--- codes 5 to 8; 1 to 4 "need 2D" (31)
+-- codes 5 to 8; in the same way codes 1 to 4 do not come over a 3D mesh
 unfoldable pub serveSolid : Mesh → Request → Asks (Result (List ℕ))
 serveSolid m (Refused n) = give (refused n)
 serveSolid m (Locate p) = give (refused 31)

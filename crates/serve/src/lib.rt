@@ -196,7 +196,7 @@ fn serve_flat(
         Request::Rake(a, b, count, d, o) => {
             serve_rake(case, n, words, floats, s, g, marks, out, a, b, count, d, o)
         }
-        _ => Answered::Refused(31), // needs 3D
+        _ => Answered::Refused(31), // request_of gave 31 already
     }
 }
 
@@ -221,7 +221,7 @@ fn serve_solid(
         }
         Request::Integrals(plane) => answers::integrals(case, n, words, s, plane, out, marks),
         Request::Probe(plane, p) => answers::probe(case, n, words, s, plane, p, out, marks),
-        _ => Answered::Refused(31), // needs 2D
+        _ => Answered::Refused(31), // request_of gave 31 already
     }
 }
 
