@@ -46,7 +46,7 @@ due cells (fine p) = fine (seen cells p true)
 
 -- the one pass gives what is told: this is computed
 pub record Computes (file requests : List ℕ) (lent : Lent) (p : Result Printed) : Type 0 where
-  pub pass : onePass (cellsOf (outside file)) (jobOf (outside file) requests lent) (valuesOf file) ≡ due (cellsOf (outside file)) p
+  pub pass : onePass (cellsOf file) (jobOf (outside file) requests lent) (valuesOf file) ≡ due (cellsOf file) p
 
 -- ---- then the room is known
 
@@ -96,5 +96,5 @@ by-computing {file} {requests} {lent} {p} e =
     record {
       ends =
           λ answers marks a m.
-          rw (a, m) (ends-so (jobOf (outside file) requests lent) (valuesOf file) (cellsOf (outside file)) p answers marks (e .pass));
+          rw (a, m) (ends-so (jobOf (outside file) requests lent) (valuesOf file) (cellsOf file) p answers marks (e .pass));
     }
