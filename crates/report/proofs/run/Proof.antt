@@ -1,14 +1,15 @@
 -- `report::run`: refusal 20, or the end of the job. Assumes nothing.
+use native.Mathlib.Omega.{arith}
 use borrow.Author.Needs.{needs}
 use Rattle.report.proofs.Laws.{case-long, requests-long, both-short}
 use Rattle.report.proofs.run.Statement.{statement}
 use Rattle.report.proofs.run.Tie as tie
 
 returns : tie.Need-returns
-returns c = search (case-long, needs)
+returns c = case-long _ _ _ _ _ _ (omega arith)
 
 returns-2 : tie.Need-returns-2
-returns-2 c = search (requests-long, needs)
+returns-2 c = requests-long _ _ _ _ _ _ (omega arith) (omega arith)
 
 job-requires : tie.Need-job-requires
 job-requires c κs = search needs
