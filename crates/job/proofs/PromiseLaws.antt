@@ -12,10 +12,10 @@ use lib.Ieee.{Float}
 use Rattle.arith.specs.Lists.{concat}
 use Rattle.reading.specs.declared.Values.{Values}
 use Rattle.reading.specs.Result.{Result, refused, fine, _>>=_}
-use Rattle.reading.specs.Asks.{Asks, give, run, reads}
+use Rattle.reading.specs.Asks.{give, run, reads}
 use Rattle.reading.specs.After.{After, done, Left}
 use Rattle.reading.proofs.AsksLaws.{run-bind}
-use Rattle.casefile.specs.Field.{outside, cellsOf, valuesOf}
+use Rattle.casefile.specs.Field.{cellsOf, valuesOf}
 use Rattle.casefile.proofs.FieldLaws.{same-outside, same-values}
 use Rattle.requests.specs.Requests.{wordsAt, requestsIn}
 use Rattle.requests.proofs.Laws.{requests-count, requests-at}
@@ -29,11 +29,10 @@ use Rattle.buffers.specs.Answer.{fitting, answerWords}
 use Rattle.within.proofs.Ranges.{Ranged, due, none, among-is, between}
 use Rattle.within.proofs.JobRefusals.{job-refusals}
 use Rattle.within.proofs.RequestRefusals.{request-refusals}
-use Rattle.job.specs.declared.Outcome.{Outcome}
 use Rattle.job.specs.declared.Outcome.the-variants.{Done, Refused}
 use Rattle.job.specs.List.{isFlat, replyTo, serveAll}
 use Rattle.job.specs.Serving.{answerTo}
-use Rattle.job.specs.Job.{jobOf, lentTo, outcome, numberOf, outcomeOf}
+use Rattle.job.specs.Job.{jobOf, lentTo, outcome, outcomeOf}
 use Rattle.job.specs.Promise.{Numbered, accepted, rejected, Answers, end, served, denied, Read, Mark, marked, clear, Promised}
 use Rattle.job.proofs.ListLaws.{run-all}
 use Rattle.job.proofs.JobLaws.{job-refused, job-done}
@@ -156,7 +155,7 @@ module _ (case requests : List ℕ) (words floats : ℕ) (answers marks : List �
   numbered (refused k) e = let b = refused-number k e in rw (refused-is k e) (rejected (b .0) (b .1))
   numbered (fine room) e = rw (accepted-number room e) accepted
 
-  -- what holds of every job whose number is 0 because its room was built
+  -- a job whose number is 0 had its room built
   if-accepted : {P : Type 0} → ((room : Room) → room-of ≡ fine room → P) → out .result ≡ 0 → P
   if-accepted {P} h z = by room-of refl
     where

@@ -50,7 +50,7 @@ pub record Promised (case requests : List ℕ) (words floats : ℕ) (answers mar
   pub number : Numbered (prepared case (length requests) (lentTo words floats answers marks)) (left .result)
   pub answered : left .result ≡ 0 → Answers (length requests / 128) (left .answers)
   -- This is run M. Run P is over any file p with the same bytes outside velocities and pressures, and the same values at the cells that M's marks
-  -- name: "Equal are the job's result, every word of the answer buffer and every byte of the marks buffer".
+  -- name; by its own `ends` it leaves `outcome p ..`. "Equal are the job's result, every word of the answer buffer and every byte of the marks buffer".
   pub two-runs : (p : List ℕ) → SameOutsideFields case p
       → ((i : ℕ) → Named left (cellsOf case) i → SameAt case p i)
       → left ≡ outcome p requests words floats answers marks

@@ -1,4 +1,4 @@
--- A request is refused with a number from 30 to 43; 44 is for an answer that does not fit. Assumes nothing.
+-- A request is refused with a number from 30 to 44. Assumes nothing.
 use Prim.Native.Nat.{ℕ}
 use mathlib.Core.Path.{_≡_, refl, sym, subst}
 use mathlib.Core.Bool.{Bool, true, false, cond}
@@ -8,7 +8,6 @@ use lib.Ieee.{Float}
 use Rattle.arith.specs.F64.{finite}
 use Rattle.arith.specs.declared.Vec3.{Vec3}
 use Rattle.reading.specs.declared.Values.{Values}
-use Rattle.reading.specs.Result as result
 use Rattle.reading.specs.Result.{Result, refused, fine}
 use Rattle.reading.specs.Asks.{Asks, give, run, _>>=_}
 use Rattle.reading.proofs.AsksLaws.{run-bind}
@@ -17,7 +16,7 @@ use Rattle.cutting_plane.specs.declared.Plane.{Plane}
 use Rattle.locate.specs.Field.{StreamlineField}
 use Rattle.sections.specs.Intersect.{PlaneCell, intersect}
 use Rattle.tallies.specs.declared.Sums.{Sums}
-use Rattle.tallies.specs.Sample.{Sample, sound}
+use Rattle.tallies.specs.Sample.{Sample}
 use Rattle.tallies.specs.Statistics.{summing, addSample, empty, statistics}
 use Rattle.tallies.specs.Integrals.{fit, addIntegral, vacant, integrals}
 use Rattle.samples.specs.Sampling.{before, onward, sample}
