@@ -30,19 +30,19 @@ pub enum Walked {
 }
 
 // A count with as many words after it.
-pub enum Listed {
+enum Listed {
     Count(usize),
     Bad,
 }
 
 // The position after some faces of a polyhedron; or the refusal.
-pub enum Skipped {
+enum Skipped {
     To(usize),
     Short(u64),
 }
 
 // A face of a solid: its places among the cell's point numbers.
-pub enum Places {
+enum Places {
     Three(usize, usize, usize),
     Four(usize, usize, usize, usize),
 }

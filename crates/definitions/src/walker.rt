@@ -19,9 +19,9 @@ ghost use Rattle.definitions.specs.Walker.{stepAt, walked};
 ghost use Rattle.definitions.specs.Helpers as Helpers;
 
 // The definition words, from a position on.
-pub struct Walker<'a> {
-    pub words: &'a [u8],
-    pub at: usize,
+struct Walker<'a> {
+    words: &'a [u8],
+    at: usize,
 }
 
 // The bytes of a case's definition words.
@@ -171,14 +171,14 @@ fn step(words: &[u8], c: Cursor) -> Step
 }
 
 // A walker at the start of the words.
-pub fn start<'a>(words: &'a [u8]) -> Walker<'a>
+fn start<'a>(words: &'a [u8]) -> Walker<'a>
     ensures { λ r. ⌜ (r .words ≡ words .entry) × (r .at ≡ 0) ⌝ }
 {
     Walker { words, at: 0 }
 }
 
 // The walker past all that stands before a cursor, such as the record that was read.
-pub fn past<'a>(w: Walker<'a>, next: Cursor) -> Walker<'a>
+fn past<'a>(w: Walker<'a>, next: Cursor) -> Walker<'a>
     ensures { λ r. ⌜ (r .words ≡ w .entry .words) × (r .at ≡ next .at) ⌝ }
 {
     Walker {
@@ -188,7 +188,7 @@ pub fn past<'a>(w: Walker<'a>, next: Cursor) -> Walker<'a>
 }
 
 // The record at a walker, and the cursor after it.
-pub fn head<'a>(w: Walker<'a>) -> Step
+fn head<'a>(w: Walker<'a>) -> Step
     ensures { λ r. ⌜ r ≡ stepAt (wordsIn (now (w .entry .words))) (w .entry .at) ⌝ }
 {
     step(w.words, Cursor { at: w.at })
@@ -202,7 +202,7 @@ pub fn record_at(words: &[u8], c: Cursor) -> Step
 }
 
 // The word at a walker.
-pub fn word_of<'a>(w: Walker<'a>) -> u32
+fn word_of<'a>(w: Walker<'a>) -> u32
     requires { ⌜ w .at < length (wordsIn (now (w .words))) ⌝ }
     ensures { λ r. ⌜ r ≡ getD (wordsIn (now (w .entry .words))) (w .entry .at) 0 ⌝ }
 {

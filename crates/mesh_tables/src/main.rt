@@ -25,9 +25,9 @@ const WORDS: usize = 131072;
 const FLOATS: usize = 65536;
 
 // Where the numbers go: into the hash, and to the output if they are shown.
-pub struct Digest {
-    pub hash: u64,
-    pub shown: bool,
+struct Digest {
+    hash: u64,
+    shown: bool,
 }
 
 fn put(d: Digest, x: u64) -> Digest {
