@@ -1,4 +1,4 @@
--- `casefile::walker::head` meets its contract: a walk of its MIR, by hand. The struct is taken apart, and `step` is called on the slice and a cursor of the number. All that the proof knows of `step` is that it meets its contract.
+-- `definitions::walker::head` meets its contract: a walk of its MIR, by hand. The struct is taken apart, and `step` is called on the slice and a cursor of the number. All that the proof knows of `step` is that it meets its contract.
 -- The struct is Copy: what it owns is had twice, one copy is kept whole for the exit, and of the other what words owns goes to the callee, beside the lifetime's token, which comes back.
 -- Assumes nothing.
 use mathlib.Core.Path.{_≡_, refl}
@@ -55,9 +55,9 @@ use Rattle.definitions.proofs.Step as S
 use Rattle.definitions.proofs.Step.Laws as S′
 use Rattle.definitions.proofs.walker.step as step
 use Rattle.definitions.proofs.walker.step.Symbol as step-def
-use Rattle.definitions.proofs.walker.step.Symbol.{name as #casefile·walker·step}
+use Rattle.definitions.proofs.walker.step.Symbol.{name as #definitions·walker·step}
 use Rattle.definitions.proofs.walker.step.Met as step-thm
-use Rattle.definitions.proofs.walker.head.Key.{name as #casefile·walker·head}
+use Rattle.definitions.proofs.walker.head.Key.{name as #definitions·walker·head}
 use Rattle.definitions.proofs.walker.head as head
 use Rattle.definitions.proofs.walker.head.Statement as stated
 use Rattle.definitions.proofs.walker.head.Code as code
@@ -135,7 +135,7 @@ module _ {M : Type 1} (𝓤 : URA M) (H : Heap 𝓤) (A : Atoms 𝓤) (W : Given
       suffices ! _ (ends-at 𝓤 H A head.ended stayed (head.clauses 𝓤 H A mem run) W (((κ, tt), (q, tt), tt, (d, tt), (mach ∷ [], tt)), tt) u r (tt, tt) (tt, tt)) $ says ! e $
       move ! (1 ∷ []) $ frame ! $ nothing ! $ move ! (2 ∷ 0 ∷ []) $ fjoin ! $ frame ! $ done !
 
-  module _ (C : Calls 𝓤 H) (Λ : Loops 𝓤 H) (fm : FmC 𝓤 H (W .laws) C) (known : Triple 𝓤 (C #casefile·walker·step) (Stepped 𝓤 H A mem run)) where
+  module _ (C : Calls 𝓤 H) (Λ : Loops 𝓤 H) (fm : FmC 𝓤 H (W .laws) C) (known : Triple 𝓤 (C #definitions·walker·step) (Stepped 𝓤 H A mem run)) where
     walk : Holds (hasTy (T′.mir (named 0)) mach) × WT mach → ent 𝓤 (onEntry 𝓤 H A head.signature (κ, tt) (q, tt) (d, tt) (mach ∷ [], tt)) (WpFn 𝓤 H C Λ code.function (mach ∷ []) Post)
     walk wt =
         qed W (raw (onEntry 𝓤 H A head.signature (κ, tt) (q, tt) (d, tt) (mach ∷ [], tt)) ∷ []) ∵ enter ! C Λ code.function (mach ∷ []) _ $
@@ -154,13 +154,13 @@ module _ {M : Type 1} (𝓤 : URA M) (H : Heap 𝓤) (A : Atoms 𝓤) (W : Given
         move ! (11 ∷ 12 ∷ []) $ free1 ! $ move ! (9 ∷ 10 ∷ []) $ free1 ! $ move ! (7 ∷ 8 ∷ []) $ free1 ! $ move ! (5 ∷ 6 ∷ []) $ free1 ! $ move ! (3 ∷ 4 ∷ []) $ free1 ! $ free0 ! $ by ! (exits r u e))))))))))
 
 module _ {M : Type 1} (𝓤 : URA M) (H : Heap 𝓤) (A : Atoms 𝓤) (W : Given 𝓤 H A) (mem : Memory → SProp 𝓤) (run : Routine → Fun 𝓤) where
-  head-walks : (C : Calls 𝓤 H) (Λ : Loops 𝓤 H) → FmC 𝓤 H (W .laws) C → Triple 𝓤 (C #casefile·walker·step) (Stepped 𝓤 H A mem run)
+  head-walks : (C : Calls 𝓤 H) (Λ : Loops 𝓤 H) → FmC 𝓤 H (W .laws) C → Triple 𝓤 (C #definitions·walker·step) (Stepped 𝓤 H A mem run)
       → Walks 𝓤 H A head.ended stayed (WpFn 𝓤 H C Λ code.function) (head.clauses 𝓤 H A mem run)
   head-walks C Λ fm known = walked 𝓤 H A head.ended stayed (head.clauses 𝓤 H A mem run) (WpFn 𝓤 H C Λ code.function) (λ κs. (LL.vals (T.the-type (namedLft 1 0 tt κs)) (T′.the-laws (namedLft 1 0 tt κs)), tt)) (λ κs. (LL.tells (T.the-type (namedLft 1 0 tt κs)) (T′.the-laws (namedLft 1 0 tt κs)), tt))
       (λ κs qs bounds a g are. via 𝓤 _ (fst∗ 𝓤 _ (emp 𝓤)) (walk 𝓤 H A W mem run (κs .0) (qs .0) (a .0) C Λ fm known (LL.lawful (T.the-type (namedLft 1 0 tt κs)) (T′.the-laws (namedLft 1 0 tt κs)) 𝓤 H A W .typed (a .0) _ (are .0) .0)))
 
 head-meets : {M : Type 1} (𝓤 : URA M) (H : Heap 𝓤) (A : Atoms 𝓤) (W : Given 𝓤 H A) (mem : Memory → SProp 𝓤) (run : Routine → Fun 𝓤) (𝓣 : Tables 𝓤 H)
-    → Triple 𝓤 (𝓣 .C #casefile·walker·step) (Stepped 𝓤 H A mem run)
+    → Triple 𝓤 (𝓣 .C #definitions·walker·step) (Stepped 𝓤 H A mem run)
     → Meets 𝓤 H A head.signature (WpFn 𝓤 H (𝓣 .C) (𝓣 .Λ) code.function) (head.spec 𝓤 H A mem run)
 head-meets 𝓤 H A W mem run 𝓣 known-step = walk-meets 𝓤 H A head.ended stayed W (goes-none 𝓤 H A W 1 B yes (λ κs x f. refl), tt) (head.clauses 𝓤 H A mem run) (WpFn 𝓤 H (𝓣 .C) (𝓣 .Λ) code.function) (WpFn-mono 𝓤 H (W .laws) 𝓣 code.function)
     (head-walks 𝓤 H A W mem run (𝓣 .C) (𝓣 .Λ) (fmOf 𝓤 H (W .laws) 𝓣) known-step)
@@ -169,6 +169,6 @@ pub head-spec : {M : Type 1} → stated.statement M
 unfolding code.routine tablesOf
 head-spec 𝓤 H 𝓜 𝓖 𝓡 =
     entered 𝓤 H (tripleOf 𝓤 H (𝓖 .A) head.signature (head.spec 𝓤 H (𝓖 .A) (𝓜 .mem) (𝓡 .run)))
-    (tables 𝓤 H 𝓜 𝓡 code.env .C) (tables 𝓤 H 𝓜 𝓡 code.env .Λ) #casefile·walker·head code.function (code.unfolded 𝓤 H 𝓜 𝓡)
+    (tables 𝓤 H 𝓜 𝓡 code.env .C) (tables 𝓤 H 𝓜 𝓡 code.env .Λ) #definitions·walker·head code.function (code.unfolded 𝓤 H 𝓜 𝓡)
     (head-meets 𝓤 H (𝓖 .A) (givenOf 𝓤 H 𝓜 𝓖) (𝓜 .mem) (𝓡 .run) (tablesOf 𝓤 H 𝓜 (tables 𝓤 H 𝓜 𝓡 code.env))
-    (cited 𝓤 H (Stepped 𝓤 H (𝓖 .A) (𝓜 .mem) (𝓡 .run)) 𝓜 𝓡 code.env #casefile·walker·step step-def.routine code.calls-definitions·walker·step (step-thm.met 𝓤 H 𝓜 𝓖 𝓡)))
+    (cited 𝓤 H (Stepped 𝓤 H (𝓖 .A) (𝓜 .mem) (𝓡 .run)) 𝓜 𝓡 code.env #definitions·walker·step step-def.routine code.calls-definitions·walker·step (step-thm.met 𝓤 H 𝓜 𝓖 𝓡)))

@@ -1,4 +1,4 @@
--- `casefile::walker::list_at` meets its contract. Assumes nothing.
+-- `definitions::walker::list_at` meets its contract. Assumes nothing.
 use borrow.Author.Needs.{needs}
 use native.Mathlib.Omega.{arith}
 use Rattle.definitions.proofs.WalkLaws.{list-none, list-over, list-short, list-there}

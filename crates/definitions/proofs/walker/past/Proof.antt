@@ -1,4 +1,4 @@
--- `casefile::walker::past` meets its contract: a walk of its MIR, by hand. A struct is made anew of the slice that the one passed holds, and the number of a cursor.
+-- `definitions::walker::past` meets its contract: a walk of its MIR, by hand. A struct is made anew of the slice that the one passed holds, and the number of a cursor.
 -- The struct is Copy: what it owns is had twice, one copy is kept whole for the exit, and the other, with the facts of the number in the place of at's, is what the result owns.
 -- Assumes nothing.
 use mathlib.Core.Path.{refl}
@@ -40,7 +40,7 @@ use Rattle.definitions.proofs.Cursor as Cu
 use Rattle.definitions.proofs.Cursor.Laws as Cu′
 use Rattle.definitions.proofs.walker.Walker as T
 use Rattle.definitions.proofs.walker.Walker.Laws as T′
-use Rattle.definitions.proofs.walker.past.Key.{name as #casefile·walker·past}
+use Rattle.definitions.proofs.walker.past.Key.{name as #definitions·walker·past}
 use Rattle.definitions.proofs.walker.past as past
 use Rattle.definitions.proofs.walker.past.Statement as stated
 use Rattle.definitions.proofs.walker.past.Code as code
@@ -104,5 +104,5 @@ pub past-spec : {M : Type 1} → stated.statement M
 unfolding code.routine tablesOf
 past-spec 𝓤 H 𝓜 𝓖 𝓡 =
     entered 𝓤 H (tripleOf 𝓤 H (𝓖 .A) past.signature (past.spec 𝓤 H (𝓖 .A) (𝓜 .mem) (𝓡 .run)))
-    (tables 𝓤 H 𝓜 𝓡 code.env .C) (tables 𝓤 H 𝓜 𝓡 code.env .Λ) #casefile·walker·past code.function (code.unfolded 𝓤 H 𝓜 𝓡)
+    (tables 𝓤 H 𝓜 𝓡 code.env .C) (tables 𝓤 H 𝓜 𝓡 code.env .Λ) #definitions·walker·past code.function (code.unfolded 𝓤 H 𝓜 𝓡)
     (past-meets 𝓤 H (𝓖 .A) (givenOf 𝓤 H 𝓜 𝓖) (𝓜 .mem) (𝓡 .run) (tablesOf 𝓤 H 𝓜 (tables 𝓤 H 𝓜 𝓡 code.env)))

@@ -1,4 +1,4 @@
--- `casefile::walker::polyhedron` meets its contract. Assumes nothing.
+-- `definitions::walker::polyhedron` meets its contract. Assumes nothing.
 use borrow.Author.Needs.{needs}
 use mathlib.Core.Path.{sym, _∙_}
 use native.Mathlib.Omega.{arith}

@@ -1,4 +1,4 @@
--- `casefile::walker::record_at` meets its contract: a walk of its MIR, by hand. Each `Walker` that a call returns is held in a local and passed to the next call. All that the proof knows of `start`, `past` and `head` is that each meets its contract.
+-- `definitions::walker::record_at` meets its contract: a walk of its MIR, by hand. Each `Walker` that a call returns is held in a local and passed to the next call. All that the proof knows of `start`, `past` and `head` is that each meets its contract.
 -- The machine value that a call returns is stored and passed on as it is. In a local of a body MIR erases the lifetime of the struct's type, so the value is shown to have the type at `erased`: what the struct owns does not say the lifetime's name.
 -- Assumes nothing.
 use mathlib.Core.Path.{_≡_, refl, ap, _∙_}
@@ -50,17 +50,17 @@ use Rattle.definitions.proofs.Step as S
 use Rattle.definitions.proofs.Step.Laws as S′
 use Rattle.definitions.proofs.walker.start as start
 use Rattle.definitions.proofs.walker.start.Symbol as start-def
-use Rattle.definitions.proofs.walker.start.Symbol.{name as #casefile·walker·start}
+use Rattle.definitions.proofs.walker.start.Symbol.{name as #definitions·walker·start}
 use Rattle.definitions.proofs.walker.start.Met as start-thm
 use Rattle.definitions.proofs.walker.past as past
 use Rattle.definitions.proofs.walker.past.Symbol as past-def
-use Rattle.definitions.proofs.walker.past.Symbol.{name as #casefile·walker·past}
+use Rattle.definitions.proofs.walker.past.Symbol.{name as #definitions·walker·past}
 use Rattle.definitions.proofs.walker.past.Met as past-thm
 use Rattle.definitions.proofs.walker.head as head
 use Rattle.definitions.proofs.walker.head.Symbol as head-def
-use Rattle.definitions.proofs.walker.head.Symbol.{name as #casefile·walker·head}
+use Rattle.definitions.proofs.walker.head.Symbol.{name as #definitions·walker·head}
 use Rattle.definitions.proofs.walker.head.Met as head-thm
-use Rattle.definitions.proofs.walker.record_at.Key.{name as #casefile·walker·record-at}
+use Rattle.definitions.proofs.walker.record_at.Key.{name as #definitions·walker·record-at}
 use Rattle.definitions.proofs.walker.record_at as record-at
 use Rattle.definitions.proofs.walker.record_at.Statement as stated
 use Rattle.definitions.proofs.walker.record_at.Code as code
@@ -153,7 +153,7 @@ module _ {M : Type 1} (𝓤 : URA M) (H : Heap 𝓤) (A : Atoms 𝓤) (W : Given
       suffices ! _ (ends-at 𝓤 H A record-at.ended stayed (record-at.clauses 𝓤 H A mem run) W (((κ, tt), (q, tt), tt, (s, (c, tt)), at), tt) u t (tt, (tt, tt)) (tt, (tt, tt))) $ says ! e $
       move ! (1 ∷ []) $ frame ! $ move ! (1 ∷ []) $ frame ! $ done !
 
-  module _ (C : Calls 𝓤 H) (Λ : Loops 𝓤 H) (fm : FmC 𝓤 H (W .laws) C) (known-start : Triple 𝓤 (C #casefile·walker·start) (Start 𝓤 H A mem run)) (known-past : Triple 𝓤 (C #casefile·walker·past) (Past 𝓤 H A mem run)) (known-head : Triple 𝓤 (C #casefile·walker·head) (Headed 𝓤 H A mem run)) where
+  module _ (C : Calls 𝓤 H) (Λ : Loops 𝓤 H) (fm : FmC 𝓤 H (W .laws) C) (known-start : Triple 𝓤 (C #definitions·walker·start) (Start 𝓤 H A mem run)) (known-past : Triple 𝓤 (C #definitions·walker·past) (Past 𝓤 H A mem run)) (known-head : Triple 𝓤 (C #definitions·walker·head) (Headed 𝓤 H A mem run)) where
     walk : Is (ShrSlice (named 0) κ u8) s (v ∷ []) → Is Cu.the-row c (vc ∷ []) → ent 𝓤 (onEntry 𝓤 H A record-at.signature (κ, tt) (q, tt) (s, (c, tt)) at) (WpFn 𝓤 H C Λ code.function (v ∷ vc ∷ []) Post)
     walk p isc =
         qed W (raw (onEntry 𝓤 H A record-at.signature (κ, tt) (q, tt) (s, (c, tt)) at) ∷ []) ∵ enter ! C Λ code.function (v ∷ vc ∷ []) _ $
@@ -185,13 +185,13 @@ module _ {M : Type 1} (𝓤 : URA M) (H : Heap 𝓤) (A : Atoms 𝓤) (W : Given
         by ! (exits t u″ (e″ ∙ (ap (λ (x : RefT (List ℕ)). stepAt (wordsIn (now x)) (r′ .at)) (e′ .0 ∙ e .0) ∙ ap (stepAt (wordsIn (now s))) (e′ .1)))))))))))))))))))))
 
 module _ {M : Type 1} (𝓤 : URA M) (H : Heap 𝓤) (A : Atoms 𝓤) (W : Given 𝓤 H A) (mem : Memory → SProp 𝓤) (run : Routine → Fun 𝓤) where
-  record-at-walks : (C : Calls 𝓤 H) (Λ : Loops 𝓤 H) → FmC 𝓤 H (W .laws) C → Triple 𝓤 (C #casefile·walker·start) (Start 𝓤 H A mem run) → Triple 𝓤 (C #casefile·walker·past) (Past 𝓤 H A mem run) → Triple 𝓤 (C #casefile·walker·head) (Headed 𝓤 H A mem run)
+  record-at-walks : (C : Calls 𝓤 H) (Λ : Loops 𝓤 H) → FmC 𝓤 H (W .laws) C → Triple 𝓤 (C #definitions·walker·start) (Start 𝓤 H A mem run) → Triple 𝓤 (C #definitions·walker·past) (Past 𝓤 H A mem run) → Triple 𝓤 (C #definitions·walker·head) (Headed 𝓤 H A mem run)
       → Walks 𝓤 H A record-at.ended stayed (WpFn 𝓤 H C Λ code.function) (record-at.clauses 𝓤 H A mem run)
   record-at-walks C Λ fm known-start known-past known-head = walked 𝓤 H A record-at.ended stayed (record-at.clauses 𝓤 H A mem run) (WpFn 𝓤 H C Λ code.function) (λ κs. (slice-vals, (LL.vals Cu.the-type Cu′.the-laws, tt))) (λ κs. (shr-slice-tells (named 0) (κs .0) u8, (LL.tells Cu.the-type Cu′.the-laws, tt)))
       (λ κs qs bounds a g are. via 𝓤 _ (fst∗ 𝓤 _ (emp 𝓤)) (walk 𝓤 H A W mem run (κs .0) (qs .0) (a .0) (a .1 .0) C Λ fm known-start known-past known-head (are .0) (are .1 .0)))
 
 record-at-meets : {M : Type 1} (𝓤 : URA M) (H : Heap 𝓤) (A : Atoms 𝓤) (W : Given 𝓤 H A) (mem : Memory → SProp 𝓤) (run : Routine → Fun 𝓤) (𝓣 : Tables 𝓤 H)
-    → Triple 𝓤 (𝓣 .C #casefile·walker·start) (Start 𝓤 H A mem run) → Triple 𝓤 (𝓣 .C #casefile·walker·past) (Past 𝓤 H A mem run) → Triple 𝓤 (𝓣 .C #casefile·walker·head) (Headed 𝓤 H A mem run)
+    → Triple 𝓤 (𝓣 .C #definitions·walker·start) (Start 𝓤 H A mem run) → Triple 𝓤 (𝓣 .C #definitions·walker·past) (Past 𝓤 H A mem run) → Triple 𝓤 (𝓣 .C #definitions·walker·head) (Headed 𝓤 H A mem run)
     → Meets 𝓤 H A record-at.signature (WpFn 𝓤 H (𝓣 .C) (𝓣 .Λ) code.function) (record-at.spec 𝓤 H A mem run)
 record-at-meets 𝓤 H A W mem run 𝓣 known-start known-past known-head = walk-meets 𝓤 H A record-at.ended stayed W (goes-none-slice 𝓤 H A W 1 (0 ∷ []) tt (plain (λ _. u8)) yes, (goes-none 𝓤 H A W 1 (λ _. Cu.the-row) yes (λ κs x f. refl), tt)) (record-at.clauses 𝓤 H A mem run) (WpFn 𝓤 H (𝓣 .C) (𝓣 .Λ) code.function) (WpFn-mono 𝓤 H (W .laws) 𝓣 code.function)
     (record-at-walks 𝓤 H A W mem run (𝓣 .C) (𝓣 .Λ) (fmOf 𝓤 H (W .laws) 𝓣) known-start known-past known-head)
@@ -200,8 +200,8 @@ pub record-at-spec : {M : Type 1} → stated.statement M
 unfolding code.routine tablesOf
 record-at-spec 𝓤 H 𝓜 𝓖 𝓡 =
     entered 𝓤 H (tripleOf 𝓤 H (𝓖 .A) record-at.signature (record-at.spec 𝓤 H (𝓖 .A) (𝓜 .mem) (𝓡 .run)))
-    (tables 𝓤 H 𝓜 𝓡 code.env .C) (tables 𝓤 H 𝓜 𝓡 code.env .Λ) #casefile·walker·record-at code.function (code.unfolded 𝓤 H 𝓜 𝓡)
+    (tables 𝓤 H 𝓜 𝓡 code.env .C) (tables 𝓤 H 𝓜 𝓡 code.env .Λ) #definitions·walker·record-at code.function (code.unfolded 𝓤 H 𝓜 𝓡)
     (record-at-meets 𝓤 H (𝓖 .A) (givenOf 𝓤 H 𝓜 𝓖) (𝓜 .mem) (𝓡 .run) (tablesOf 𝓤 H 𝓜 (tables 𝓤 H 𝓜 𝓡 code.env))
-    (cited 𝓤 H (Start 𝓤 H (𝓖 .A) (𝓜 .mem) (𝓡 .run)) 𝓜 𝓡 code.env #casefile·walker·start start-def.routine code.calls-definitions·walker·start (start-thm.met 𝓤 H 𝓜 𝓖 𝓡))
-    (cited 𝓤 H (Past 𝓤 H (𝓖 .A) (𝓜 .mem) (𝓡 .run)) 𝓜 𝓡 code.env #casefile·walker·past past-def.routine code.calls-definitions·walker·past (past-thm.met 𝓤 H 𝓜 𝓖 𝓡))
-    (cited 𝓤 H (Headed 𝓤 H (𝓖 .A) (𝓜 .mem) (𝓡 .run)) 𝓜 𝓡 code.env #casefile·walker·head head-def.routine code.calls-definitions·walker·head (head-thm.met 𝓤 H 𝓜 𝓖 𝓡)))
+    (cited 𝓤 H (Start 𝓤 H (𝓖 .A) (𝓜 .mem) (𝓡 .run)) 𝓜 𝓡 code.env #definitions·walker·start start-def.routine code.calls-definitions·walker·start (start-thm.met 𝓤 H 𝓜 𝓖 𝓡))
+    (cited 𝓤 H (Past 𝓤 H (𝓖 .A) (𝓜 .mem) (𝓡 .run)) 𝓜 𝓡 code.env #definitions·walker·past past-def.routine code.calls-definitions·walker·past (past-thm.met 𝓤 H 𝓜 𝓖 𝓡))
+    (cited 𝓤 H (Headed 𝓤 H (𝓖 .A) (𝓜 .mem) (𝓡 .run)) 𝓜 𝓡 code.env #definitions·walker·head head-def.routine code.calls-definitions·walker·head (head-thm.met 𝓤 H 𝓜 𝓖 𝓡)))

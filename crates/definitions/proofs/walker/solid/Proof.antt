@@ -1,4 +1,4 @@
--- `casefile::walker::solid` meets its contract. Assumes nothing.
+-- `definitions::walker::solid` meets its contract. Assumes nothing.
 use borrow.Author.Needs.{needs}
 use native.Mathlib.Omega.{arith}
 use Rattle.definitions.proofs.WalkLaws.{solid-short, solid-there}

@@ -1,4 +1,4 @@
--- `casefile::walker::start` meets its contract: a walk of its MIR, by hand. A `Walker` is made of the slice passed and 0, in the result's local.
+-- `definitions::walker::start` meets its contract: a walk of its MIR, by hand. A `Walker` is made of the slice passed and 0, in the result's local.
 -- A `&[u8]` is Copy, so what it owns is had twice: once for words at exit, and once inside the result, beside the facts of at.
 -- Assumes nothing.
 use mathlib.Core.Path.{refl}
@@ -38,7 +38,7 @@ use denote.Exit.{yes}
 use Rattle.definitions.specs.declared.walker.Walker.{Walker}
 use Rattle.definitions.proofs.walker.Walker as T
 use Rattle.definitions.proofs.walker.Walker.Laws as T′
-use Rattle.definitions.proofs.walker.start.Key.{name as #casefile·walker·start}
+use Rattle.definitions.proofs.walker.start.Key.{name as #definitions·walker·start}
 use Rattle.definitions.proofs.walker.start as start
 use Rattle.definitions.proofs.walker.start.Statement as stated
 use Rattle.definitions.proofs.walker.start.Code as code
@@ -95,5 +95,5 @@ pub start-spec : {M : Type 1} → stated.statement M
 unfolding code.routine tablesOf
 start-spec 𝓤 H 𝓜 𝓖 𝓡 =
     entered 𝓤 H (tripleOf 𝓤 H (𝓖 .A) start.signature (start.spec 𝓤 H (𝓖 .A) (𝓜 .mem) (𝓡 .run)))
-    (tables 𝓤 H 𝓜 𝓡 code.env .C) (tables 𝓤 H 𝓜 𝓡 code.env .Λ) #casefile·walker·start code.function (code.unfolded 𝓤 H 𝓜 𝓡)
+    (tables 𝓤 H 𝓜 𝓡 code.env .C) (tables 𝓤 H 𝓜 𝓡 code.env .Λ) #definitions·walker·start code.function (code.unfolded 𝓤 H 𝓜 𝓡)
     (start-meets 𝓤 H (𝓖 .A) (givenOf 𝓤 H 𝓜 𝓖) (𝓜 .mem) (𝓡 .run) (tablesOf 𝓤 H 𝓜 (tables 𝓤 H 𝓜 𝓡 code.env)))

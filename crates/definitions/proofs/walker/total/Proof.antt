@@ -1,4 +1,4 @@
--- `casefile::walker::total` meets its contract. Assumes nothing.
+-- `definitions::walker::total` meets its contract. Assumes nothing.
 use mathlib.Core.Path.{sym}
 use native.Mathlib.Omega.{arith}
 use Rattle.casefile.proofs.ReadLaws.{length-wordsIn}

@@ -1,4 +1,4 @@
--- `casefile::walker::word` meets its contract: a walk of its MIR, by hand. Each `Walker` that a call returns is held in a local and passed to the next call. All that the proof knows of `start`, `past` and `word_of` is that each meets its contract.
+-- `definitions::walker::word` meets its contract: a walk of its MIR, by hand. Each `Walker` that a call returns is held in a local and passed to the next call. All that the proof knows of `start`, `past` and `word_of` is that each meets its contract.
 -- The machine value that a call returns is stored and passed on as it is. In a local of a body MIR erases the lifetime of the struct's type, so the value is shown to have the type at `erased`: what the struct owns does not say the lifetime's name.
 -- Assumes nothing.
 use mathlib.Core.Path.{_≡_, refl, sym, ap, subst, _∙_}
@@ -47,17 +47,17 @@ use Rattle.definitions.proofs.walker.Walker as T
 use Rattle.definitions.proofs.walker.Walker.Laws as T′
 use Rattle.definitions.proofs.walker.start as start
 use Rattle.definitions.proofs.walker.start.Symbol as start-def
-use Rattle.definitions.proofs.walker.start.Symbol.{name as #casefile·walker·start}
+use Rattle.definitions.proofs.walker.start.Symbol.{name as #definitions·walker·start}
 use Rattle.definitions.proofs.walker.start.Met as start-thm
 use Rattle.definitions.proofs.walker.past as past
 use Rattle.definitions.proofs.walker.past.Symbol as past-def
-use Rattle.definitions.proofs.walker.past.Symbol.{name as #casefile·walker·past}
+use Rattle.definitions.proofs.walker.past.Symbol.{name as #definitions·walker·past}
 use Rattle.definitions.proofs.walker.past.Met as past-thm
 use Rattle.definitions.proofs.walker.word_of as word-of
 use Rattle.definitions.proofs.walker.word_of.Symbol as word-of-def
-use Rattle.definitions.proofs.walker.word_of.Symbol.{name as #casefile·walker·word-of}
+use Rattle.definitions.proofs.walker.word_of.Symbol.{name as #definitions·walker·word-of}
 use Rattle.definitions.proofs.walker.word_of.Met as word-of-thm
-use Rattle.definitions.proofs.walker.word.Key.{name as #casefile·walker·word}
+use Rattle.definitions.proofs.walker.word.Key.{name as #definitions·walker·word}
 use Rattle.definitions.proofs.walker.word as word
 use Rattle.definitions.proofs.walker.word.Statement as stated
 use Rattle.definitions.proofs.walker.word.Code as code
@@ -161,7 +161,7 @@ module _ {M : Type 1} (𝓤 : URA M) (H : Heap 𝓤) (A : Atoms 𝓤) (W : Given
       suffices ! _ (ends-at 𝓤 H A word.ended stayed (word.clauses 𝓤 H A mem run) W (((κ, tt), (q, tt), tt, (s, (n, tt)), at), tt) u t (tt, (tt, tt)) (tt, (tt, tt))) $ says ! e $
       move ! (1 ∷ []) $ frame ! $ move ! (1 ∷ []) $ frame ! $ done !
 
-  module _ (C : Calls 𝓤 H) (Λ : Loops 𝓤 H) (fm : FmC 𝓤 H (W .laws) C) (known-start : Triple 𝓤 (C #casefile·walker·start) (Start 𝓤 H A mem run)) (known-past : Triple 𝓤 (C #casefile·walker·past) (Past 𝓤 H A mem run)) (known-word : Triple 𝓤 (C #casefile·walker·word-of) (Word 𝓤 H A mem run)) where
+  module _ (C : Calls 𝓤 H) (Λ : Loops 𝓤 H) (fm : FmC 𝓤 H (W .laws) C) (known-start : Triple 𝓤 (C #definitions·walker·start) (Start 𝓤 H A mem run)) (known-past : Triple 𝓤 (C #definitions·walker·past) (Past 𝓤 H A mem run)) (known-word : Triple 𝓤 (C #definitions·walker·word-of) (Word 𝓤 H A mem run)) where
     walk : Is (ShrSlice (named 0) κ u8) s (v ∷ []) → n < length (wordsIn (now s)) → ent 𝓤 (onEntry 𝓤 H A word.signature (κ, tt) (q, tt) (s, (n, tt)) at) (WpFn 𝓤 H C Λ code.function (v ∷ vn ∷ []) Post)
     walk p within =
         qed W (raw (onEntry 𝓤 H A word.signature (κ, tt) (q, tt) (s, (n, tt)) at) ∷ []) ∵ enter ! C Λ code.function (v ∷ vn ∷ []) _ $
@@ -194,13 +194,13 @@ module _ {M : Type 1} (𝓤 : URA M) (H : Heap 𝓤) (A : Atoms 𝓤) (W : Given
         by ! (exits t u″ (e″ ∙ (ap (λ (x : RefT (List ℕ)). getD (wordsIn (now x)) (r′ .at) 0) (e′ .0 ∙ e .0) ∙ ap (λ (k : ℕ). getD (wordsIn (now s)) k 0) (e′ .1))))))))))))))))))))))
 
 module _ {M : Type 1} (𝓤 : URA M) (H : Heap 𝓤) (A : Atoms 𝓤) (W : Given 𝓤 H A) (mem : Memory → SProp 𝓤) (run : Routine → Fun 𝓤) where
-  word-walks : (C : Calls 𝓤 H) (Λ : Loops 𝓤 H) → FmC 𝓤 H (W .laws) C → Triple 𝓤 (C #casefile·walker·start) (Start 𝓤 H A mem run) → Triple 𝓤 (C #casefile·walker·past) (Past 𝓤 H A mem run) → Triple 𝓤 (C #casefile·walker·word-of) (Word 𝓤 H A mem run)
+  word-walks : (C : Calls 𝓤 H) (Λ : Loops 𝓤 H) → FmC 𝓤 H (W .laws) C → Triple 𝓤 (C #definitions·walker·start) (Start 𝓤 H A mem run) → Triple 𝓤 (C #definitions·walker·past) (Past 𝓤 H A mem run) → Triple 𝓤 (C #definitions·walker·word-of) (Word 𝓤 H A mem run)
       → Walks 𝓤 H A word.ended stayed (WpFn 𝓤 H C Λ code.function) (word.clauses 𝓤 H A mem run)
   word-walks C Λ fm known-start known-past known-word = walked 𝓤 H A word.ended stayed (word.clauses 𝓤 H A mem run) (WpFn 𝓤 H C Λ code.function) (λ κs. (slice-vals, (uint-vals w64, tt))) (λ κs. (shr-slice-tells (named 0) (κs .0) u8, (uint-tells w64, tt)))
       (λ κs qs bounds a g are. needs 𝓤 (a .1 .0 < length (wordsIn (now (a .0)))) _ (walk 𝓤 H A W mem run (κs .0) (qs .0) (a .0) (a .1 .0) (are .1 .0 .1) C Λ fm known-start known-past known-word (are .0)))
 
 word-meets : {M : Type 1} (𝓤 : URA M) (H : Heap 𝓤) (A : Atoms 𝓤) (W : Given 𝓤 H A) (mem : Memory → SProp 𝓤) (run : Routine → Fun 𝓤) (𝓣 : Tables 𝓤 H)
-    → Triple 𝓤 (𝓣 .C #casefile·walker·start) (Start 𝓤 H A mem run) → Triple 𝓤 (𝓣 .C #casefile·walker·past) (Past 𝓤 H A mem run) → Triple 𝓤 (𝓣 .C #casefile·walker·word-of) (Word 𝓤 H A mem run)
+    → Triple 𝓤 (𝓣 .C #definitions·walker·start) (Start 𝓤 H A mem run) → Triple 𝓤 (𝓣 .C #definitions·walker·past) (Past 𝓤 H A mem run) → Triple 𝓤 (𝓣 .C #definitions·walker·word-of) (Word 𝓤 H A mem run)
     → Meets 𝓤 H A word.signature (WpFn 𝓤 H (𝓣 .C) (𝓣 .Λ) code.function) (word.spec 𝓤 H A mem run)
 word-meets 𝓤 H A W mem run 𝓣 known-start known-past known-word = walk-meets 𝓤 H A word.ended stayed W (goes-none-slice 𝓤 H A W 1 (0 ∷ []) tt (plain (λ _. u8)) yes, (goes-none 𝓤 H A W 1 (λ _. usize) yes (λ κs x f. refl), tt)) (word.clauses 𝓤 H A mem run) (WpFn 𝓤 H (𝓣 .C) (𝓣 .Λ) code.function) (WpFn-mono 𝓤 H (W .laws) 𝓣 code.function)
     (word-walks 𝓤 H A W mem run (𝓣 .C) (𝓣 .Λ) (fmOf 𝓤 H (W .laws) 𝓣) known-start known-past known-word)
@@ -209,8 +209,8 @@ pub word-spec : {M : Type 1} → stated.statement M
 unfolding code.routine tablesOf
 word-spec 𝓤 H 𝓜 𝓖 𝓡 =
     entered 𝓤 H (tripleOf 𝓤 H (𝓖 .A) word.signature (word.spec 𝓤 H (𝓖 .A) (𝓜 .mem) (𝓡 .run)))
-    (tables 𝓤 H 𝓜 𝓡 code.env .C) (tables 𝓤 H 𝓜 𝓡 code.env .Λ) #casefile·walker·word code.function (code.unfolded 𝓤 H 𝓜 𝓡)
+    (tables 𝓤 H 𝓜 𝓡 code.env .C) (tables 𝓤 H 𝓜 𝓡 code.env .Λ) #definitions·walker·word code.function (code.unfolded 𝓤 H 𝓜 𝓡)
     (word-meets 𝓤 H (𝓖 .A) (givenOf 𝓤 H 𝓜 𝓖) (𝓜 .mem) (𝓡 .run) (tablesOf 𝓤 H 𝓜 (tables 𝓤 H 𝓜 𝓡 code.env))
-    (cited 𝓤 H (Start 𝓤 H (𝓖 .A) (𝓜 .mem) (𝓡 .run)) 𝓜 𝓡 code.env #casefile·walker·start start-def.routine code.calls-definitions·walker·start (start-thm.met 𝓤 H 𝓜 𝓖 𝓡))
-    (cited 𝓤 H (Past 𝓤 H (𝓖 .A) (𝓜 .mem) (𝓡 .run)) 𝓜 𝓡 code.env #casefile·walker·past past-def.routine code.calls-definitions·walker·past (past-thm.met 𝓤 H 𝓜 𝓖 𝓡))
-    (cited 𝓤 H (Word 𝓤 H (𝓖 .A) (𝓜 .mem) (𝓡 .run)) 𝓜 𝓡 code.env #casefile·walker·word-of word-of-def.routine code.calls-definitions·walker·word-of (word-of-thm.met 𝓤 H 𝓜 𝓖 𝓡)))
+    (cited 𝓤 H (Start 𝓤 H (𝓖 .A) (𝓜 .mem) (𝓡 .run)) 𝓜 𝓡 code.env #definitions·walker·start start-def.routine code.calls-definitions·walker·start (start-thm.met 𝓤 H 𝓜 𝓖 𝓡))
+    (cited 𝓤 H (Past 𝓤 H (𝓖 .A) (𝓜 .mem) (𝓡 .run)) 𝓜 𝓡 code.env #definitions·walker·past past-def.routine code.calls-definitions·walker·past (past-thm.met 𝓤 H 𝓜 𝓖 𝓡))
+    (cited 𝓤 H (Word 𝓤 H (𝓖 .A) (𝓜 .mem) (𝓡 .run)) 𝓜 𝓡 code.env #definitions·walker·word-of word-of-def.routine code.calls-definitions·walker·word-of (word-of-thm.met 𝓤 H 𝓜 𝓖 𝓡)))

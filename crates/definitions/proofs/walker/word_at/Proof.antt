@@ -1,4 +1,4 @@
--- `casefile::walker::word_at` meets its contract. Assumes nothing.
+-- `definitions::walker::word_at` meets its contract. Assumes nothing.
 use mathlib.Core.Path.{sym, _∙_}
 use native.Mathlib.Omega.{arith}
 use Rattle.casefile.proofs.ReadLaws.{length-wordsIn, word-there}

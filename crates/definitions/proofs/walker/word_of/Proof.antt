@@ -1,4 +1,4 @@
--- `casefile::walker::word_of` meets its contract: a walk of its MIR, by hand. The struct is taken apart, and `word_at` is called on the slice and the number. All that the proof knows of `word_at` is that it meets its contract.
+-- `definitions::walker::word_of` meets its contract: a walk of its MIR, by hand. The struct is taken apart, and `word_at` is called on the slice and the number. All that the proof knows of `word_at` is that it meets its contract.
 -- The struct is Copy: what it owns is had twice, one copy is kept whole for the exit, and of the other what words owns goes to the callee, beside the lifetime's token, which comes back.
 -- Assumes nothing.
 use mathlib.Core.Path.{_≡_, refl}
@@ -48,9 +48,9 @@ use Rattle.definitions.proofs.walker.Walker as T
 use Rattle.definitions.proofs.walker.Walker.Laws as T′
 use Rattle.definitions.proofs.walker.word_at as word-at
 use Rattle.definitions.proofs.walker.word_at.Symbol as word-at-def
-use Rattle.definitions.proofs.walker.word_at.Symbol.{name as #casefile·walker·word-at}
+use Rattle.definitions.proofs.walker.word_at.Symbol.{name as #definitions·walker·word-at}
 use Rattle.definitions.proofs.walker.word_at.Met as word-at-thm
-use Rattle.definitions.proofs.walker.word_of.Key.{name as #casefile·walker·word-of}
+use Rattle.definitions.proofs.walker.word_of.Key.{name as #definitions·walker·word-of}
 use Rattle.definitions.proofs.walker.word_of as word-of
 use Rattle.definitions.proofs.walker.word_of.Statement as stated
 use Rattle.definitions.proofs.walker.word_of.Code as code
@@ -124,7 +124,7 @@ module _ {M : Type 1} (𝓤 : URA M) (H : Heap 𝓤) (A : Atoms 𝓤) (W : Given
       suffices ! _ (ends-at 𝓤 H A word-of.ended stayed (word-of.clauses 𝓤 H A mem run) W (((κ, tt), (q, tt), tt, (d, tt), (mach ∷ [], tt)), tt) u r (tt, tt) (tt, tt)) $ says ! e $
       move ! (1 ∷ []) $ frame ! $ nothing ! $ move ! (2 ∷ 0 ∷ []) $ fjoin ! $ frame ! $ done !
 
-  module _ (C : Calls 𝓤 H) (Λ : Loops 𝓤 H) (fm : FmC 𝓤 H (W .laws) C) (known : Triple 𝓤 (C #casefile·walker·word-at) (Word 𝓤 H A mem run)) where
+  module _ (C : Calls 𝓤 H) (Λ : Loops 𝓤 H) (fm : FmC 𝓤 H (W .laws) C) (known : Triple 𝓤 (C #definitions·walker·word-at) (Word 𝓤 H A mem run)) where
     walk : Holds (hasTy (T′.mir (named 0)) mach) × WT mach → d .at < length (wordsIn (now (d .words))) → ent 𝓤 (onEntry 𝓤 H A word-of.signature (κ, tt) (q, tt) (d, tt) (mach ∷ [], tt)) (WpFn 𝓤 H C Λ code.function (mach ∷ []) Post)
     walk wt within =
         qed W (raw (onEntry 𝓤 H A word-of.signature (κ, tt) (q, tt) (d, tt) (mach ∷ [], tt)) ∷ []) ∵ enter ! C Λ code.function (mach ∷ []) _ $
@@ -142,13 +142,13 @@ module _ {M : Type 1} (𝓤 : URA M) (H : Heap 𝓤) (A : Atoms 𝓤) (W : Given
         move ! (9 ∷ 10 ∷ []) $ free1 ! $ move ! (7 ∷ 8 ∷ []) $ free1 ! $ move ! (5 ∷ 6 ∷ []) $ free1 ! $ move ! (3 ∷ 4 ∷ []) $ free1 ! $ free0 ! $ by ! (exits r u e)))))))))
 
 module _ {M : Type 1} (𝓤 : URA M) (H : Heap 𝓤) (A : Atoms 𝓤) (W : Given 𝓤 H A) (mem : Memory → SProp 𝓤) (run : Routine → Fun 𝓤) where
-  word-of-walks : (C : Calls 𝓤 H) (Λ : Loops 𝓤 H) → FmC 𝓤 H (W .laws) C → Triple 𝓤 (C #casefile·walker·word-at) (Word 𝓤 H A mem run)
+  word-of-walks : (C : Calls 𝓤 H) (Λ : Loops 𝓤 H) → FmC 𝓤 H (W .laws) C → Triple 𝓤 (C #definitions·walker·word-at) (Word 𝓤 H A mem run)
       → Walks 𝓤 H A word-of.ended stayed (WpFn 𝓤 H C Λ code.function) (word-of.clauses 𝓤 H A mem run)
   word-of-walks C Λ fm known = walked 𝓤 H A word-of.ended stayed (word-of.clauses 𝓤 H A mem run) (WpFn 𝓤 H C Λ code.function) (λ κs. (LL.vals (T.the-type (namedLft 1 0 tt κs)) (T′.the-laws (namedLft 1 0 tt κs)), tt)) (λ κs. (LL.tells (T.the-type (namedLft 1 0 tt κs)) (T′.the-laws (namedLft 1 0 tt κs)), tt))
       (λ κs qs bounds a g are. needs 𝓤 (a .0 .at < length (wordsIn (now (a .0 .words)))) _ (walk 𝓤 H A W mem run (κs .0) (qs .0) (a .0) C Λ fm known (LL.lawful (T.the-type (namedLft 1 0 tt κs)) (T′.the-laws (namedLft 1 0 tt κs)) 𝓤 H A W .typed (a .0) _ (are .0) .0)))
 
 word-of-meets : {M : Type 1} (𝓤 : URA M) (H : Heap 𝓤) (A : Atoms 𝓤) (W : Given 𝓤 H A) (mem : Memory → SProp 𝓤) (run : Routine → Fun 𝓤) (𝓣 : Tables 𝓤 H)
-    → Triple 𝓤 (𝓣 .C #casefile·walker·word-at) (Word 𝓤 H A mem run)
+    → Triple 𝓤 (𝓣 .C #definitions·walker·word-at) (Word 𝓤 H A mem run)
     → Meets 𝓤 H A word-of.signature (WpFn 𝓤 H (𝓣 .C) (𝓣 .Λ) code.function) (word-of.spec 𝓤 H A mem run)
 word-of-meets 𝓤 H A W mem run 𝓣 known-word = walk-meets 𝓤 H A word-of.ended stayed W (goes-none 𝓤 H A W 1 B yes (λ κs x f. refl), tt) (word-of.clauses 𝓤 H A mem run) (WpFn 𝓤 H (𝓣 .C) (𝓣 .Λ) code.function) (WpFn-mono 𝓤 H (W .laws) 𝓣 code.function)
     (word-of-walks 𝓤 H A W mem run (𝓣 .C) (𝓣 .Λ) (fmOf 𝓤 H (W .laws) 𝓣) known-word)
@@ -157,6 +157,6 @@ pub word-of-spec : {M : Type 1} → stated.statement M
 unfolding code.routine tablesOf
 word-of-spec 𝓤 H 𝓜 𝓖 𝓡 =
     entered 𝓤 H (tripleOf 𝓤 H (𝓖 .A) word-of.signature (word-of.spec 𝓤 H (𝓖 .A) (𝓜 .mem) (𝓡 .run)))
-    (tables 𝓤 H 𝓜 𝓡 code.env .C) (tables 𝓤 H 𝓜 𝓡 code.env .Λ) #casefile·walker·word-of code.function (code.unfolded 𝓤 H 𝓜 𝓡)
+    (tables 𝓤 H 𝓜 𝓡 code.env .C) (tables 𝓤 H 𝓜 𝓡 code.env .Λ) #definitions·walker·word-of code.function (code.unfolded 𝓤 H 𝓜 𝓡)
     (word-of-meets 𝓤 H (𝓖 .A) (givenOf 𝓤 H 𝓜 𝓖) (𝓜 .mem) (𝓡 .run) (tablesOf 𝓤 H 𝓜 (tables 𝓤 H 𝓜 𝓡 code.env))
-    (cited 𝓤 H (Word 𝓤 H (𝓖 .A) (𝓜 .mem) (𝓡 .run)) 𝓜 𝓡 code.env #casefile·walker·word-at word-at-def.routine code.calls-definitions·walker·word-at (word-at-thm.met 𝓤 H 𝓜 𝓖 𝓡)))
+    (cited 𝓤 H (Word 𝓤 H (𝓖 .A) (𝓜 .mem) (𝓡 .run)) 𝓜 𝓡 code.env #definitions·walker·word-at word-at-def.routine code.calls-definitions·walker·word-at (word-at-thm.met 𝓤 H 𝓜 𝓖 𝓡)))

@@ -1,4 +1,4 @@
--- `casefile::walker::words` meets its contract. Assumes nothing.
+-- `definitions::walker::words` meets its contract. Assumes nothing.
 use borrow.Author.Needs.{needs}
 use native.Mathlib.Nat.{add-sub-cancel-left}
 use Rattle.casefile.specs.Trailer.{wordsFrom}
