@@ -21,7 +21,8 @@ returns-2 : tie.Need-returns-2
 unfolding numberOf
 returns-2 c =
     let a = c .before .before .before .before .before .before .before .before .before .before .before .before .before .before .before .before .before .before .before .before .before .before .before .before .before .args in
-    done-promise (a .case .now) (a .requests .now) (length (a .words .now)) (length (a .floats .now)) (a .answers .now) (a .marks .now) (c .before .before .before .before .before .before .before .before .before .before .before .before .before .before .before .before .prepare .ensures) (c .before .before .before .before .before .before .before .before .before .before .place .given .1) (c .before .before .before .before .run .ensures)
+    let p = done-promise (a .case .now) (a .requests .now) (length (a .words .now)) (length (a .floats .now)) (a .answers .now) (a .marks .now) (c .before .before .before .before .before .before .before .before .before .before .before .before .before .before .before .before .prepare .ensures) (c .before .before .before .before .before .before .before .before .before .before .place .given .1) (c .before .before .before .before .run .ensures) in
+    (p .0, p .1)
 
 pub job-spec : {M : Type 1} → statement M
 job-spec =
