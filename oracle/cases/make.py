@@ -1,10 +1,10 @@
 #!/usr/bin/env python3
-"""Makes what the program crate case_refusals runs on, and what it is held to.
+"""Makes what the program crate test_case_refusals runs on, and what it is held to.
 
     make.py REFJOB
 
-writes crates/case_refusals/data/cases, the case files in pieces (src/main.rt says how), and
-crates/case_refusals/stdout, the line that each is due. No number of a line is computed here: each
+writes crates/test_case_refusals/data/cases, the case files in pieces (src/main.rt says how), and
+crates/test_case_refusals/stdout, the line that each is due. No number of a line is computed here: each
 comes from REFJOB, the reference job that runs FLURSYS's own Rust inside the records of the case
 file. A refusal of 1, 2 or 3 is what it prints. For a case that it reads, F is found from the
 smallest work area that it accepts: 16F+96C words, C being the trailer's, and 12F+64C floats must
@@ -20,7 +20,7 @@ import sys
 import tempfile
 
 HERE = os.path.dirname(os.path.abspath(__file__))
-CRATE = os.path.join(HERE, "..", "..", "crates", "case_refusals")
+CRATE = os.path.join(HERE, "..", "..", "crates", "test_case_refusals")
 MOST_POINTS, MOST_CELLS, MOST_WORDS = 65536, 16384, 1048576
 TOP = 2**32 - 1
 

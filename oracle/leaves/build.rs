@@ -1,4 +1,4 @@
-//! Links the static library that `rt staticlib arith_exports` writes.
+//! Links the static library that `rt staticlib test_arith_exports` writes.
 use std::path::Path;
 
 fn main() {
@@ -7,11 +7,11 @@ fn main() {
     println!("cargo::rerun-if-changed={}", archive.display());
     if !archive.exists() {
         println!(
-            "cargo::error={} is missing: run `rt staticlib arith_exports` in the repository first",
+            "cargo::error={} is missing: run `rt staticlib test_arith_exports` in the repository first",
             archive.display()
         );
         return;
     }
     println!("cargo::rustc-link-search=native={}", folder.display());
-    println!("cargo::rustc-link-lib=static=arith_exports");
+    println!("cargo::rustc-link-lib=static=test_arith_exports");
 }

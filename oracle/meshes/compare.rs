@@ -1,10 +1,10 @@
-//! Builds generated cases by crates/mesh_exports and by FLURSYS's own `UnstructuredMesh::from_cells` in one
+//! Builds generated cases by crates/test_mesh_exports and by FLURSYS's own `UnstructuredMesh::from_cells` in one
 //! process, and compares refusals, faces and cells by their bits; then times both on two large meshes.
 //!
 //! It is built in the workspace of the reference job, as a binary of its package `refair` (src/bin/compare.rs,
 //! whose `gen` makes the cases), and linked with target/staticlib/libmesh_exports.a of `rt staticlib
-//! mesh_exports`:
-//!     RUSTFLAGS="-L native=TARGET/staticlib -l static=mesh_exports" cargo build --offline --release --bin compare
+//! test_mesh_exports`:
+//!     RUSTFLAGS="-L native=TARGET/staticlib -l static=test_mesh_exports" cargo build --offline --release --bin compare
 //! Run: compare FIRST COUNT.
 use flursys::{CellDefinition, MeshDimension, MeshError, Point, UnstructuredMesh, Vec3};
 use refair::{bits, gen, mesh_number, read_case, LIMIT};
@@ -64,7 +64,7 @@ fn neighbours(mesh: &UnstructuredMesh, cell: usize) -> Vec<usize> {
     list
 }
 
-/// Where the area has what is said in crates/area/specs/Layout.antt.
+/// Where the area has what is said in crates/mesh_area/specs/Layout.antt.
 fn equal(mesh: &UnstructuredMesh, a: &Area) -> Result<(), String> {
     let [slots, faces, cells] = a.sizes;
     if faces != mesh.face_count() || cells != mesh.cell_count() {

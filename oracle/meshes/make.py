@@ -1,9 +1,9 @@
 #!/usr/bin/env python3
-"""Makes what the program crate mesh_tables runs on, and what it is held to.
+"""Makes what the program crate test_mesh_tables runs on, and what it is held to.
 
     make.py TABLES
 
-writes crates/mesh_tables/data/cases (src/main.rt says in which form) and crates/mesh_tables/stdout.
+writes crates/test_mesh_tables/data/cases (src/main.rt says in which form) and crates/test_mesh_tables/stdout.
 No number of a line is computed here: TABLES, built from tables.rs, has FLURSYS's own
 `UnstructuredMesh::from_cells` build each case and prints its tables.
 """
@@ -16,7 +16,7 @@ import subprocess
 import sys
 
 HERE = os.path.dirname(os.path.abspath(__file__))
-CRATE = os.path.join(HERE, "..", "..", "crates", "mesh_tables")
+CRATE = os.path.join(HERE, "..", "..", "crates", "test_mesh_tables")
 TOP = 2**32 - 1
 FAR = 1048576.0
 EPS = 2.0**-52

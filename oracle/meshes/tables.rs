@@ -1,4 +1,4 @@
-//! Prints what the program crate mesh_tables is due for each case of a file (crates/mesh_tables/src/main.rt
+//! Prints what the program crate test_mesh_tables is due for each case of a file (crates/test_mesh_tables/src/main.rt
 //! says in which form), from FLURSYS's own `UnstructuredMesh::from_cells`.
 //!
 //! It is built in the workspace of the reference job, as a binary of its package `refair` (src/bin/tables.rs),

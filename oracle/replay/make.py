@@ -3,7 +3,7 @@
 
     make.py REFJOB GEN ROOMS
 
-writes crates/replay/data/pairs (src/main.rt says in which form) and crates/replay/stdout. REFJOB is
+writes crates/test_replay/data/pairs (src/main.rt says in which form) and crates/test_replay/stdout. REFJOB is
 the reference job, which runs FLURSYS's own Rust inside the records of the case and request files;
 GEN makes pairs by chance and ROOMS those of docs/01-scope.md. No answer is computed here: the answer
 words, the marks and the refusals are read off what REFJOB prints for each pair. What is added are the
@@ -29,7 +29,7 @@ import tempfile
 
 HERE = os.path.dirname(os.path.abspath(__file__))
 TOP = os.path.join(HERE, "..", "..")
-CRATE = os.path.join(TOP, "crates", "replay")
+CRATE = os.path.join(TOP, "crates", "test_replay")
 FAR = 1048576.0
 NAN, INF = math.nan, math.inf
 MOST = 2**64 - 1

@@ -1,9 +1,9 @@
 #!/usr/bin/env python3
-"""Holds what crates/rooms expects of each room to what a reference job around FLURSYS prints.
+"""Holds what crates/test_rooms expects of each room to what a reference job around FLURSYS prints.
 
     check.py REFJOB
 
-A room is a file of crates/rooms/specs with `file`, `requests` and `expected`. Ends with 1 where one differs.
+A room is a file of crates/test_rooms/specs with `file`, `requests` and `expected`. Ends with 1 where one differs.
 """
 import glob
 import os
@@ -12,7 +12,7 @@ import subprocess
 import sys
 import tempfile
 
-SPECS = os.path.join(os.path.dirname(os.path.abspath(__file__)), "..", "..", "crates", "rooms", "specs")
+SPECS = os.path.join(os.path.dirname(os.path.abspath(__file__)), "..", "..", "crates", "test_rooms", "specs")
 
 
 def numbers(text):

@@ -12,8 +12,8 @@ use lib.Ieee.{Float, nan, inf, fin, binary64, up, down, odd, units, round, sum, 
 use lib.Ieee.Fits.{round-is, add-fits, up-pos, down-pos, and-l, and-r}
 use lib.Ieee.Bits.{ofBits-toBits}
 use borrow.Author.Tests.{ltb-true, ltb-false, lt-ltb, le-ltb}
-use Rattle.root.specs.Root.{mag, root, plus, Nearest}
-use Rattle.root.proofs.Nearest.{root-nearest}
+use Rattle.arith_root.specs.Root.{mag, root, plus, Nearest}
+use Rattle.arith_root.proofs.Nearest.{root-nearest}
 use Rattle.arith.specs.F64.{_⊕_, _⊗_, _≺_, finite, signed, fmax}
 use Rattle.arith.specs.Vec.{dot, normSquared, norm}
 use Rattle.arith.specs.declared.Vec3.{Vec3}

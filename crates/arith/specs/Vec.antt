@@ -2,7 +2,7 @@
 use mathlib.Core.Bool.{Bool, _&&_}
 use lib.Ieee.{Float}
 use Rattle.arith.specs.F64.{_⊕_, _⊖_, _⊗_, _⊘_, 0·0}
-use Rattle.root.specs.Root.{root}
+use Rattle.arith_root.specs.Root.{root}
 use Rattle.arith.specs.declared.Vec3.{Vec3}
 use Rattle.arith.specs.declared.Vec2.{Vec2}
 

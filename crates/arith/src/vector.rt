@@ -81,7 +81,7 @@ impl Vec3 {
     pub fn norm(self) -> f64
         ensures { λ r. ⌜ r ≡ Vec.norm self ⌝ }
     {
-        root::sqrt(self.norm_squared())
+        arith_root::sqrt(self.norm_squared())
     }
 
     // All three coordinates are finite.

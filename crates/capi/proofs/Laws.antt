@@ -8,15 +8,15 @@ use lib.Dec.{ltb}
 use lib.ListN.{length, set}
 use borrow.Author.Tests.{lt-ltb, le-ltb}
 use Rattle.reading.specs.Result.{refused, fine}
-use Rattle.casefile.specs.declared.Counts.{Counts}
-use Rattle.casefile.proofs.TrailerLaws.{opens}
+use Rattle.case_file.specs.declared.Counts.{Counts}
+use Rattle.case_file.proofs.TrailerLaws.{opens}
 use Rattle.mesh.specs.Case.{Surveyed-case, surveyOf, areaShort}
 use Rattle.mesh.proofs.Laws.{Surveys, survey-right, faces-few}
 use Rattle.job.specs.Promise.{Promised}
 use Rattle.arith.specs.declared.Vec3.{Vec3}
-use Rattle.rk4.specs.declared.StreamlineOptions.{StreamlineOptions}
+use Rattle.lines_step.specs.declared.StreamlineOptions.{StreamlineOptions}
 use Rattle.lines.specs.declared.StreamlineDirection.{StreamlineDirection}
-use Rattle.single.specs.Single.{rakeWords}
+use Rattle.job_single.specs.Single.{rakeWords}
 use Rattle.capi.specs.declared.Vector.{Vector}
 use Rattle.capi.specs.declared.LineOptions.{LineOptions}
 use Rattle.capi.specs.Convert.{vectorOf, directionOf, optionsOf}

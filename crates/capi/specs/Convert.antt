@@ -1,10 +1,10 @@
 -- The values of the exported functions as those of the crates below.
 use mathlib.Core.Bool.{Bool, true, false}
 use Rattle.arith.specs.declared.Vec3.{Vec3}
-use Rattle.rk4.specs.declared.StreamlineOptions.{StreamlineOptions}
+use Rattle.lines_step.specs.declared.StreamlineOptions.{StreamlineOptions}
 use Rattle.lines.specs.declared.StreamlineDirection.{StreamlineDirection}
 use Rattle.lines.specs.declared.StreamlineDirection.the-variants.{Forward, Backward}
-use Rattle.cutting_plane.specs.declared.Plane.{Plane}
+use Rattle.planes_cut.specs.declared.Plane.{Plane}
 use Rattle.capi.specs.declared.Vector.{Vector}
 use Rattle.capi.specs.declared.SectionPlane.{SectionPlane}
 use Rattle.capi.specs.declared.LineOptions.{LineOptions}

@@ -5,7 +5,7 @@ use mathlib.Core.List.{List}
 use lib.Dec.{ltb}
 use lib.ListN.{length, set}
 use Rattle.reading.specs.Result.{Result, refused, fine}
-use Rattle.definitions.specs.Faces.{facesCounted}
+use Rattle.case_definitions.specs.Faces.{facesCounted}
 use Rattle.mesh.specs.Case.{Surveyed-case}
 
 -- "16F+96C words"

@@ -4,9 +4,9 @@ use crate::SectionPlane;
 use crate::Vector;
 use crate::convert;
 ghost use lib.ListN.{length};
-ghost use Rattle.requests.specs.Encode.{bytesOf};
+ghost use Rattle.job_requests.specs.Encode.{bytesOf};
 ghost use Rattle.job.specs.Promise.{Promised};
-ghost use Rattle.single.specs.Single.{locateWords, velocityWords, streamlineWords, rakeWords, sectionWords, statisticsWords, integralsWords, probeWords};
+ghost use Rattle.job_single.specs.Single.{locateWords, velocityWords, streamlineWords, rakeWords, sectionWords, statisticsWords, integralsWords, probeWords};
 ghost use Rattle.capi.specs.Convert.{vectorOf, planeOf, directionOf, optionsOf};
 
 // The cell at a point.
@@ -23,7 +23,7 @@ pub extern "C" fn hookyellow_locate(
         (length (now (words .entry))) (length (now (floats .entry))) (now (answers .entry)) (now (marks .entry))
         (record { result = r; answers = now (answers .exit); marks = now (marks .exit) }) ⌝ }
 {
-    convert::number(single::locate(case, convert::vector(p), words, floats, marks, answers))
+    convert::number(job_single::locate(case, convert::vector(p), words, floats, marks, answers))
 }
 
 // The velocity at a point.
@@ -40,7 +40,7 @@ pub extern "C" fn hookyellow_velocity(
         (length (now (words .entry))) (length (now (floats .entry))) (now (answers .entry)) (now (marks .entry))
         (record { result = r; answers = now (answers .exit); marks = now (marks .exit) }) ⌝ }
 {
-    convert::number(single::velocity(case, convert::vector(p), words, floats, marks, answers))
+    convert::number(job_single::velocity(case, convert::vector(p), words, floats, marks, answers))
 }
 
 // The line from a seed.
@@ -60,7 +60,7 @@ pub extern "C" fn hookyellow_streamline(
         (length (now (words .entry))) (length (now (floats .entry))) (now (answers .entry)) (now (marks .entry))
         (record { result = r; answers = now (answers .exit); marks = now (marks .exit) }) ⌝ }
 {
-    convert::number(single::streamline(
+    convert::number(job_single::streamline(
         case,
         convert::vector(seed),
         convert::direction(backward),
@@ -91,7 +91,7 @@ pub extern "C" fn hookyellow_rake(
         (length (now (words .entry))) (length (now (floats .entry))) (now (answers .entry)) (now (marks .entry))
         (record { result = r; answers = now (answers .exit); marks = now (marks .exit) }) ⌝ }
 {
-    convert::number(single::rake(
+    convert::number(job_single::rake(
         case,
         convert::vector(start),
         convert::vector(end),
@@ -119,7 +119,7 @@ pub extern "C" fn hookyellow_section(
         (length (now (words .entry))) (length (now (floats .entry))) (now (answers .entry)) (now (marks .entry))
         (record { result = r; answers = now (answers .exit); marks = now (marks .exit) }) ⌝ }
 {
-    convert::number(single::section(case, convert::plane(plane), words, floats, marks, answers))
+    convert::number(job_single::section(case, convert::plane(plane), words, floats, marks, answers))
 }
 
 // The statistics of a field over a section.
@@ -137,7 +137,7 @@ pub extern "C" fn hookyellow_statistics(
         (length (now (words .entry))) (length (now (floats .entry))) (now (answers .entry)) (now (marks .entry))
         (record { result = r; answers = now (answers .exit); marks = now (marks .exit) }) ⌝ }
 {
-    convert::number(single::statistics(
+    convert::number(job_single::statistics(
         case,
         convert::plane(plane),
         field,
@@ -162,7 +162,14 @@ pub extern "C" fn hookyellow_integrals(
         (length (now (words .entry))) (length (now (floats .entry))) (now (answers .entry)) (now (marks .entry))
         (record { result = r; answers = now (answers .exit); marks = now (marks .exit) }) ⌝ }
 {
-    convert::number(single::integrals(case, convert::plane(plane), words, floats, marks, answers))
+    convert::number(job_single::integrals(
+        case,
+        convert::plane(plane),
+        words,
+        floats,
+        marks,
+        answers,
+    ))
 }
 
 // The sample at a point of a section.
@@ -180,7 +187,7 @@ pub extern "C" fn hookyellow_probe(
         (length (now (words .entry))) (length (now (floats .entry))) (now (answers .entry)) (now (marks .entry))
         (record { result = r; answers = now (answers .exit); marks = now (marks .exit) }) ⌝ }
 {
-    convert::number(single::probe(
+    convert::number(job_single::probe(
         case,
         convert::plane(plane),
         convert::vector(p),

@@ -10,13 +10,13 @@ use Rattle.reading.specs.Marks.{markAll}
 use Rattle.reading.proofs.AsksLaws.{run-bind, reads-bind}
 use Rattle.planes.specs.declared.Answered.{Answered}
 use Rattle.planes.specs.Reply.{Replied}
-use Rattle.prepare.specs.Room.{Room}
-use Rattle.requests.specs.declared.Request.{Request}
-use Rattle.requests.specs.Requests.{requestOf}
-use Rattle.serve.specs.Serve.{serve}
-use Rattle.buffers.specs.Answer.{fitting, answerWords, headerOf}
-use Rattle.buffers.specs.Placed.{Closed}
-use Rattle.buffers.proofs.BehindLaws.{placed-part}
+use Rattle.job_room.specs.Room.{Room}
+use Rattle.job_requests.specs.declared.Request.{Request}
+use Rattle.job_requests.specs.Requests.{requestOf}
+use Rattle.job_serve.specs.Serve.{serve}
+use Rattle.job_buffers.specs.Answer.{fitting, answerWords, headerOf}
+use Rattle.job_buffers.specs.Placed.{Closed}
+use Rattle.job_buffers.proofs.BehindLaws.{placed-part}
 use Rattle.job.specs.List.{isFlat, replyTo}
 use Rattle.job.specs.Serving.{Told, answerTo}
 

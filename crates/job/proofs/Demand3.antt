@@ -16,14 +16,14 @@ use Rattle.reading.proofs.TwoRuns.{same-done, read-marked, marked-read, unread-
 use Rattle.reading.proofs.ResultLaws.{bound}
 use Rattle.reading.proofs.MarksLaws.{unread-keeps, length-markAll}
 use Rattle.reading.proofs.Within.{Within, given, within-reads, within-bind}
-use Rattle.casefile.specs.Field.{outside, cellsOf, valuesOf}
-use Rattle.casefile.proofs.OutsideLaws.{cells-outside, values-beyond}
-use Rattle.requests.specs.declared.Request.{Request}
-use Rattle.requests.specs.Requests.{requestsIn}
-use Rattle.prepare.specs.Room.{Room, Lent, prepared}
-use Rattle.prepare.proofs.Laws.{prepared-fits, prepared-outside}
-use Rattle.serve.specs.Serve.{serve}
-use Rattle.within.proofs.Laws.{serve-within}
+use Rattle.case_file.specs.Field.{outside, cellsOf, valuesOf}
+use Rattle.case_file.proofs.OutsideLaws.{cells-outside, values-beyond}
+use Rattle.job_requests.specs.declared.Request.{Request}
+use Rattle.job_requests.specs.Requests.{requestsIn}
+use Rattle.job_room.specs.Room.{Room, Lent, prepared}
+use Rattle.job_room.proofs.Laws.{prepared-fits, prepared-outside}
+use Rattle.job_serve.specs.Serve.{serve}
+use Rattle.job_reads.proofs.Laws.{serve-within}
 use Rattle.job.specs.List.{replyTo, serveAll}
 use Rattle.job.specs.Job.{jobOf, lentTo, outcome}
 

@@ -6,16 +6,16 @@ use lib.ListN.{length}
 use lib.Ieee.{Float}
 use Rattle.reading.specs.Result.{fine, _>>=_}
 use Rattle.reading.specs.After.{done, Left}
-use Rattle.casefile.specs.declared.Counts.{Counts}
-use Rattle.casefile.specs.Trailer.{openedCase, countsOf}
-use Rattle.casefile.specs.Field.{cellsOf, valuesOf}
-use Rattle.requests.specs.Requests.{requestsIn}
-use Rattle.prepare.specs.Room.{Lent, prepared}
-use Rattle.prepare.specs.declared.Place.{Place}
-use Rattle.prepare.specs.declared.Prepared.{Prepared}
-use Rattle.prepare.specs.declared.Prepared.the-variants as Prepared
-use Rattle.prepare.specs.Stands.{roomIn, countsIn, Stands, Preparing}
-use Rattle.prepare.proofs.Laws.{prepared-outside, prepared-fits, counts-are, preparing-refused, preparing-ready}
+use Rattle.case_file.specs.declared.Counts.{Counts}
+use Rattle.case_file.specs.Trailer.{openedCase, countsOf}
+use Rattle.case_file.specs.Field.{cellsOf, valuesOf}
+use Rattle.job_requests.specs.Requests.{requestsIn}
+use Rattle.job_room.specs.Room.{Lent, prepared}
+use Rattle.job_room.specs.declared.Place.{Place}
+use Rattle.job_room.specs.declared.Prepared.{Prepared}
+use Rattle.job_room.specs.declared.Prepared.the-variants as Prepared
+use Rattle.job_room.specs.Stands.{roomIn, countsIn, Stands, Preparing}
+use Rattle.job_room.proofs.Laws.{prepared-outside, prepared-fits, counts-are, preparing-refused, preparing-ready}
 use Rattle.job.specs.List.{serveAll}
 use Rattle.job.specs.Job.{jobOf, lentTo, outcome}
 

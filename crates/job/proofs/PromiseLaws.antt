@@ -15,20 +15,20 @@ use Rattle.reading.specs.Result.{Result, refused, fine, _>>=_}
 use Rattle.reading.specs.Asks.{give, run, reads}
 use Rattle.reading.specs.After.{After, done, Left}
 use Rattle.reading.proofs.AsksLaws.{run-bind}
-use Rattle.casefile.specs.Field.{cellsOf, valuesOf}
-use Rattle.casefile.proofs.FieldLaws.{same-outside, same-values}
-use Rattle.requests.specs.Requests.{wordsAt, requestsIn}
-use Rattle.requests.proofs.Laws.{requests-count, requests-at}
-use Rattle.prepare.specs.Room.{Room, Lent, prepared}
-use Rattle.prepare.specs.declared.Place.{Place}
-use Rattle.prepare.specs.declared.Prepared.{Prepared}
-use Rattle.prepare.specs.declared.Prepared.the-variants as Prepared
-use Rattle.prepare.specs.Stands.{roomIn, countsIn, Preparing}
-use Rattle.prepare.proofs.Laws.{prepared-outside, preparing-refused}
-use Rattle.buffers.specs.Answer.{fitting, answerWords}
-use Rattle.within.proofs.Ranges.{Ranged, due, none, among-is, between}
-use Rattle.within.proofs.JobRefusals.{job-refusals}
-use Rattle.within.proofs.RequestRefusals.{request-refusals}
+use Rattle.case_file.specs.Field.{cellsOf, valuesOf}
+use Rattle.case_file.proofs.FieldLaws.{same-outside, same-values}
+use Rattle.job_requests.specs.Requests.{wordsAt, requestsIn}
+use Rattle.job_requests.proofs.Laws.{requests-count, requests-at}
+use Rattle.job_room.specs.Room.{Room, Lent, prepared}
+use Rattle.job_room.specs.declared.Place.{Place}
+use Rattle.job_room.specs.declared.Prepared.{Prepared}
+use Rattle.job_room.specs.declared.Prepared.the-variants as Prepared
+use Rattle.job_room.specs.Stands.{roomIn, countsIn, Preparing}
+use Rattle.job_room.proofs.Laws.{prepared-outside, preparing-refused}
+use Rattle.job_buffers.specs.Answer.{fitting, answerWords}
+use Rattle.job_reads.proofs.Ranges.{Ranged, due, none, among-is, between}
+use Rattle.job_reads.proofs.JobRefusals.{job-refusals}
+use Rattle.job_reads.proofs.RequestRefusals.{request-refusals}
 use Rattle.job.specs.declared.Outcome.the-variants.{Done, Refused}
 use Rattle.job.specs.List.{isFlat, replyTo, serveAll}
 use Rattle.job.specs.Serving.{answerTo}

@@ -5,9 +5,9 @@ use mathlib.Core.Path.{_≡_, refl}
 use mathlib.Core.List.{List}
 use lib.ListN.{length}
 use Rattle.reading.specs.declared.Values.{Values}
-use Rattle.requests.specs.Requests.{wordsAt, requestsIn}
-use Rattle.requests.proofs.Laws.{requests-count, requests-at}
-use Rattle.prepare.specs.Room.{Room}
+use Rattle.job_requests.specs.Requests.{wordsAt, requestsIn}
+use Rattle.job_requests.proofs.Laws.{requests-count, requests-at}
+use Rattle.job_room.specs.Room.{Room}
 use Rattle.job.specs.List.{serveAll}
 use Rattle.job.specs.Serving.{Told, answerTo}
 use Rattle.job.proofs.ListLaws.{Along, along-start, along-next, along-end}

@@ -8,9 +8,9 @@ use mathlib.Core.List.{List}
 use lib.ListN.{getD, set, length-set}
 use lib.Seq.{getD-set-other}
 use Rattle.reading.specs.After.{After, Named}
-use Rattle.casefile.specs.Trailer.{countsOf, trailerRight, fieldFrom, pressuresFrom, trailerFrom}
-use Rattle.casefile.specs.Field.{cellsOf}
-use Rattle.casefile.specs.Same.{SameOutsideFields, SameAt}
+use Rattle.case_file.specs.Trailer.{countsOf, trailerRight, fieldFrom, pressuresFrom, trailerFrom}
+use Rattle.case_file.specs.Field.{cellsOf}
+use Rattle.case_file.specs.Same.{SameOutsideFields, SameAt}
 use Rattle.job.specs.Job.{outcome}
 use Rattle.job.specs.Promise.{Promised}
 

@@ -5,9 +5,9 @@ use lib.ListN.{length}
 use Rattle.reading.specs.Result.{Result, fine, _>>=_}
 use Rattle.reading.specs.Asks.{Asks}
 use Rattle.reading.specs.After.{After, done}
-use Rattle.casefile.specs.Field.{outside, cellsOf, valuesOf}
-use Rattle.requests.specs.Requests.{requestsIn}
-use Rattle.prepare.specs.Room.{Lent, prepared}
+use Rattle.case_file.specs.Field.{outside, cellsOf, valuesOf}
+use Rattle.job_requests.specs.Requests.{requestsIn}
+use Rattle.job_room.specs.Room.{Lent, prepared}
 use Rattle.job.specs.List.{serveAll}
 use Rattle.job.specs.declared.Outcome.{Outcome}
 use Rattle.job.specs.declared.Outcome.the-variants.{Done, Refused}

@@ -5,10 +5,10 @@ use mathlib.Core.List.{List, [], _∷_, _++_}
 use lib.ListN.{length}
 use Rattle.reading.specs.Result.{Result}
 use Rattle.reading.specs.Asks.{Asks, give, _>>=_}
-use Rattle.requests.specs.Requests.{requestOf}
-use Rattle.prepare.specs.Room.{Room, flat, solid}
-use Rattle.serve.specs.Serve.{serve}
-use Rattle.buffers.specs.Answer.{fitting, answerWords}
+use Rattle.job_requests.specs.Requests.{requestOf}
+use Rattle.job_room.specs.Room.{Room, flat, solid}
+use Rattle.job_serve.specs.Serve.{serve}
+use Rattle.job_buffers.specs.Answer.{fitting, answerWords}
 
 unfoldable pub isFlat : Room → Bool
 isFlat (flat f) = true

@@ -6,10 +6,10 @@ use lib.ListN.{length, getD, drop, replicate}
 use Rattle.reading.specs.Result.{Result, refused, fine}
 use Rattle.reading.specs.Asks as asks
 use Rattle.reading.specs.After.{After, Named}
-use Rattle.casefile.specs.Field.{cellsOf, valuesOf}
-use Rattle.casefile.specs.Same.{SameOutsideFields, SameAt}
-use Rattle.requests.specs.Requests.{wordsAt}
-use Rattle.prepare.specs.Room.{Room, Lent, prepared}
+use Rattle.case_file.specs.Field.{cellsOf, valuesOf}
+use Rattle.case_file.specs.Same.{SameOutsideFields, SameAt}
+use Rattle.job_requests.specs.Requests.{wordsAt}
+use Rattle.job_room.specs.Room.{Room, Lent, prepared}
 use Rattle.job.specs.List.{replyTo}
 use Rattle.job.specs.Job.{lentTo, outcome}
 

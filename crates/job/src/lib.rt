@@ -1,10 +1,10 @@
 // The job: a case, a list of requests, and the buffers that are lent to it.
-use buffers::clear_from;
-use buffers::clear_marks;
-use buffers::close;
-use prepare::Place;
-use prepare::Prepared;
-use requests::request_of;
+use job_buffers::clear_from;
+use job_buffers::clear_marks;
+use job_buffers::close;
+use job_requests::request_of;
+use job_room::Place;
+use job_room::Prepared;
 ghost use mathlib.Core.Path.{_≡_};
 ghost use mathlib.Core.List.{List};
 ghost use Prim.Native.Nat.{ℕ, _+_, _-_, _*_, _/_, _≤_};
@@ -12,9 +12,9 @@ ghost use lib.Ieee.{Float};
 ghost use lib.ListN.{length};
 ghost use Rattle.reading.specs.Result.{fine};
 ghost use Rattle.reading.specs.After.{done, Left};
-ghost use Rattle.casefile.specs.Field.{valuesOf};
-ghost use Rattle.requests.specs.Requests.{wordsAt, requestsIn};
-ghost use Rattle.prepare.specs.Stands.{countsIn, roomIn, Stands};
+ghost use Rattle.case_file.specs.Field.{valuesOf};
+ghost use Rattle.job_requests.specs.Requests.{wordsAt, requestsIn};
+ghost use Rattle.job_room.specs.Stands.{countsIn, roomIn, Stands};
 ghost use Rattle.job.specs.List.{isFlat, serveAll};
 ghost use Rattle.job.specs.Job.{numberOf, outcomeOf};
 ghost use Rattle.job.specs.Promise.{Promised};
@@ -62,7 +62,7 @@ fn answer(
     ensures { λ r. ⌜ Told (answerTo (roomIn (now (case .entry)) (now (words .entry)) (now (floats .entry)) place) (length (now (answers .entry)) - at) later (wordsAt (now (requests .entry)) from)) (valuesOf (now (case .entry))) (now (marks .entry)) (now (marks .exit)) (now (answers .entry)) (now (answers .exit)) at later r ⌝ }
 {
     let q = request_of(is_flat(place), requests, from);
-    let r = serve::serve(case, words, floats, place, marks, &mut answers[at + 2..], q);
+    let r = job_serve::serve(case, words, floats, place, marks, &mut answers[at + 2..], q);
     close(answers, at, later, r)
 }
 
@@ -134,7 +134,7 @@ pub fn job(
         (record { result = numberOf r; answers = now (answers .exit); marks = now (marks .exit) }) ⌝ }
     ensures { λ r. ⌜ r ≡ outcomeOf (numberOf r) ⌝ }
 {
-    match prepare::prepare(
+    match job_room::prepare(
         case,
         words,
         floats,

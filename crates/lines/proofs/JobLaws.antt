@@ -22,20 +22,20 @@ use Rattle.reading.proofs.AsksLaws.{bind-assoc, bind-give, run-bind, reads-bind
 use Rattle.reading.proofs.ServedLaws.{going-start, going-part, going-end}
 use Rattle.reading.specs.Result as result
 use Rattle.reading.specs.Result.{Result, fine, refused, refuse}
-use Rattle.area.specs.declared.Sizes.{Sizes}
-use Rattle.locate.specs.declared.Grid.{Grid}
-use Rattle.locate.specs.Locate.{locate}
-use Rattle.locate.specs.Field.{StreamlineField}
-use Rattle.locate.specs.Layout.{cellPolygonsIn, fieldIn}
-use Rattle.velocity.proofs.VelocityLaws.{locate-in}
-use Rattle.rk4.specs.declared.StreamlineOptions.{StreamlineOptions}
+use Rattle.mesh_area.specs.declared.Sizes.{Sizes}
+use Rattle.lines_locate.specs.declared.Grid.{Grid}
+use Rattle.lines_locate.specs.Locate.{locate}
+use Rattle.lines_locate.specs.Field.{StreamlineField}
+use Rattle.lines_locate.specs.Layout.{cellPolygonsIn, fieldIn}
+use Rattle.lines_velocity.proofs.VelocityLaws.{locate-in}
+use Rattle.lines_step.specs.declared.StreamlineOptions.{StreamlineOptions}
 use Rattle.lines.specs.declared.Traced.the-variants.{Words, Refused}
 use Rattle.lines.specs.declared.StreamlineDirection.{StreamlineDirection}
 use Rattle.lines.specs.Line.{isNowhere, nowhere, lineAnswer}
 use Rattle.lines.specs.Rake.{seedAt, seeds, linesWords}
 use Rattle.lines.specs.Written.{Written}
 use Rattle.lines.specs.Answered.{Answered, resultOf, countOf, readsOf, wordsOf}
-use Rattle.writing.proofs.WordLaws.{sets-append, sets-set}
+use Rattle.answers.proofs.WordLaws.{sets-append, sets-set}
 use Rattle.lines.proofs.LineLaws.{give-then}
 
 -- ---- a point that locates, or not

@@ -16,13 +16,13 @@ use Rattle.reading.specs.Marks.{markAll}
 use Rattle.reading.specs.Served.{Served, Going}
 use Rattle.reading.proofs.AsksLaws.{bind-assoc, bind-give, run-bind, reads-bind}
 use Rattle.reading.proofs.ServedLaws.{going-start, going-part, going-end}
-use Rattle.writing.specs.Words.{vecWords, pointWords}
-use Rattle.writing.proofs.WordLaws.{sets-append, sets-set, length-vec, length-points}
-use Rattle.locate.specs.Field.{StreamlineField}
-use Rattle.rk4.specs.declared.Step.{Step}
-use Rattle.rk4.specs.declared.Step.the-variants.{Next, Ended}
-use Rattle.rk4.specs.declared.StreamlineOptions.{StreamlineOptions}
-use Rattle.rk4.specs.Step.{step}
+use Rattle.answers.specs.Words.{vecWords, pointWords}
+use Rattle.answers.proofs.WordLaws.{sets-append, sets-set, length-vec, length-points}
+use Rattle.lines_locate.specs.Field.{StreamlineField}
+use Rattle.lines_step.specs.declared.Step.{Step}
+use Rattle.lines_step.specs.declared.Step.the-variants.{Next, Ended}
+use Rattle.lines_step.specs.declared.StreamlineOptions.{StreamlineOptions}
+use Rattle.lines_step.specs.Step.{step}
 use Rattle.lines.specs.declared.StreamlineDirection.{StreamlineDirection}
 use Rattle.lines.specs.Line.{onward, lineFrom, line, signedStep, lineWords, lineAnswer}
 use Rattle.lines.specs.Written.{Drawn, Written}

@@ -13,13 +13,13 @@ use Rattle.arith.specs.declared.Found.the-variants.{At, Nothing}
 use Rattle.reading.specs.Asks.{Asks, give, _>>=_}
 use Rattle.reading.specs.Result as result
 use Rattle.reading.specs.Result.{Result, fine, refuse}
-use Rattle.writing.specs.Words.{pointWords}
-use Rattle.locate.specs.Field.{StreamlineField}
-use Rattle.velocity.specs.Velocity.{locateIn}
-use Rattle.rk4.specs.declared.Step.{Step}
-use Rattle.rk4.specs.declared.Step.the-variants.{Next, Ended}
-use Rattle.rk4.specs.declared.StreamlineOptions.{StreamlineOptions}
-use Rattle.rk4.specs.Step.{step}
+use Rattle.answers.specs.Words.{pointWords}
+use Rattle.lines_locate.specs.Field.{StreamlineField}
+use Rattle.lines_velocity.specs.Velocity.{locateIn}
+use Rattle.lines_step.specs.declared.Step.{Step}
+use Rattle.lines_step.specs.declared.Step.the-variants.{Next, Ended}
+use Rattle.lines_step.specs.declared.StreamlineOptions.{StreamlineOptions}
+use Rattle.lines_step.specs.Step.{step}
 use Rattle.lines.specs.declared.StreamlineDirection.{StreamlineDirection}
 use Rattle.lines.specs.declared.StreamlineDirection.the-variants.{Forward, Backward}
 

@@ -11,8 +11,8 @@ use Rattle.arith.specs.declared.Vec3.{Vec3}
 use Rattle.reading.specs.Asks.{Asks, give, _>>=_}
 use Rattle.reading.specs.Result as result
 use Rattle.reading.specs.Result.{Result, fine, refuse}
-use Rattle.locate.specs.Field.{StreamlineField}
-use Rattle.rk4.specs.declared.StreamlineOptions.{StreamlineOptions}
+use Rattle.lines_locate.specs.Field.{StreamlineField}
+use Rattle.lines_step.specs.declared.StreamlineOptions.{StreamlineOptions}
 use Rattle.lines.specs.declared.StreamlineDirection.{StreamlineDirection}
 use Rattle.lines.specs.Line.{lineAnswer, areGood, nowhere}
 

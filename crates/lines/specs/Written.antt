@@ -8,7 +8,7 @@ use Rattle.arith.specs.declared.Vec3.{Vec3}
 use Rattle.reading.specs.declared.Values.{Values}
 use Rattle.reading.specs.Asks.{Asks, run, reads}
 use Rattle.reading.specs.Marks.{markAll}
-use Rattle.writing.specs.Words.{pointWords}
+use Rattle.answers.specs.Words.{pointWords}
 
 -- the words of the answer stand from `at` on, as far as they fit; their number is r; the cells that were read are marked
 pub record Written (t : Asks (List ℕ)) (f : ℕ → Values) (m m′ o o′ : List ℕ) (at r : ℕ) : Type 0 where

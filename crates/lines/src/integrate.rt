@@ -2,19 +2,19 @@
 use crate::StreamlineDirection;
 use crate::Traced;
 use crate::line;
-use area::Sizes;
 use arith::Found;
 use arith::Vec3;
 use arith::float;
-use casefile::Counts;
-use locate::Grid;
-use rk4::StreamlineOptions;
+use case_file::Counts;
+use lines_locate::Grid;
+use lines_step::StreamlineOptions;
+use mesh_area::Sizes;
 ghost use mathlib.Core.Path.{_≡_};
 ghost use Prim.Native.Nat.{_≤_};
-ghost use Rattle.casefile.specs.Field.{valuesOf};
-ghost use Rattle.area.specs.Layout.{LentWords, LentFloats};
-ghost use Rattle.locate.specs.Layout.{fieldIn, Searchable};
-ghost use Rattle.velocity.specs.Ready.{Ready};
+ghost use Rattle.case_file.specs.Field.{valuesOf};
+ghost use Rattle.mesh_area.specs.Layout.{LentWords, LentFloats};
+ghost use Rattle.lines_locate.specs.Layout.{fieldIn, Searchable};
+ghost use Rattle.lines_velocity.specs.Ready.{Ready};
 ghost use Rattle.lines.specs.Line as Line;
 ghost use Rattle.lines.specs.Answered.{Answered};
 
@@ -51,7 +51,7 @@ pub(crate) fn is_nowhere(words: &[u32], floats: &[f64], s: Sizes, g: Grid, p: Ve
     requires { ⌜ LentWords s (now words) × LentFloats s (now floats) × Searchable g s (now words) (now floats) ⌝ }
     ensures { λ r. ⌜ r ≡ Line.nowhere (fieldIn g s (now (words .entry)) (now (floats .entry))) p ⌝ }
 {
-    match locate::locate_cell(words, floats, s, g, p) {
+    match lines_locate::locate_cell(words, floats, s, g, p) {
         Found::At(_) => false,
         Found::Nothing => true,
     }

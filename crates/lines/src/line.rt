@@ -1,17 +1,17 @@
 // A line from its seed: its points go to the answer words as far as they fit.
 use crate::StreamlineDirection;
-use area::Sizes;
 use arith::Vec3;
-use casefile::Counts;
-use locate::Grid;
-use rk4::Step;
-use rk4::StreamlineOptions;
+use case_file::Counts;
+use lines_locate::Grid;
+use lines_step::Step;
+use lines_step::StreamlineOptions;
+use mesh_area::Sizes;
 ghost use mathlib.Core.Path.{_≡_};
 ghost use Prim.Native.Nat.{_+_, _*_, _<_, _≤_};
 ghost use Rattle.arith.specs.F64.{0·0};
-ghost use Rattle.casefile.specs.Field.{valuesOf};
-ghost use Rattle.locate.specs.Layout.{fieldIn};
-ghost use Rattle.velocity.specs.Ready.{Ready};
+ghost use Rattle.case_file.specs.Field.{valuesOf};
+ghost use Rattle.lines_locate.specs.Layout.{fieldIn};
+ghost use Rattle.lines_velocity.specs.Ready.{Ready};
 ghost use Rattle.lines.specs.Line as Line;
 ghost use Rattle.lines.specs.Written.{Drawn, Written};
 
@@ -39,13 +39,13 @@ fn points_after(
     let mut p = seed;
     let mut k: usize = 0;
     while k < most {
-        let next = rk4::line_step(case, n, words, floats, s, g, marks, options, h, p, total);
+        let next = lines_step::line_step(case, n, words, floats, s, g, marks, options, h, p, total);
         match next {
             Step::Ended => {
                 return k;
             }
             Step::Next(q, segment) => {
-                writing::put_vec(out, at + 3 * k, q);
+                answers::put_vec(out, at + 3 * k, q);
                 p = q;
                 total = total + segment;
             }
@@ -85,7 +85,7 @@ pub fn trace(
     ensures { λ r. ⌜ Written (Line.lineAnswer (fieldIn g s (now (words .entry)) (now (floats .entry))) options d seed) (valuesOf (now (case .entry))) (now (marks .entry)) (now (marks .exit)) (now (out .entry)) (now (out .exit)) at r × (r ≤ 196612) ⌝ }
 {
     let h = options.step_size * sign(d);
-    writing::put_vec(out, at + 1, seed);
+    answers::put_vec(out, at + 1, seed);
     let count = points_after(
         case,
         n,
@@ -100,6 +100,6 @@ pub fn trace(
         h,
         options,
     );
-    writing::put(out, at, (count + 1) as u64);
+    answers::put(out, at, (count + 1) as u64);
     3 * count + 4
 }

@@ -3,18 +3,18 @@ use crate::StreamlineDirection;
 use crate::Traced;
 use crate::integrate;
 use crate::line;
-use area::Sizes;
 use arith::Vec3;
-use casefile::Counts;
-use locate::Grid;
-use rk4::StreamlineOptions;
+use case_file::Counts;
+use lines_locate::Grid;
+use lines_step::StreamlineOptions;
+use mesh_area::Sizes;
 ghost use mathlib.Core.Path.{_≡_};
 ghost use Prim.Native.Nat.{_≤_, _<_, _*_, _+_};
 ghost use Rattle.arith.specs.Lists.{any};
-ghost use Rattle.casefile.specs.Field.{valuesOf};
-ghost use Rattle.area.specs.Layout.{LentWords, LentFloats};
-ghost use Rattle.locate.specs.Layout.{fieldIn, Searchable};
-ghost use Rattle.velocity.specs.Ready.{Ready};
+ghost use Rattle.case_file.specs.Field.{valuesOf};
+ghost use Rattle.mesh_area.specs.Layout.{LentWords, LentFloats};
+ghost use Rattle.lines_locate.specs.Layout.{fieldIn, Searchable};
+ghost use Rattle.lines_velocity.specs.Ready.{Ready};
 ghost use Rattle.lines.specs.Line.{nowhere};
 ghost use Rattle.lines.specs.Rake as Rake;
 ghost use Rattle.lines.specs.Written.{Written};
@@ -136,7 +136,7 @@ pub fn integrate_rake(
             d,
             options,
         );
-        writing::put(out, 0, count as u64);
+        answers::put(out, 0, count as u64);
         return Traced::Words(written + 1);
     }
     Traced::Refused(34)

@@ -10,45 +10,45 @@ use borrow.Author.Tests.{eq-eqb, ne-eqb, lt-ltb, le-ltb}
 use Rattle.arith.specs.Lists.{any, all, foldl}
 use Rattle.arith.specs.declared.Vec3.{Vec3}
 use Rattle.reading.specs.Result.{Result, refused, fine, _>>=_, refuse, mapAll}
-use Rattle.definitions.specs.Faces.{Definition, faceCount, addFaceCount, facesCounted}
-use Rattle.definitions.specs.Definitions.{definitions}
-use Rattle.casefile.specs.Trailer.{opened, openedCase, wordsOf}
-use Rattle.definitions.specs.Walker.{walked}
-use Rattle.casefile.specs.declared.Counts.{Counts}
-use Rattle.casefile.specs.declared.Opened.{Opened}
-use Rattle.casefile.specs.declared.Opened.the-variants as Opened
-use Rattle.definitions.specs.declared.Walked.{Walked}
-use Rattle.definitions.specs.declared.Walked.the-variants as Walked
-use Rattle.area.specs.declared.Sizes.{Sizes}
-use Rattle.area.specs.Tables.{Face, Cell, Mesh}
-use Rattle.area.specs.Layout.{facesIn, cellsIn, meshIn, LentWords, LentFloats, pointsIn}
-use Rattle.area.proofs.LayoutLaws.{length-facesIn, length-cellsIn, mesh-same}
-use Rattle.measure.specs.Orientation.{misplaced}
-use Rattle.connection.specs.Neighbours.{linked, Linked}
-use Rattle.connection.specs.Connection.{connectedCells}
-use Rattle.connection.specs.Search.{Connected}
+use Rattle.case_definitions.specs.Faces.{Definition, faceCount, addFaceCount, facesCounted}
+use Rattle.case_definitions.specs.Definitions.{definitions}
+use Rattle.case_file.specs.Trailer.{opened, openedCase, wordsOf}
+use Rattle.case_definitions.specs.Walker.{walked}
+use Rattle.case_file.specs.declared.Counts.{Counts}
+use Rattle.case_file.specs.declared.Opened.{Opened}
+use Rattle.case_file.specs.declared.Opened.the-variants as Opened
+use Rattle.case_definitions.specs.declared.Walked.{Walked}
+use Rattle.case_definitions.specs.declared.Walked.the-variants as Walked
+use Rattle.mesh_area.specs.declared.Sizes.{Sizes}
+use Rattle.mesh_area.specs.Tables.{Face, Cell, Mesh}
+use Rattle.mesh_area.specs.Layout.{facesIn, cellsIn, meshIn, LentWords, LentFloats, pointsIn}
+use Rattle.mesh_area.proofs.LayoutLaws.{length-facesIn, length-cellsIn, mesh-same}
+use Rattle.mesh_measure.specs.Orientation.{misplaced}
+use Rattle.mesh_connection.specs.Neighbours.{linked, Linked}
+use Rattle.mesh_connection.specs.Connection.{connectedCells}
+use Rattle.mesh_connection.specs.Search.{Connected}
 use Rattle.mesh.specs.Mesh.{joined}
 use Rattle.mesh.specs.Case.{surveyOf, areaShort, meshOf, caseFaces, meshFrom, Surveying, surveyed, refusing, builtAs, sizesFor, LaidOut, Building}
 use Rattle.arith.specs.Bytes.{le32}
 use Rattle.arith.specs.F64.{finite, within}
 use Rattle.arith.specs.Vec.{each3}
 use Rattle.reading.proofs.ResultLaws.{bound}
-use Rattle.casefile.specs.Trailer.{wordsFrom, wordsIn}
+use Rattle.case_file.specs.Trailer.{wordsFrom, wordsIn}
 use Rattle.arith.specs.Records.{part}
-use Rattle.definitions.proofs.Walking.{words-part}
-use Rattle.definitions.proofs.RecordLaws.{definition-read}
-use Rattle.casefile.proofs.ReadLaws.{length-readAll}
-use Rattle.casefile.proofs.TrailerLaws.{opens}
-use Rattle.connection.specs.Neighbours.{Laid}
-use Rattle.faces.specs.Using.{sized}
-use Rattle.cells.specs.Cells.{Draft, Drafts, drafts}
-use Rattle.cells.specs.Drafting as cells
-use Rattle.cells.specs.Drafting.{draftIn, draftsIn, Lists, Held, Adding, added}
-use Rattle.cells.specs.declared.Drafted.{Drafted}
-use Rattle.cells.specs.declared.Drafted.the-variants as Drafted
-use Rattle.finish.specs.Finish.{finished, finishedAs}
-use Rattle.finish.specs.declared.Finished.{Finished}
-use Rattle.finish.specs.declared.Finished.the-variants as Finished
+use Rattle.case_definitions.proofs.Walking.{words-part}
+use Rattle.case_definitions.proofs.RecordLaws.{definition-read}
+use Rattle.case_file.proofs.ReadLaws.{length-readAll}
+use Rattle.case_file.proofs.TrailerLaws.{opens}
+use Rattle.mesh_connection.specs.Neighbours.{Laid}
+use Rattle.mesh_faces.specs.Using.{sized}
+use Rattle.mesh_cells.specs.Cells.{Draft, Drafts, drafts}
+use Rattle.mesh_cells.specs.Drafting as cells
+use Rattle.mesh_cells.specs.Drafting.{draftIn, draftsIn, Lists, Held, Adding, added}
+use Rattle.mesh_cells.specs.declared.Drafted.{Drafted}
+use Rattle.mesh_cells.specs.declared.Drafted.the-variants as Drafted
+use Rattle.mesh_centres.specs.Finish.{finished, finishedAs}
+use Rattle.mesh_centres.specs.declared.Finished.{Finished}
+use Rattle.mesh_centres.specs.declared.Finished.the-variants as Finished
 use Rattle.mesh.specs.Mesh.{completed, filled, acceptable, fromCells}
 use Rattle.mesh.specs.Steps.{acceptedAs, draftsHeld}
 use Rattle.mesh.specs.declared.Surveyed.{Surveyed}

@@ -8,14 +8,14 @@ use lib.ListN.{length}
 use lib.Ieee.{Float}
 use Rattle.arith.specs.declared.Vec3.{Vec3}
 use Rattle.reading.specs.Result.{Result, refused, fine, _>>=_, refuse}
-use Rattle.definitions.specs.Faces.{Definition, facesCounted}
-use Rattle.definitions.specs.Definitions.{definitions}
-use Rattle.casefile.specs.Trailer.{opened, openedCase, wordsOf}
-use Rattle.casefile.specs.declared.Counts.{Counts}
-use Rattle.casefile.specs.declared.Opened.the-variants.{Case}
-use Rattle.area.specs.Tables.{Mesh}
-use Rattle.area.specs.Layout.{pointsIn, meshIn, LentWords, LentFloats}
-use Rattle.area.specs.declared.Sizes.{Sizes}
+use Rattle.case_definitions.specs.Faces.{Definition, facesCounted}
+use Rattle.case_definitions.specs.Definitions.{definitions}
+use Rattle.case_file.specs.Trailer.{opened, openedCase, wordsOf}
+use Rattle.case_file.specs.declared.Counts.{Counts}
+use Rattle.case_file.specs.declared.Opened.the-variants.{Case}
+use Rattle.mesh_area.specs.Tables.{Mesh}
+use Rattle.mesh_area.specs.Layout.{pointsIn, meshIn, LentWords, LentFloats}
+use Rattle.mesh_area.specs.declared.Sizes.{Sizes}
 use Rattle.mesh.specs.Mesh.{fromCells}
 use Rattle.mesh.specs.declared.Surveyed.{Surveyed}
 use Rattle.mesh.specs.declared.Surveyed.the-variants as Surveyed

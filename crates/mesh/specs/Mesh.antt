@@ -9,13 +9,13 @@ use Rattle.arith.specs.Lists.{any, all}
 use Rattle.arith.specs.Vec.{each3}
 use Rattle.arith.specs.declared.Vec3.{Vec3}
 use Rattle.reading.specs.Result.{Result, fine, _>>=_, refuse, mapAll}
-use Rattle.definitions.specs.Faces.{Definition}
-use Rattle.area.specs.Tables.{Face, Cell, Mesh}
-use Rattle.measure.specs.Orientation.{misplaced}
-use Rattle.connection.specs.Neighbours.{linked}
-use Rattle.connection.specs.Connection.{connectedCells}
-use Rattle.cells.specs.Cells.{Drafts, drafts}
-use Rattle.finish.specs.Finish.{finished}
+use Rattle.case_definitions.specs.Faces.{Definition}
+use Rattle.mesh_area.specs.Tables.{Face, Cell, Mesh}
+use Rattle.mesh_measure.specs.Orientation.{misplaced}
+use Rattle.mesh_connection.specs.Neighbours.{linked}
+use Rattle.mesh_connection.specs.Connection.{connectedCells}
+use Rattle.mesh_cells.specs.Cells.{Drafts, drafts}
+use Rattle.mesh_centres.specs.Finish.{finished}
 
 -- 16 "orientation"; the neighbours of each cell "in face order"; 17 "not connected"
 unfoldable pub joined : List Vec3 → List Face → List Cell → Result Mesh

@@ -5,17 +5,17 @@ use mathlib.Core.List.{List}
 use lib.ListN.{length, getD}
 use lib.Ieee.{Float}
 use Rattle.reading.specs.Result.{Result, refused, fine}
-use Rattle.definitions.specs.Faces.{Definition, facesCounted}
-use Rattle.definitions.specs.Definitions.{definitions}
-use Rattle.casefile.specs.Trailer.{opened, wordsOf}
-use Rattle.casefile.specs.declared.Counts.{Counts}
-use Rattle.casefile.specs.declared.Opened.the-variants.{Case}
-use Rattle.area.specs.Layout.{facesIn, LentWords, LentFloats}
-use Rattle.area.specs.declared.Sizes.{Sizes}
-use Rattle.connection.specs.Neighbours.{Laid}
-use Rattle.cells.specs.Cells.{Drafts}
-use Rattle.cells.specs.Drafting.{draftsIn, Lists}
-use Rattle.finish.specs.Finish.{Finishable}
+use Rattle.case_definitions.specs.Faces.{Definition, facesCounted}
+use Rattle.case_definitions.specs.Definitions.{definitions}
+use Rattle.case_file.specs.Trailer.{opened, wordsOf}
+use Rattle.case_file.specs.declared.Counts.{Counts}
+use Rattle.case_file.specs.declared.Opened.the-variants.{Case}
+use Rattle.mesh_area.specs.Layout.{facesIn, LentWords, LentFloats}
+use Rattle.mesh_area.specs.declared.Sizes.{Sizes}
+use Rattle.mesh_connection.specs.Neighbours.{Laid}
+use Rattle.mesh_cells.specs.Cells.{Drafts}
+use Rattle.mesh_cells.specs.Drafting.{draftsIn, Lists}
+use Rattle.mesh_centres.specs.Finish.{Finishable}
 
 -- the drafts that the area holds
 unfoldable pub draftsHeld : List ℕ → Sizes → List ℕ → List Float → Drafts

@@ -1,26 +1,26 @@
 // UnstructuredMesh::from_cells: the mesh of a case, into the lent work area.
-use area::Sizes;
-use casefile::Counts;
-use casefile::Opened;
-use casefile::trailer;
-use cells::Drafted;
-use definitions::Walked;
-use definitions::walker;
-use finish::Finished;
+use case_definitions::Walked;
+use case_definitions::walker;
+use case_file::Counts;
+use case_file::Opened;
+use case_file::trailer;
+use mesh_area::Sizes;
+use mesh_cells::Drafted;
+use mesh_centres::Finished;
 ghost use mathlib.Core.Path.{_≡_};
 ghost use Prim.Native.Nat.{_+_, _*_, _≤_, _<_};
 ghost use lib.ListN.{length};
-ghost use Rattle.area.specs.Layout.{pointsIn};
-ghost use Rattle.casefile.specs.Trailer.{wordsIn};
+ghost use Rattle.mesh_area.specs.Layout.{pointsIn};
+ghost use Rattle.case_file.specs.Trailer.{wordsIn};
 ghost use mathlib.Core.List.{List};
 ghost use Rattle.arith.specs.declared.Vec3.{Vec3};
-ghost use Rattle.area.specs.Layout.{facesIn, cellsIn};
+ghost use Rattle.mesh_area.specs.Layout.{facesIn, cellsIn};
 ghost use Rattle.reading.specs.Result.{fine};
-ghost use Rattle.definitions.specs.Faces.{Definition};
-ghost use Rattle.definitions.specs.Definitions.{definitions};
-ghost use Rattle.casefile.specs.Trailer.{countsOf, wordsOf};
-ghost use Rattle.measure.specs.Records.{Points};
-ghost use Rattle.cells.specs.Steps.{Addable};
+ghost use Rattle.case_definitions.specs.Faces.{Definition};
+ghost use Rattle.case_definitions.specs.Definitions.{definitions};
+ghost use Rattle.case_file.specs.Trailer.{countsOf, wordsOf};
+ghost use Rattle.mesh_measure.specs.Records.{Points};
+ghost use Rattle.mesh_cells.specs.Steps.{Addable};
 ghost use Rattle.mesh.specs.Mesh.{joined, completed, filled, acceptable, fromCells};
 ghost use Rattle.mesh.specs.Case.{Surveying, Building, surveyOf, caseFaces, meshFrom};
 ghost use Rattle.mesh.specs.Steps.{Joinable, Completable, Buildable, draftsHeld, acceptedAs};
@@ -56,11 +56,11 @@ fn join(words: &mut [u32], floats: &[f64], s: Sizes) -> Built
     ensures { λ r. ⌜ ((ps : List Vec3) → Building (joined ps (facesIn s (now (words .entry)) (now (floats .entry)))
         (cellsIn s (now (words .entry)) (now (floats .entry)))) (s .slots) ps (now (words .exit)) (now (floats .entry)) r) ⌝ }
 {
-    if measure::any_misplaced(words, floats, s) {
+    if mesh_measure::any_misplaced(words, floats, s) {
         return Built::Refused(16);
     }
-    connection::fill_neighbours(words, s);
-    if connection::ensure_connected(words, s) {
+    mesh_connection::fill_neighbours(words, s);
+    if mesh_connection::ensure_connected(words, s) {
         Built::Mesh(s)
     } else {
         Built::Refused(17)
@@ -81,7 +81,7 @@ fn complete(
         (draftsHeld (wordsIn (now (ws .entry))) s (now (words .entry)) (now (floats .entry)))) (s .slots)
         (pointsIn (now (case .entry)) (n .points)) (now (words .exit)) (now (floats .exit)) r ⌝ }
 {
-    match finish::finish_cells(case, n.points, n.dimension, ws, words, floats, s) {
+    match mesh_centres::finish_cells(case, n.points, n.dimension, ws, words, floats, s) {
         Finished::ZeroVolume => Built::Refused(15),
         Finished::Done => join(words, floats, s),
     }
@@ -94,7 +94,7 @@ fn fill(case: &[u8], n: Counts, ws: &[u8], words: &mut [u32], floats: &mut [f64]
         → Building (filled (n .dimension) (pointsIn (now (case .entry)) (n .points)) defs) (s .slots)
         (pointsIn (now (case .entry)) (n .points)) (now (words .exit)) (now (floats .exit)) r) ⌝ }
 {
-    match cells::add_cells(case, n.points, n.dimension, ws, words, floats, s) {
+    match mesh_cells::add_cells(case, n.points, n.dimension, ws, words, floats, s) {
         Drafted::Refused(k) => Built::Refused(k),
         Drafted::Faces(faces) => complete(
             case,
@@ -119,10 +119,10 @@ fn unacceptable(case: &[u8], n: Counts) -> u64
     if n.cells == 0 {
         return 8;
     }
-    if !measure::all_finite(case, n.points) {
+    if !mesh_measure::all_finite(case, n.points) {
         return 9;
     }
-    if !measure::all_within(case, n.points) {
+    if !mesh_measure::all_within(case, n.points) {
         return 10;
     }
     0

@@ -10,19 +10,19 @@ use Rattle.arith.specs.declared.Vec2.{Vec2}
 use Rattle.reading.specs.Result.{refused, fine}
 use Rattle.planes.specs.declared.Answered.{Answered}
 use Rattle.planes.specs.declared.Answered.the-variants.{Words, Refused}
-use Rattle.tallies.specs.declared.Sums.{Sums}
-use Rattle.tallies.specs.declared.Integral.{Integral}
-use Rattle.tallies.specs.declared.Summed.{Summed}
-use Rattle.tallies.specs.declared.Summed.the-variants.{Total, Unsummed}
-use Rattle.tallies.specs.declared.Weighed.{Weighed}
-use Rattle.tallies.specs.declared.Weighed.the-variants.{Whole, Unweighed}
-use Rattle.tallies.specs.declared.Probed.{Probed}
-use Rattle.tallies.specs.declared.Tally.{Tally}
-use Rattle.tallies.specs.declared.Tally.the-variants.{Section, Statistics, Integrals, Probe}
-use Rattle.samples.specs.declared.Tallied.{Tallied}
-use Rattle.samples.specs.declared.Tallied.the-variants.{Done, Bad}
-use Rattle.tallies.specs.Statistics.{empty, statisticsWords, fractionWords}
-use Rattle.tallies.specs.Integrals.{vacant, integralWords}
+use Rattle.planes_sums.specs.declared.Sums.{Sums}
+use Rattle.planes_sums.specs.declared.Integral.{Integral}
+use Rattle.planes_sums.specs.declared.Summed.{Summed}
+use Rattle.planes_sums.specs.declared.Summed.the-variants.{Total, Unsummed}
+use Rattle.planes_sums.specs.declared.Weighed.{Weighed}
+use Rattle.planes_sums.specs.declared.Weighed.the-variants.{Whole, Unweighed}
+use Rattle.planes_sums.specs.declared.Probed.{Probed}
+use Rattle.planes_sums.specs.declared.Tally.{Tally}
+use Rattle.planes_sums.specs.declared.Tally.the-variants.{Section, Statistics, Integrals, Probe}
+use Rattle.planes_samples.specs.declared.Tallied.{Tallied}
+use Rattle.planes_samples.specs.declared.Tallied.the-variants.{Done, Bad}
+use Rattle.planes_sums.specs.Statistics.{empty, statisticsWords, fractionWords}
+use Rattle.planes_sums.specs.Integrals.{vacant, integralWords}
 use Rattle.planes.specs.Answers.{probeWords}
 use Rattle.planes.specs.Reply.{answeredOf, wordsOf, statisticsEnd, integralsEnd, ended, lastWords, Ended, Closed}
 

@@ -13,23 +13,23 @@ use Rattle.reading.specs.Result as result
 use Rattle.reading.specs.Result.{Result, refused, fine}
 use Rattle.reading.specs.Asks.{run, reads}
 use Rattle.reading.specs.Marks.{markAll}
-use Rattle.area.specs.Tables.{Mesh}
-use Rattle.cutting_plane.specs.declared.Cut.{Cut}
-use Rattle.cutting_plane.specs.declared.Plane.{Plane}
-use Rattle.sections.specs.Intersect.{PlaneCell, intersect}
+use Rattle.mesh_area.specs.Tables.{Mesh}
+use Rattle.planes_cut.specs.declared.Cut.{Cut}
+use Rattle.planes_cut.specs.declared.Plane.{Plane}
+use Rattle.planes_sections.specs.Intersect.{PlaneCell, intersect}
 use Rattle.planes.specs.declared.Answered.{Answered}
-use Rattle.tallies.specs.declared.Tally.{Tally}
-use Rattle.tallies.specs.declared.Tally.the-variants.{Section}
-use Rattle.samples.specs.declared.Tallied.{Tallied}
-use Rattle.samples.specs.declared.Tallied.the-variants.{Done, Bad}
-use Rattle.tallies.specs.Sample.{Sample, sound}
+use Rattle.planes_sums.specs.declared.Tally.{Tally}
+use Rattle.planes_sums.specs.declared.Tally.the-variants.{Section}
+use Rattle.planes_samples.specs.declared.Tallied.{Tallied}
+use Rattle.planes_samples.specs.declared.Tallied.the-variants.{Done, Bad}
+use Rattle.planes_sums.specs.Sample.{Sample, sound}
 use Rattle.planes.specs.Answers.{sampled, sectionWords, sectionOf}
-use Rattle.tallies.specs.Words.{sampleWords}
-use Rattle.samples.specs.Stream.{Stream, stream, Streamed}
-use Rattle.tallies.specs.Kept.{addTo, written}
+use Rattle.planes_sums.specs.Words.{sampleWords}
+use Rattle.planes_samples.specs.Stream.{Stream, stream, Streamed}
+use Rattle.planes_sums.specs.Kept.{addTo, written}
 use Rattle.planes.specs.Reply.{answeredOf, replied, goods, leftBy, ended, lastWords, Closed, Replied}
-use Rattle.writing.proofs.WordLaws.{sets-append, sets-set}
-use Rattle.samples.proofs.StreamLaws.{at, stream-nil, stream-sound, stream-bad, stream-marks}
+use Rattle.answers.proofs.WordLaws.{sets-append, sets-set}
+use Rattle.planes_samples.proofs.StreamLaws.{at, stream-nil, stream-sound, stream-bad, stream-marks}
 use Rattle.planes.proofs.TreeLaws.{BadRun, GoodRun, goods-sound, goods-bad, stream-run, run-sampled, reads-sampled}
 
 -- the words of some samples

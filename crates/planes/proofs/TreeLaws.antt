@@ -19,37 +19,37 @@ use Rattle.reading.specs.Result.{Result, refused, fine, steps}
 use Rattle.reading.specs.Asks.{give, run, reads, _>>=_}
 use Rattle.reading.specs.Marks.{markAll}
 use Rattle.reading.proofs.AsksLaws.{run-bind, reads-bind}
-use Rattle.area.specs.Tables.{Mesh}
-use Rattle.cutting_plane.specs.declared.Cut.{Cut}
-use Rattle.cutting_plane.specs.declared.Plane.{Plane}
-use Rattle.cutting_plane.specs.Cut.{cutOf}
-use Rattle.sections.specs.Intersect.{PlaneCell, intersect}
-use Rattle.cutting_plane.specs.Plane.{normalOf}
+use Rattle.mesh_area.specs.Tables.{Mesh}
+use Rattle.planes_cut.specs.declared.Cut.{Cut}
+use Rattle.planes_cut.specs.declared.Plane.{Plane}
+use Rattle.planes_cut.specs.Cut.{cutOf}
+use Rattle.planes_sections.specs.Intersect.{PlaneCell, intersect}
+use Rattle.planes_cut.specs.Plane.{normalOf}
 use Rattle.planes.specs.declared.Answered.{Answered}
 use Rattle.planes.specs.declared.Answered.the-variants.{Words}
-use Rattle.tallies.specs.declared.Sums.{Sums}
-use Rattle.tallies.specs.declared.Integral.{Integral}
-use Rattle.tallies.specs.declared.Summed.{Summed}
-use Rattle.tallies.specs.declared.Summed.the-variants.{Total, Unsummed}
-use Rattle.tallies.specs.declared.Weighed.{Weighed}
-use Rattle.tallies.specs.declared.Weighed.the-variants.{Whole, Unweighed}
-use Rattle.tallies.specs.declared.Probed.{Probed}
-use Rattle.tallies.specs.declared.Probed.the-variants.{Hit, Missed}
-use Rattle.tallies.specs.declared.Tally.{Tally}
-use Rattle.tallies.specs.declared.Tally.the-variants.{Section, Statistics, Integrals, Probe}
-use Rattle.samples.specs.declared.Tallied.{Tallied}
-use Rattle.samples.specs.declared.Tallied.the-variants.{Done, Bad}
-use Rattle.tallies.specs.Sample.{Sample, sound, measureOf}
-use Rattle.samples.specs.Sampling.{before, onward, sample}
-use Rattle.tallies.specs.Statistics.{noSums, summing, counted, including, scalarOf, addSample, statistics, empty, statisticsWords}
-use Rattle.tallies.specs.Integrals.{fit, weighing, addIntegral, noIntegral, integrals, vacant, integralWords}
+use Rattle.planes_sums.specs.declared.Sums.{Sums}
+use Rattle.planes_sums.specs.declared.Integral.{Integral}
+use Rattle.planes_sums.specs.declared.Summed.{Summed}
+use Rattle.planes_sums.specs.declared.Summed.the-variants.{Total, Unsummed}
+use Rattle.planes_sums.specs.declared.Weighed.{Weighed}
+use Rattle.planes_sums.specs.declared.Weighed.the-variants.{Whole, Unweighed}
+use Rattle.planes_sums.specs.declared.Probed.{Probed}
+use Rattle.planes_sums.specs.declared.Probed.the-variants.{Hit, Missed}
+use Rattle.planes_sums.specs.declared.Tally.{Tally}
+use Rattle.planes_sums.specs.declared.Tally.the-variants.{Section, Statistics, Integrals, Probe}
+use Rattle.planes_samples.specs.declared.Tallied.{Tallied}
+use Rattle.planes_samples.specs.declared.Tallied.the-variants.{Done, Bad}
+use Rattle.planes_sums.specs.Sample.{Sample, sound, measureOf}
+use Rattle.planes_samples.specs.Sampling.{before, onward, sample}
+use Rattle.planes_sums.specs.Statistics.{noSums, summing, counted, including, scalarOf, addSample, statistics, empty, statisticsWords}
+use Rattle.planes_sums.specs.Integrals.{fit, weighing, addIntegral, noIntegral, integrals, vacant, integralWords}
 use Rattle.planes.specs.Answers.{sampled, integralsOf, statisticsOf, probeOf, probeWords}
-use Rattle.writing.specs.Words.{valuesWords, vecWords}
-use Rattle.samples.specs.Stream.{Stream, stream, Streamed}
-use Rattle.tallies.specs.Kept.{addTo, written, addSummed, addWeighed, addProbed, summedOf, weighedOf}
+use Rattle.answers.specs.Words.{valuesWords, vecWords}
+use Rattle.planes_samples.specs.Stream.{Stream, stream, Streamed}
+use Rattle.planes_sums.specs.Kept.{addTo, written, addSummed, addWeighed, addProbed, summedOf, weighedOf}
 use Rattle.planes.specs.Reply.{answeredOf, wordsOf, replied, goods, missing, statisticsEnd, integralsEnd, ended, lastWords, Closed, Replied}
-use Rattle.tallies.specs.Probe.{project, covers, firstOver, off, probe}
-use Rattle.samples.proofs.StreamLaws.{at, stream-nil, stream-sound, stream-bad, stream-marks}
+use Rattle.planes_sums.specs.Probe.{project, covers, firstOver, off, probe}
+use Rattle.planes_samples.proofs.StreamLaws.{at, stream-nil, stream-sound, stream-bad, stream-marks}
 
 -- ---- the outcome: a bad sample, or all samples kept
 

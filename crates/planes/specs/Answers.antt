@@ -7,19 +7,19 @@ use Rattle.arith.specs.declared.Vec3.{Vec3}
 use Rattle.reading.specs.Result as result
 use Rattle.reading.specs.Result.{Result, fine}
 use Rattle.reading.specs.Asks.{Asks, give, _>>=_}
-use Rattle.area.specs.Tables.{Mesh}
-use Rattle.cutting_plane.specs.declared.Plane.{Plane}
-use Rattle.cutting_plane.specs.Plane.{normalOf}
-use Rattle.sections.specs.Intersect.{intersect}
-use Rattle.tallies.specs.declared.Probed.{Probed}
-use Rattle.tallies.specs.declared.Probed.the-variants.{Hit, Missed}
-use Rattle.tallies.specs.Sample.{Sample}
-use Rattle.samples.specs.Sampling.{sample}
-use Rattle.tallies.specs.Statistics.{statistics}
-use Rattle.tallies.specs.Integrals.{integrals}
-use Rattle.tallies.specs.Probe.{probe}
-use Rattle.writing.specs.Words.{valuesWords}
-use Rattle.tallies.specs.Words.{sampleWords}
+use Rattle.mesh_area.specs.Tables.{Mesh}
+use Rattle.planes_cut.specs.declared.Plane.{Plane}
+use Rattle.planes_cut.specs.Plane.{normalOf}
+use Rattle.planes_sections.specs.Intersect.{intersect}
+use Rattle.planes_sums.specs.declared.Probed.{Probed}
+use Rattle.planes_sums.specs.declared.Probed.the-variants.{Hit, Missed}
+use Rattle.planes_sums.specs.Sample.{Sample}
+use Rattle.planes_samples.specs.Sampling.{sample}
+use Rattle.planes_sums.specs.Statistics.{statistics}
+use Rattle.planes_sums.specs.Integrals.{integrals}
+use Rattle.planes_sums.specs.Probe.{probe}
+use Rattle.answers.specs.Words.{valuesWords}
+use Rattle.planes_sums.specs.Words.{sampleWords}
 
 -- "polygon count; each: .."
 unfoldable pub sectionWords : List Sample → List ℕ

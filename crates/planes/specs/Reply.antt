@@ -11,23 +11,23 @@ use Rattle.reading.specs.declared.Values.{Values}
 use Rattle.reading.specs.Result.{Result, refused, fine}
 use Rattle.reading.specs.Asks.{Asks, run, reads}
 use Rattle.reading.specs.Marks.{markAll}
-use Rattle.sections.specs.Intersect.{PlaneCell}
+use Rattle.planes_sections.specs.Intersect.{PlaneCell}
 use Rattle.planes.specs.declared.Answered.{Answered}
 use Rattle.planes.specs.declared.Answered.the-variants.{Words, Refused}
-use Rattle.tallies.specs.declared.Summed.{Summed}
-use Rattle.tallies.specs.declared.Summed.the-variants.{Total, Unsummed}
-use Rattle.tallies.specs.declared.Weighed.{Weighed}
-use Rattle.tallies.specs.declared.Weighed.the-variants.{Whole, Unweighed}
-use Rattle.tallies.specs.declared.Probed.{Probed}
-use Rattle.tallies.specs.declared.Probed.the-variants.{Missed}
-use Rattle.tallies.specs.declared.Tally.{Tally}
-use Rattle.tallies.specs.declared.Tally.the-variants.{Section, Statistics, Integrals, Probe}
-use Rattle.samples.specs.declared.Tallied.{Tallied}
-use Rattle.samples.specs.declared.Tallied.the-variants.{Done, Bad}
-use Rattle.tallies.specs.Sample.{Sample, sound}
-use Rattle.tallies.specs.Statistics.{empty, statisticsWords}
-use Rattle.tallies.specs.Integrals.{vacant, integralWords}
-use Rattle.tallies.specs.Words.{sampleWords}
+use Rattle.planes_sums.specs.declared.Summed.{Summed}
+use Rattle.planes_sums.specs.declared.Summed.the-variants.{Total, Unsummed}
+use Rattle.planes_sums.specs.declared.Weighed.{Weighed}
+use Rattle.planes_sums.specs.declared.Weighed.the-variants.{Whole, Unweighed}
+use Rattle.planes_sums.specs.declared.Probed.{Probed}
+use Rattle.planes_sums.specs.declared.Probed.the-variants.{Missed}
+use Rattle.planes_sums.specs.declared.Tally.{Tally}
+use Rattle.planes_sums.specs.declared.Tally.the-variants.{Section, Statistics, Integrals, Probe}
+use Rattle.planes_samples.specs.declared.Tallied.{Tallied}
+use Rattle.planes_samples.specs.declared.Tallied.the-variants.{Done, Bad}
+use Rattle.planes_sums.specs.Sample.{Sample, sound}
+use Rattle.planes_sums.specs.Statistics.{empty, statisticsWords}
+use Rattle.planes_sums.specs.Integrals.{vacant, integralWords}
+use Rattle.planes_sums.specs.Words.{sampleWords}
 use Rattle.planes.specs.Answers.{probeWords}
 
 unfoldable pub answeredOf : Result (List ℕ) → Answered

@@ -1,36 +1,36 @@
 // The answers of codes 5 to 8.
 use crate::Answered;
-use area::Sizes;
 use arith::Vec2;
 use arith::Vec3;
 use arith::bytes;
 use arith::float;
-use casefile::Counts;
-use cutting_plane::Plane;
+use case_file::Counts;
+use mesh_area::Sizes;
+use planes_cut::Plane;
+use planes_samples::Tallied;
+use planes_samples::walk;
+use planes_sums::Integral;
+use planes_sums::Probed;
+use planes_sums::Summed;
+use planes_sums::Sums;
+use planes_sums::Tally;
+use planes_sums::Weighed;
+use planes_sums::measures;
 use reading::Values;
-use samples::Tallied;
-use samples::walk;
-use tallies::Integral;
-use tallies::Probed;
-use tallies::Summed;
-use tallies::Sums;
-use tallies::Tally;
-use tallies::Weighed;
-use tallies::measures;
 ghost use mathlib.Core.Path.{_≡_};
 ghost use mathlib.Core.Bool.{_&&_};
 ghost use mathlib.Core.List.{List};
 ghost use Prim.Native.Nat.{_<_};
 ghost use lib.Seq.{sets};
 ghost use lib.Ieee.{Float};
-ghost use Rattle.casefile.specs.Field.{valuesOf};
-ghost use Rattle.area.specs.Layout.{pointsIn, meshIn};
-ghost use Rattle.sections.specs.Intersect.{intersect};
-ghost use Rattle.tallies.specs.Statistics as Statistics;
-ghost use Rattle.tallies.specs.Integrals as Integrals;
-ghost use Rattle.tallies.specs.Probe as Probe;
+ghost use Rattle.case_file.specs.Field.{valuesOf};
+ghost use Rattle.mesh_area.specs.Layout.{pointsIn, meshIn};
+ghost use Rattle.planes_sections.specs.Intersect.{intersect};
+ghost use Rattle.planes_sums.specs.Statistics as Statistics;
+ghost use Rattle.planes_sums.specs.Integrals as Integrals;
+ghost use Rattle.planes_sums.specs.Probe as Probe;
 ghost use Rattle.planes.specs.Answers.{probeWords, sectionOf, statisticsOf, integralsOf, probeOf};
-ghost use Rattle.samples.specs.Stream.{Ready};
+ghost use Rattle.planes_samples.specs.Stream.{Ready};
 ghost use Rattle.planes.specs.Reply.{statisticsEnd, integralsEnd, missing, leftBy, Ended, Closed, Replied};
 
 fn both(a: bool, b: bool) -> bool
@@ -68,8 +68,8 @@ fn put_integrals(answers: &mut [u64], t: Integral)
         y: t.pressure / t.area,
         z: t.speed / t.area,
     };
-    writing::put_vec(answers, 0, means);
-    writing::put(answers, 3, bytes::bits_of(t.flux));
+    answers::put_vec(answers, 0, means);
+    answers::put(answers, 3, bytes::bits_of(t.flux));
 }
 
 // The answer by the integrals.
@@ -116,13 +116,13 @@ fn put_fractions(answers: &mut [u64], t: Sums, absolute: f64)
     ensures { λ _. ⌜ now (answers .exit) ≡ sets (now (answers .entry)) 10 (Statistics.fractionWords t absolute) ⌝ }
 {
     if absolute > 0.0 {
-        writing::put(answers, 10, 1);
-        writing::put(answers, 11, bytes::bits_of(t.weighted / absolute));
-        writing::put(answers, 12, bytes::bits_of(-t.negative / absolute));
+        answers::put(answers, 10, 1);
+        answers::put(answers, 11, bytes::bits_of(t.weighted / absolute));
+        answers::put(answers, 12, bytes::bits_of(-t.negative / absolute));
     } else {
-        writing::put(answers, 10, 0);
-        writing::put(answers, 11, 0);
-        writing::put(answers, 12, 0);
+        answers::put(answers, 10, 0);
+        answers::put(answers, 11, 0);
+        answers::put(answers, 12, 0);
     }
 }
 
@@ -146,10 +146,10 @@ fn put_statistics(answers: &mut [u64], t: Sums)
         y: t.negative,
         z: absolute,
     };
-    writing::put(answers, 0, t.used);
-    writing::put_vec(answers, 1, range);
-    writing::put_vec(answers, 4, means);
-    writing::put_vec(answers, 7, fluxes);
+    answers::put(answers, 0, t.used);
+    answers::put_vec(answers, 1, range);
+    answers::put_vec(answers, 4, means);
+    answers::put_vec(answers, 7, fluxes);
     put_fractions(answers, t, absolute);
 }
 
@@ -176,8 +176,8 @@ fn put_probed(r: Probed, answers: &mut [u64])
 {
     match r {
         Probed::Hit(i, v) => {
-            writing::put(answers, 0, i as u64);
-            writing::put_values(answers, 1, v);
+            answers::put(answers, 0, i as u64);
+            answers::put_values(answers, 1, v);
         }
         Probed::Missed => {
             let nothing = Vec3 {
@@ -185,8 +185,8 @@ fn put_probed(r: Probed, answers: &mut [u64])
                 y: 0.0,
                 z: 0.0,
             };
-            writing::put(answers, 0, 0xffff_ffff_ffff_ffff);
-            writing::put_values(
+            answers::put(answers, 0, 0xffff_ffff_ffff_ffff);
+            answers::put_values(
                 answers,
                 1,
                 Values {
@@ -205,7 +205,7 @@ fn finish(r: Tallied, answers: &mut [u64]) -> Answered
     match r {
         Tallied::Done(t) => match t {
             Tally::Section(polygons, at) => {
-                writing::put(answers, 0, polygons as u64);
+                answers::put(answers, 0, polygons as u64);
                 Answered::Words(at)
             }
             Tally::Statistics(_, sums) => end_statistics(sums, answers),

@@ -1,4 +1,4 @@
-//! The functions of crates/arith_exports. None but the sort takes a pointer.
+//! The functions of crates/test_arith_exports. None but the sort takes a pointer.
 
 unsafe extern "C" {
     pub safe fn hookyellow_sqrt(x: f64) -> f64;

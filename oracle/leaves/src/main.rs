@@ -1,4 +1,4 @@
-//! Compares the proved leaves, by the static library of `arith_exports`, with Rust's own f64:
+//! Compares the proved leaves, by the static library of `test_arith_exports`, with Rust's own f64:
 //! sqrt, abs, min, max, clamp, is_finite, is_sign_negative, the order of distances by total_cmp,
 //! floor and ceil as usize, the 64 bits of a float, and the angle order and its sort with atan2.
 //!

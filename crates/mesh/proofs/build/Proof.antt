@@ -1,8 +1,8 @@
 use mathlib.Core.Path.{refl, sym}
 use native.Mathlib.Omega.{arith}
-use Rattle.casefile.specs.Trailer.{wordsFrom}
-use Rattle.casefile.proofs.TrailerLaws.{opens}
-use Rattle.definitions.proofs.Walking.{length-definitions}
+use Rattle.case_file.specs.Trailer.{wordsFrom}
+use Rattle.case_file.proofs.TrailerLaws.{opens}
+use Rattle.case_definitions.proofs.Walking.{length-definitions}
 use Rattle.mesh.proofs.Laws.{from-refused, from-filled, faces-few, length-wordsOf, words-same, built-as, barred}
 use borrow.Author.Needs.{needs}
 use Rattle.mesh.proofs.build.Statement.{statement}

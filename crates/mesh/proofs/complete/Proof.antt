@@ -1,4 +1,4 @@
-use Rattle.finish.proofs.HeldLaws.{faces-kept}
+use Rattle.mesh_centres.proofs.HeldLaws.{faces-kept}
 use Rattle.mesh.proofs.Laws.{laid-out, lent-floats, complete-15, complete-done, finish-zero, finish-done}
 use borrow.Author.Needs.{needs}
 use Rattle.mesh.proofs.complete.Statement.{statement}

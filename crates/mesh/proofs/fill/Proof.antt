@@ -1,5 +1,5 @@
 use mathlib.Core.Path.{refl, ap, _∙_}
-use Rattle.finish.proofs.HeldLaws.{held-finishable}
+use Rattle.mesh_centres.proofs.HeldLaws.{held-finishable}
 use Rattle.mesh.specs.Mesh.{completed}
 use Rattle.mesh.proofs.Laws.{adding-refused, adding-faces, held-is, held-sized, lent-words, lent-floats, filled-refused, filled-fine, built-as, barred}
 use borrow.Author.Needs.{needs}

@@ -1,5 +1,5 @@
 use mathlib.Core.Path.{sym, _∙_}
-use Rattle.casefile.proofs.TrailerLaws.{opens}
+use Rattle.case_file.proofs.TrailerLaws.{opens}
 use Rattle.mesh.proofs.Laws.{survey-case, survey-refused, faces-few, short-words, short-floats, long-enough, faces-all, mesh-shut, built-as, barred}
 use native.Mathlib.Omega.{arith}
 use borrow.Author.Needs.{needs}

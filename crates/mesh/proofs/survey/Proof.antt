@@ -1,8 +1,8 @@
 use mathlib.Core.Path.{sym, _∙_}
 use native.Mathlib.Omega.{arith}
-use Rattle.casefile.specs.Trailer.{wordsFrom}
-use Rattle.casefile.proofs.TrailerLaws.{opens}
-use Rattle.definitions.proofs.Walking.{walks}
+use Rattle.case_file.specs.Trailer.{wordsFrom}
+use Rattle.case_file.proofs.TrailerLaws.{opens}
+use Rattle.case_definitions.proofs.Walking.{walks}
 use Rattle.mesh.specs.Case.{surveyed, refusing}
 use Rattle.mesh.proofs.Laws.{survey-shut, survey-wrong, walked-wrong, words-same}
 use native.Mathlib.Omega.{arith}

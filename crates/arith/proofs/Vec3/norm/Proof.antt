@@ -1,6 +1,6 @@
 use Rattle.arith.specs.Vec.{norm}
 use mathlib.Core.Path.{_∙_, ap}
-use Rattle.root.specs.Root.{root}
+use Rattle.arith_root.specs.Root.{root}
 use borrow.Author.Needs.{needs}
 use Rattle.arith.proofs.Vec3.norm.Statement.{statement}
 use Rattle.arith.proofs.Vec3.norm.Tie as tie

@@ -1,9 +1,9 @@
 use Rattle.lines.proofs.LineLaws.{left, begun, turned, ended, finished, drawn}
-use Rattle.writing.specs.Words.{pointWords}
-use Rattle.writing.proofs.WordLaws.{points-more}
+use Rattle.answers.specs.Words.{pointWords}
+use Rattle.answers.proofs.WordLaws.{points-more}
 use Rattle.lines.specs.Line.{lineFrom}
-use Rattle.locate.specs.Layout.{fieldIn}
-use Rattle.casefile.specs.Field.{valuesOf}
+use Rattle.lines_locate.specs.Layout.{fieldIn}
+use Rattle.case_file.specs.Field.{valuesOf}
 use Rattle.reading.specs.Served.{Going}
 use Rattle.arith.specs.declared.Vec3.{Vec3}
 use Rattle.arith.specs.F64.{0·0}

@@ -1,7 +1,7 @@
 use Rattle.lines.proofs.JobLaws.{seed-lost, seed-found, all-found}
 use Rattle.lines.specs.Line.{nowhere}
 use Rattle.lines.specs.Rake.{seeds}
-use Rattle.locate.specs.Layout.{fieldIn}
+use Rattle.lines_locate.specs.Layout.{fieldIn}
 use Rattle.arith.specs.Lists.{any}
 use lib.ListN.{drop}
 use mathlib.Core.Path.{_≡_}

@@ -1,7 +1,7 @@
 use Rattle.lines.proofs.JobLaws.{left, lines-begun, lines-turned, lines-ended, lines-written, written-words, words-more}
 use Rattle.lines.specs.Rake.{seeds, linesWords}
-use Rattle.locate.specs.Layout.{fieldIn}
-use Rattle.casefile.specs.Field.{valuesOf}
+use Rattle.lines_locate.specs.Layout.{fieldIn}
+use Rattle.case_file.specs.Field.{valuesOf}
 use Rattle.reading.specs.Served.{Going}
 use lib.Seq.{sets}
 use lib.ListN.{length, drop, length-append}

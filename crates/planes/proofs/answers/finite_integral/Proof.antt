@@ -1,4 +1,4 @@
-use Rattle.tallies.specs.Integrals.{finiteIntegral}
+use Rattle.planes_sums.specs.Integrals.{finiteIntegral}
 use borrow.Author.Needs.{needs}
 use Rattle.planes.proofs.answers.finite_integral.Statement.{statement}
 use Rattle.planes.proofs.answers.finite_integral.Tie as tie

@@ -1,4 +1,4 @@
-use Rattle.tallies.specs.Statistics.{finiteSums}
+use Rattle.planes_sums.specs.Statistics.{finiteSums}
 use borrow.Author.Needs.{needs}
 use Rattle.planes.proofs.answers.finite_sums.Statement.{statement}
 use Rattle.planes.proofs.answers.finite_sums.Tie as tie

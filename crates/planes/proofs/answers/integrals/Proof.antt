@@ -1,6 +1,6 @@
 use native.Mathlib.Omega.{arith}
-use Rattle.tallies.specs.Integrals.{noIntegral}
-use Rattle.tallies.specs.Kept.{sizeOf}
+use Rattle.planes_sums.specs.Integrals.{noIntegral}
+use Rattle.planes_sums.specs.Kept.{sizeOf}
 use Rattle.planes.proofs.TreeLaws.{integrals-reply}
 use borrow.Author.Needs.{needs}
 use Rattle.planes.proofs.answers.integrals.Statement.{statement}

@@ -1,4 +1,4 @@
-use Rattle.tallies.specs.Statistics.{empty}
+use Rattle.planes_sums.specs.Statistics.{empty}
 use borrow.Author.Needs.{needs}
 use Rattle.planes.proofs.answers.is_empty.Statement.{statement}
 use Rattle.planes.proofs.answers.is_empty.Tie as tie

@@ -1,4 +1,4 @@
-use Rattle.tallies.specs.Integrals.{vacant}
+use Rattle.planes_sums.specs.Integrals.{vacant}
 use borrow.Author.Needs.{needs}
 use Rattle.planes.proofs.answers.is_vacant.Statement.{statement}
 use Rattle.planes.proofs.answers.is_vacant.Tie as tie

@@ -1,5 +1,5 @@
 use native.Mathlib.Omega.{arith}
-use Rattle.tallies.specs.Kept.{sizeOf}
+use Rattle.planes_sums.specs.Kept.{sizeOf}
 use Rattle.planes.proofs.TreeLaws.{probe-reply}
 use borrow.Author.Needs.{needs}
 use Rattle.planes.proofs.answers.probe.Statement.{statement}

@@ -1,5 +1,5 @@
-use Rattle.tallies.specs.Integrals.{integralWords}
-use Rattle.writing.specs.Words.{vecWords}
+use Rattle.planes_sums.specs.Integrals.{integralWords}
+use Rattle.answers.specs.Words.{vecWords}
 use borrow.Author.Needs.{needs}
 use Rattle.planes.proofs.answers.put_integrals.Statement.{statement}
 use Rattle.planes.proofs.answers.put_integrals.Tie as tie

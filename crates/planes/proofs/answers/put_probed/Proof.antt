@@ -1,6 +1,6 @@
 use Rattle.planes.proofs.ReplyLaws.{no-word}
 use Rattle.planes.specs.Answers.{probeWords}
-use Rattle.writing.specs.Words.{valuesWords, vecWords}
+use Rattle.answers.specs.Words.{valuesWords, vecWords}
 use borrow.Author.Needs.{needs}
 use Rattle.planes.proofs.answers.put_probed.Statement.{statement}
 use Rattle.planes.proofs.answers.put_probed.Tie as tie

@@ -1,5 +1,5 @@
-use Rattle.tallies.specs.Statistics.{statisticsWords}
-use Rattle.writing.specs.Words.{vecWords}
+use Rattle.planes_sums.specs.Statistics.{statisticsWords}
+use Rattle.answers.specs.Words.{vecWords}
 use borrow.Author.Needs.{needs}
 use Rattle.planes.proofs.answers.put_statistics.Statement.{statement}
 use Rattle.planes.proofs.answers.put_statistics.Tie as tie

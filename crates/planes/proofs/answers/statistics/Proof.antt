@@ -1,7 +1,7 @@
 use native.Mathlib.Omega.{arith}
 use lib.Ieee.{ofBits, neg, nanBits}
-use Rattle.tallies.specs.Statistics.{noSums}
-use Rattle.tallies.specs.Kept.{sizeOf, usedOf}
+use Rattle.planes_sums.specs.Statistics.{noSums}
+use Rattle.planes_sums.specs.Kept.{sizeOf, usedOf}
 use Rattle.planes.proofs.TreeLaws.{statistics-reply}
 use borrow.Author.Needs.{needs}
 use Rattle.planes.proofs.answers.statistics.Statement.{statement}

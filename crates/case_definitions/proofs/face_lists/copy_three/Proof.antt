@@ -1,0 +1,19 @@
+-- `definitions::face_lists::copy_three` meets its contract. Assumes nothing.
+use borrow.Author.Needs.{needs}
+use Rattle.case_definitions.proofs.face_lists.copy_three.Statement.{statement}
+use Rattle.case_definitions.proofs.face_lists.copy_three.Tie as tie
+
+returns : tie.Need-returns
+returns c = rw (c .number-at3 .ensures, c .before .number-at2 .ensures, c .before .before .number-at .ensures)
+
+pub copy-three-spec : {M : Type 1} → statement M
+copy-three-spec =
+    tie.close
+    (tie.spec
+    (λ c κs. search needs)
+    (λ c. search needs)
+    (λ c κs. search needs)
+    (λ c. search needs)
+    (λ c κs. search needs)
+    (λ c. search needs)
+    returns)

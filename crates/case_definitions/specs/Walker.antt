@@ -1,0 +1,94 @@
+-- The walker as the code has it: positions among the words ws, in the place of the words that are left.
+use Prim.Native.Nat.{ℕ, zero, suc, _+_, _-_, _≤_}
+use mathlib.Core.Path.{_≡_}
+use mathlib.Core.Bool.{cond}
+use mathlib.Core.List.{List, [], _++_}
+use lib.Dec.{eqb}
+use lib.ListN.{length, getD, take, drop}
+use Rattle.reading.specs.Result.{Result, refused, fine}
+use Rattle.case_definitions.specs.Faces.{Definition, polygon, solid, polyhedron, faceCount, facesCounted, facesOf}
+use Rattle.case_definitions.specs.Definitions.{Taken, definition}
+use Rattle.case_definitions.specs.declared.Cursor.{Cursor}
+use Rattle.case_definitions.specs.declared.Head.{Head}
+use Rattle.case_definitions.specs.declared.FaceCursor.{FaceCursor}
+use Rattle.case_definitions.specs.declared.Step.{Step}
+use Rattle.case_definitions.specs.declared.Step.the-variants.{Record, Wrong}
+use Rattle.case_definitions.specs.declared.Walked.{Walked}
+use Rattle.case_definitions.specs.declared.Walked.the-variants.{Faces, Refused}
+
+-- where a record's point numbers, or a polyhedron's faces, start: after the kind word, and after the count if the kind has one
+unfoldable pub firstOf : ℕ → Definition → ℕ
+firstOf at (polygon l) = at + 2
+firstOf at (solid places l) = at + 1
+firstOf at (polyhedron faces) = at + 2
+
+-- the head of the record d, whose kind word is at `at`
+unfoldable pub headOf : ℕ → ℕ → Definition → Head
+headOf kind at d = record { kind = kind; faces = faceCount d; at = at; first = firstOf at d }
+
+-- where the words `left` start, which are the last of ws
+unfoldable pub cursorAt : List ℕ → List ℕ → Cursor
+cursorAt ws left = record { at = length ws - length left }
+
+-- refusal 3, or a record and what is left
+unfoldable pub stepped : List ℕ → ℕ → Result (Taken Definition) → Step
+stepped ws at (refused r) = Wrong r
+stepped ws at (fine w) = Record (headOf (getD ws at 0) at (w .read)) (cursorAt ws (w .left))
+
+-- the record at a position
+unfoldable pub stepAt : List ℕ → ℕ → Step
+stepAt ws at = stepped ws at (definition (drop at ws))
+
+-- F, or the refusal
+unfoldable pub walked : Result (List Definition) → Walked
+walked (refused r) = Refused r
+walked (fine ds) = Faces (facesCounted ds)
+
+-- what each case of the answer stands for
+unfoldable pub walkedFaces : Walked → Result ℕ
+walkedFaces (Faces f) = fine f
+walkedFaces (Refused r) = refused r
+
+-- ---- the faces of one record
+
+-- what a right record was read as
+unfoldable pub readOf : Result (Taken Definition) → Definition
+readOf (refused r) = polygon []
+readOf (fine w) = w .read
+
+-- the definition at a position
+unfoldable pub definitionAt : List ℕ → ℕ → Definition
+definitionAt ws at = readOf (definition (drop at ws))
+
+-- its face k
+unfoldable pub faceAt : List ℕ → ℕ → ℕ → List ℕ
+faceAt ws at k = getD (facesOf (definitionAt ws at)) k []
+
+-- where face k starts, of the faces that start at `first`: each is a count and its numbers
+unfoldable pub faceFrom : List ℕ → ℕ → ℕ → ℕ
+faceFrom ws first zero = first
+faceFrom ws first (suc k) = let at = faceFrom ws first k in at + 1 + getD ws at 0
+
+-- h is the head of a right record
+pub record Headed (ws : List ℕ) (h : Head) : Type 0 where
+  pub next : Cursor
+  pub step : stepAt ws (h .at) ≡ Record h next
+
+-- c is at a face of h, or after its last one
+pub record AtFace (ws : List ℕ) (h : Head) (c : FaceCursor) : Type 0 where
+  pub headed : Headed ws h
+  pub place : h .kind ≡ 5 → c .at ≡ faceFrom ws (h .first) (c .face)
+
+-- the cursor after face c, which has n point numbers
+unfoldable pub nextFace : Head → FaceCursor → ℕ → FaceCursor
+nextFace h c n = record { face = c .face + 1; at = cond (eqb (h .kind) 5) (c .at + 1 + n) (c .at) }
+
+-- the numbers of face c stand at the front of `out`, which was `out₀`, and `next` is at the next face
+pub record FaceCopied (ws : List ℕ) (h : Head) (c : FaceCursor) (out₀ out : List ℕ) (count : ℕ) (next : FaceCursor) : Type 0 where
+  pub copied : out ≡ faceAt ws (h .at) (c .face) ++ drop count out₀
+  pub front : take count out ≡ faceAt ws (h .at) (c .face)
+  pub counted : count ≡ length (faceAt ws (h .at) (c .face))
+  pub small : count ≤ 8
+  pub eight : length out ≡ 8
+  pub follows : next ≡ nextFace h c count
+  pub goes : AtFace ws h next

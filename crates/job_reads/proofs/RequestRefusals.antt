@@ -1,0 +1,156 @@
+-- A request is refused with a number from 30 to 44. Assumes nothing.
+use Prim.Native.Nat.{ℕ}
+use mathlib.Core.Path.{_≡_, refl, sym, subst}
+use mathlib.Core.Bool.{Bool, true, false, cond}
+use mathlib.Core.List.{List, [], _∷_}
+use lib.Dec.{eqb}
+use lib.Ieee.{Float}
+use Rattle.arith.specs.F64.{finite}
+use Rattle.arith.specs.declared.Vec3.{Vec3}
+use Rattle.reading.specs.declared.Values.{Values}
+use Rattle.reading.specs.Result.{Result, refused, fine}
+use Rattle.reading.specs.Asks.{Asks, give, run, _>>=_}
+use Rattle.reading.proofs.AsksLaws.{run-bind}
+use Rattle.mesh_area.specs.Tables.{Mesh}
+use Rattle.planes_cut.specs.declared.Plane.{Plane}
+use Rattle.lines_locate.specs.Field.{StreamlineField}
+use Rattle.planes_sections.specs.Intersect.{PlaneCell, intersect}
+use Rattle.planes_sums.specs.declared.Sums.{Sums}
+use Rattle.planes_sums.specs.Sample.{Sample}
+use Rattle.planes_sums.specs.Statistics.{summing, addSample, empty, statistics}
+use Rattle.planes_sums.specs.Integrals.{fit, addIntegral, vacant, integrals}
+use Rattle.planes_samples.specs.Sampling.{before, onward, sample}
+use Rattle.planes.specs.Answers.{sampled, sectionOf, statisticsOf, integralsOf, probeOf}
+use Rattle.lines_step.specs.declared.StreamlineOptions.{StreamlineOptions}
+use Rattle.lines.specs.declared.StreamlineDirection.{StreamlineDirection}
+use Rattle.lines.specs.Line.{integrate}
+use Rattle.lines.specs.Rake.{integrateRake}
+use Rattle.job_requests.specs.declared.Request.{Request}
+use Rattle.job_requests.specs.declared.Request.the-variants as requests
+use Rattle.job_requests.specs.Requests.{number, barring, streamline, rakeOf, rake, statistics as fieldStatistics, overPlane, planar, byCode, requestOf}
+use Rattle.job_room.specs.Room.{Room, flat, solid}
+use Rattle.job_serve.specs.Serve.{decided, serveFlat, serveSolid, serve}
+use Rattle.job_reads.proofs.Ranges.{among, Ranged, due, none, bind, barred, either, through}
+
+abbrev pub Answer : {A : Type 0} → Result A → Type 0
+Answer r = Ranged 30 44 r
+
+-- ---- 30 to 33, 36 to 38: a request that is refused when it is taken apart
+
+data Good : Request → Type 0 where
+  refusal : (k : ℕ) → among 30 44 k ≡ true → Good (requests.Refused k)
+  locate : {p : Vec3} → Good (requests.Locate p)
+  velocity : {p : Vec3} → Good (requests.Velocity p)
+  line : {p : Vec3} {d : StreamlineDirection} {o : StreamlineOptions} → Good (requests.Streamline p d o)
+  lines : {a b : Vec3} {n : ℕ} {d : StreamlineDirection} {o : StreamlineOptions} → Good (requests.Rake a b n d o)
+  section : {s : Plane} → Good (requests.Section s)
+  sums : {s : Plane} {field : ℕ} → Good (requests.Statistics s field)
+  means : {s : Plane} → Good (requests.Integrals s)
+  probe : {s : Plane} {p : Vec3} → Good (requests.Probe s p)
+
+good-either : (t : Bool) {q r : Request} → Good q → Good r → Good (cond t q r)
+good-either true x y = x
+good-either false x y = y
+
+good-barring : (n : ℕ) (t : Bool) {q : Request} → among 30 44 n ≡ true → Good q → Good (barring n t q)
+unfolding barring
+good-barring n t h g = good-either t (refusal n h) g
+
+module _ (r : List ℕ) where
+  good-lines : Good (streamline r) × Good (rake r)
+  unfolding streamline rake rakeOf
+  good-lines = (good-barring 33 _ refl line, good-barring 32 _ refl (good-barring 33 _ refl (good-barring 33 _ refl lines)))
+
+  good-planes : (code : ℕ) → Good (planar r code)
+  unfolding planar overPlane fieldStatistics
+  good-planes code =
+      good-barring 36 _ refl (good-barring 37 _ refl
+      (good-either (eqb code 5) section (good-either (eqb code 6) (good-barring 38 _ refl sums) (good-either (eqb code 7) means probe))))
+
+  good-request : (in-2D : Bool) → Good (requestOf in-2D r)
+  unfolding requestOf byCode
+  good-request in-2D =
+      let code = number r 0 in
+      good-barring 30 _ refl (good-barring 31 _ refl
+      (good-either (eqb code 1) locate (good-either (eqb code 2) velocity
+      (good-either (eqb code 3) (good-lines .0) (good-either (eqb code 4) (good-lines .1) (good-planes code))))))
+
+module _ (f : ℕ → Values) where
+  -- a tree that gives what h makes of its answer
+  then-gives : {A B : Type 0} (t : Asks A) (h : A → Result B) → Answer (h (run t f)) → Answer (run (t >>= λ a. give (h a)) f)
+  then-gives t h w = subst Answer (sym (run-bind t (λ a. give (h a)) f)) w
+
+  -- ---- 34 and 35
+
+  decided-answer : (j : Result (Asks (List ℕ))) → Answer j → Answer (run (decided j) f)
+  unfolding decided
+  decided-answer (refused n) (due _ h) = due n h
+  decided-answer (fine t) w = then-gives t fine none
+
+  flat-answer : (field : StreamlineField) {q : Request} → Good q → Answer (run (serveFlat field q) f)
+  unfolding serveFlat integrate integrateRake
+  flat-answer field (refusal k h) = due k h
+  flat-answer field locate = none
+  flat-answer field velocity = then-gives _ _ none
+  flat-answer field line = decided-answer _ (bind (barred 34 _ refl) (λ _. bind (barred 35 _ refl) (λ _. none)))
+  flat-answer field lines = decided-answer _ (bind (barred 34 _ refl) (λ _. bind (barred 35 _ refl) (λ _. none)))
+  flat-answer field section = due 31 refl
+  flat-answer field sums = due 31 refl
+  flat-answer field means = due 31 refl
+  flat-answer field probe = due 31 refl
+
+  -- ---- 39 to 43
+
+  before-answer : (s : Sample) {r : Result (List Sample)} → Answer r → Answer (before s r)
+  unfolding before
+  before-answer s (due k h) = due k h
+  before-answer s none = none
+
+  onward-answer : (t : Bool) (s : Sample) (rest : Asks (Result (List Sample))) → Answer (run rest f) → Answer (run (onward t s rest) f)
+  unfolding onward
+  onward-answer false s rest w = due 39 refl
+  onward-answer true s rest w = then-gives rest (before s) (before-answer s w)
+
+  sample-answer : (l : List PlaneCell) → Answer (run (sample l) f)
+  unfolding sample
+  sample-answer [] = none
+  sample-answer (c ∷ cs) = onward-answer _ _ (sample cs) (sample-answer cs)
+
+  summing-answer : (t : Bool) (s : Sums) (a b c : Float) → Answer (summing t s a b c)
+  unfolding summing
+  summing-answer true s a b c = either (finite c) none (due 40 refl)
+  summing-answer false s a b c = none
+
+  statistics-answer : (normal : Vec3) (field : ℕ) (l : List Sample) → Answer (statistics normal field l)
+  unfolding statistics addSample
+  statistics-answer normal field l =
+      bind (through _ (λ t s. summing-answer _ t _ _ _) _ l) (λ t. either (empty t) (due 41 refl) none)
+
+  integrals-answer : (normal : Vec3) (l : List Sample) → Answer (integrals normal l)
+  unfolding integrals addIntegral
+  integrals-answer normal l =
+      bind (through _ (λ t s. either (fit _ _) none (due 42 refl)) _ l) (λ t. either (vacant t) (due 43 refl) none)
+
+  module _ (m : Mesh) where
+    sampled-answer : (s : Plane) (answer : List Sample → Result (List ℕ)) → ((l : List Sample) → Answer (answer l)) → Answer (run (sampled m s answer) f)
+    unfolding sampled
+    sampled-answer s answer h = then-gives _ _ (bind (sample-answer (intersect m s)) h)
+
+    solid-answer : {q : Request} → Good q → Answer (run (serveSolid m q) f)
+    unfolding serveSolid sectionOf statisticsOf integralsOf probeOf
+    solid-answer (refusal k h) = due k h
+    solid-answer locate = due 31 refl
+    solid-answer velocity = due 31 refl
+    solid-answer line = due 31 refl
+    solid-answer lines = due 31 refl
+    solid-answer section = sampled-answer _ _ (λ l. none)
+    solid-answer (sums {field = field}) = sampled-answer _ _ (statistics-answer _ field)
+    solid-answer means = sampled-answer _ _ (integrals-answer _)
+    solid-answer probe = sampled-answer _ _ (λ l. none)
+
+  -- ---- all
+
+  pub request-refusals : (room : Room) (in-2D : Bool) (r : List ℕ) → Answer (run (serve room (requestOf in-2D r)) f)
+  unfolding serve
+  request-refusals (flat field) in-2D r = flat-answer field (good-request r in-2D)
+  request-refusals (solid m) in-2D r = solid-answer m (good-request r in-2D)

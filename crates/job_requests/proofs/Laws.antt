@@ -1,0 +1,146 @@
+-- The words of a request, one turn over its unused words, and what the refusals leave. Assumes nothing.
+use Prim.Native.Nat.{ℕ, _+_, _*_, _/_, _≤_, _<_}
+use native.Mathlib.Nat.{zero-add}
+use native.Mathlib.Omega.{arith}
+use mathlib.Core.Path.{_≡_, refl, ap, sym, _∙_}
+use mathlib.Core.Bool.{Bool, true, false, cond}
+use mathlib.Core.List.{List, []}
+use lib.Dec.{ltb, eqb}
+use lib.ListN.{length, getD, drop}
+use borrow.Author.Tests.{ltb-false, lt-ltb, le-ltb}
+use Rattle.arith.specs.Bytes.{le64}
+use Rattle.arith.specs.Lists.{any}
+use Rattle.arith.proofs.ListLaws.{any-here, any-next}
+use Rattle.arith.proofs.RecordLaws.{drop-end}
+use Rattle.case_file.proofs.ReadLaws.{length-readAll, getD-readAll}
+use Rattle.planes_cut.specs.Plane.{planeRefusal}
+use Rattle.planes_cut.specs.declared.Plane.{Plane}
+use Rattle.job_requests.specs.declared.Request.{Request}
+use Rattle.job_requests.specs.Requests.{wordsAt, requestsIn, number, barring, illFormed, against, options, streamline, rakeOf, rake, planeOf, statistics, overPlane, planar, byCode, requestOf}
+use Rattle.job_requests.specs.declared.Request.the-variants.{Refused}
+use Rattle.job_requests.specs.Bounds.{Allowed}
+
+-- ---- the requests of the bytes, and the words of one
+
+pub requests-count : (bytes : List ℕ) → length (requestsIn bytes) ≡ length bytes / 128
+unfolding requestsIn
+requests-count bytes = length-readAll (wordsAt bytes) 128 (length bytes / 128) 0
+
+pub requests-at : (bytes : List ℕ) (i : ℕ) → i < length bytes / 128 → getD (requestsIn bytes) i [] ≡ wordsAt bytes (128 * i)
+unfolding requestsIn
+requests-at bytes i h = getD-readAll (wordsAt bytes) 128 (length bytes / 128) 0 i [] h ∙ ap (wordsAt bytes) (zero-add (128 * i))
+
+module _ (bytes : List ℕ) (at : ℕ) where
+  pub length-words : length (wordsAt bytes at) ≡ 16
+  unfolding wordsAt
+  length-words = length-readAll (le64 bytes) 8 16 at
+
+  pub number-at : (k : ℕ) → k < 16 → number (wordsAt bytes at) k ≡ le64 bytes (at + 8 * k)
+  unfolding wordsAt number
+  number-at k h = getD-readAll (le64 bytes) 8 16 at k 0 h
+
+  -- ---- a word from some place on is not zero
+
+  module _ (i n : ℕ) {w : Bool} (e : n ≡ number (wordsAt bytes at) i) (h : i < 16) (left : any (ltb 0) (drop i (wordsAt bytes at)) ≡ w) where
+    more : i < length (wordsAt bytes at)
+    more = omega (arith, length-words)
+
+    pub set-here : 0 < n → true ≡ w
+    unfolding number
+    set-here p = sym (any-here (wordsAt bytes at) i 0 more (ltb 0) (rw (sym e) (lt-ltb 0 n p))) ∙ left
+
+    pub set-later : n ≤ 0 → any (ltb 0) (drop (i + 1) (wordsAt bytes at)) ≡ w
+    unfolding number
+    set-later p = sym (any-next (wordsAt bytes at) i 0 more (ltb 0) (rw (sym e) (le-ltb 0 n p))) ∙ left
+
+  pub none-set : (i : ℕ) {w : Bool} → 16 ≤ i → any (ltb 0) (drop i (wordsAt bytes at)) ≡ w → false ≡ w
+  unfolding any
+  none-set i h left = rw (drop-end (wordsAt bytes at) i (omega (arith, length-words))) at left
+
+-- ---- refusals 36 and 37
+
+refused-by : (a b : Bool) (k : ℕ) (q : Request) → k ≡ cond a 36 (cond b 37 0) → (k ≡ 0 → ⊥) → Refused k ≡ barring 36 a (barring 37 b q)
+unfolding barring
+refused-by true b k q e h = rw e
+refused-by false true k q e h = rw e
+refused-by false false k q e h = absurd (h e)
+
+accepted-by : (a b : Bool) (k : ℕ) (q : Request) → k ≡ cond a 36 (cond b 37 0) → k ≡ 0 → q ≡ barring 36 a (barring 37 b q)
+unfolding barring
+accepted-by true b k q e h = absurd (omega arith)
+accepted-by false true k q e h = absurd (omega arith)
+accepted-by false false k q e h = refl
+
+module _ (r : List ℕ) (code : ℕ) {s : Plane} {k : ℕ} (e : s ≡ planeOf r) (f : k ≡ planeRefusal s) where
+  pub planar-refused : (k ≡ 0 → ⊥) → Refused k ≡ planar r code
+  unfolding planar planeRefusal
+  planar-refused h = refused-by _ _ k _ (rw e at f) h
+
+  pub planar-accepted : {q : Request} → k ≡ 0 → q ≡ overPlane r code s → q ≡ planar r code
+  unfolding planar planeRefusal
+  planar-accepted z g = rw (g, e) (accepted-by _ _ k _ (rw e at f) z)
+
+-- ---- what the refusals leave
+
+allowed-unless : (n : ℕ) (bad : Bool) (r : Request) → (bad ≡ false → Allowed r) → Allowed (barring n bad r)
+unfolding barring Allowed
+allowed-unless n true r h = tt
+allowed-unless n false r h = h refl
+
+allowed-either : (b : Bool) (r q : Request) → Allowed r → Allowed q → Allowed (cond b r q)
+allowed-either true r q h k = h
+allowed-either false r q h k = k
+
+module _ (r : List ℕ) where
+  allowed-streamline : Allowed (streamline r)
+  unfolding streamline Allowed
+  allowed-streamline = allowed-unless 33 _ _ (ltb-false 65536 (options r 4 .«max_steps»))
+
+  allowed-rake : Allowed (rake r)
+  unfolding rake rakeOf Allowed
+  allowed-rake =
+      allowed-unless 32 _ _ (λ a. allowed-unless 33 _ _ (λ b. allowed-unless 33 _ _ (λ c.
+      (ltb-false (number r 7) 2 a, ltb-false 64 (number r 7) b, ltb-false 65536 (options r 8 .«max_steps») c))))
+
+  allowed-over : (code : ℕ) (s : Plane) → Allowed (overPlane r code s)
+  unfolding overPlane statistics Allowed
+  allowed-over code s =
+      allowed-either (eqb code 5) _ _ tt (allowed-either (eqb code 6) _ _ (allowed-unless 38 _ _ (λ a. tt)) (allowed-either (eqb code 7) _ _ tt tt))
+
+  allowed-planar : (code : ℕ) → Allowed (planar r code)
+  unfolding planar
+  allowed-planar code = allowed-unless 36 _ _ (λ a. allowed-unless 37 _ _ (λ b. allowed-over code (planeOf r)))
+
+  allowed-code : (code : ℕ) → Allowed (byCode r code)
+  unfolding byCode Allowed
+  allowed-code code =
+      allowed-either (eqb code 1) _ _ tt (allowed-either (eqb code 2) _ _ tt
+      (allowed-either (eqb code 3) _ _ allowed-streamline (allowed-either (eqb code 4) _ _ allowed-rake (allowed-planar code))))
+
+  allowed-request : (flat : Bool) → Allowed (requestOf flat r)
+  unfolding requestOf
+  allowed-request flat = allowed-unless 30 _ _ (λ a. allowed-unless 31 _ _ (λ b. allowed-code (number r 0)))
+
+-- ---- refusals 30 and 31
+
+module _ (r : List ℕ) (flat : Bool) where
+  -- the request, which is allowed
+  abbrev pub Is : Request → Type 0
+  Is q = (q ≡ requestOf flat r) × Allowed q
+
+  whole : {q : Request} → q ≡ requestOf flat r → Is q
+  whole e = (e, rw e (allowed-request r flat))
+
+  module _ {b : Bool} (e : b ≡ illFormed r) where
+    pub request-ill-formed : b ≡ true → Is (Refused 30)
+    unfolding requestOf barring
+    request-ill-formed h = whole (rw (sym e, h))
+
+    module _ {code : ℕ} {d : Bool} (h : b ≡ false) (f : code ≡ number r 0) (g : d ≡ against flat code) where
+      pub request-against : d ≡ true → Is (Refused 31)
+      unfolding requestOf barring
+      request-against k = whole (rw (sym e, h, sym f, sym g, k))
+
+      pub request-by-code : {q : Request} → d ≡ false → q ≡ byCode r code → Is q
+      unfolding requestOf barring
+      request-by-code k w = whole (rw (sym e, h, sym f, sym g, k) w)

@@ -1,0 +1,24 @@
+use mathlib.Core.Path.{sym}
+use borrow.Author.Tests.{lt-ltb, le-ltb}
+use Rattle.job_requests.specs.Requests.{streamline, barring}
+use borrow.Author.Needs.{needs}
+use Rattle.job_requests.proofs.streamline.Statement.{statement}
+use Rattle.job_requests.proofs.streamline.Tie as tie
+
+returns : tie.Need-returns
+unfolding streamline barring
+returns c = rw (sym (c .before .before .options .ensures), lt-ltb _ _ (c .if1 .taken))
+
+returns-2 : tie.Need-returns-2
+unfolding streamline barring
+returns-2 c = rw (sym (c .before .before .before .before .options .ensures), le-ltb _ _ (c .before .before .if1 .left), c .before .point .ensures, c .direction .ensures)
+
+pub streamline-spec : {M : Type 1} → statement M
+streamline-spec =
+    tie.close
+    (tie.spec
+    (λ c κs. search needs)
+    returns
+    (λ c κs. search needs)
+    (λ c κs. search needs)
+    returns-2)

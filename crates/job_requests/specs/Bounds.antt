@@ -1,0 +1,15 @@
+-- What refusals 32 and 33 leave: at most 65,536 steps, and 2 to 64 seeds.
+use Prim.Native.Nat.{_≤_}
+use Rattle.job_requests.specs.declared.Request.{Request}
+use Rattle.job_requests.specs.declared.Request.the-variants.{Refused, Locate, Velocity, Streamline, Rake, Section, Statistics, Integrals, Probe}
+
+unfoldable pub Allowed : Request → Type 0
+Allowed (Refused n) = Unit
+Allowed (Locate p) = Unit
+Allowed (Velocity p) = Unit
+Allowed (Streamline p d o) = o .«max_steps» ≤ 65536
+Allowed (Rake a b count d o) = (2 ≤ count) × (count ≤ 64) × (o .«max_steps» ≤ 65536)
+Allowed (Section s) = Unit
+Allowed (Statistics s field) = Unit
+Allowed (Integrals s) = Unit
+Allowed (Probe s p) = Unit

@@ -1,0 +1,122 @@
+-- "Request: 16 words of 8 bytes, the code first, then the arguments; words not used are zero." Refusals 30 to 33 and 36 to 38.
+use Prim.Native.Nat.{ℕ, _+_, _/_}
+use mathlib.Core.Bool.{Bool, true, false, cond, _||_}
+use mathlib.Core.List.{List, [], _∷_}
+use lib.Dec.{leb, ltb, eqb}
+use lib.ListN.{length, getD, drop}
+use lib.Ieee.{Float}
+use Rattle.arith.specs.F64.{float}
+use Rattle.arith.specs.Bytes.{le64, readAll}
+use Rattle.arith.specs.Lists.{any}
+use Rattle.arith.specs.Vec.{vec}
+use Rattle.arith.specs.declared.Vec3.{Vec3}
+use Rattle.lines_step.specs.declared.StreamlineOptions.{StreamlineOptions}
+use Rattle.lines.specs.declared.StreamlineDirection.{StreamlineDirection}
+use Rattle.lines.specs.declared.StreamlineDirection.the-variants.{Forward, Backward}
+use Rattle.planes_cut.specs.declared.Plane.{Plane}
+use Rattle.planes_cut.specs.Plane.{invalid, remote}
+use Rattle.job_requests.specs.declared.Request.{Request}
+use Rattle.job_requests.specs.declared.Request.the-variants.{Refused, Locate, Velocity, Streamline, Rake, Section, Statistics, Integrals, Probe}
+
+-- the 16 words of the request at a place
+unfoldable pub wordsAt : List ℕ → ℕ → List ℕ
+wordsAt bytes at = readAll (le64 bytes) 8 16 at
+
+-- the requests of the bytes, one for each 128 of them
+unfoldable pub requestsIn : List ℕ → List (List ℕ)
+requestsIn bytes = readAll (wordsAt bytes) 128 (length bytes / 128) 0
+
+-- "Direction, max_steps, counts, cells and fields are unsigned whole numbers, all else floats."
+unfoldable pub number : List ℕ → ℕ → ℕ
+number r k = getD r k 0
+
+-- argument k as a float
+unfoldable pub real : List ℕ → ℕ → Float
+real r k = float (number r k)
+
+-- arguments k to k + 2 as a point
+unfoldable pub point : List ℕ → ℕ → Vec3
+point r k = vec (real r k) (real r (k + 1)) (real r (k + 2))
+
+-- refusal n where the test holds
+unfoldable pub barring : ℕ → Bool → Request → Request
+barring n bad r = cond bad (Refused n) r
+
+-- ---- refusal 30: "unknown code, unused word not zero, direction above 1"
+
+-- how many words each code uses, itself counted
+unfoldable pub usedWords : ℕ → ℕ
+usedWords code = getD (0 ∷ 4 ∷ 4 ∷ 9 ∷ 13 ∷ 10 ∷ 11 ∷ 10 ∷ 13 ∷ []) code 0
+
+-- "direction above 1", where a line's direction stands
+unfoldable pub astray : List ℕ → ℕ → Bool
+astray r code = cond (eqb code 3) (ltb 1 (number r 4)) (cond (eqb code 4) (ltb 1 (number r 8)) false)
+
+-- 30 is due
+unfoldable pub illFormed : List ℕ → Bool
+illFormed r =
+    let code = number r 0 in
+    ltb code 1 || (ltb 8 code || (any (ltb 0) (drop (usedWords code) r) || astray r code))
+
+-- refusal 31: "codes 1 to 4 need 2D, 5 to 8 need 3D"
+unfoldable pub against : Bool → ℕ → Bool
+against true code = ltb 4 code
+against false code = leb code 4
+
+-- ---- lines: from place k on stand direction, step_size, max_steps, max_length, stagnation_speed
+
+-- "direction (0 forward, 1 backward)"
+unfoldable pub direction : List ℕ → ℕ → StreamlineDirection
+direction r k = cond (eqb (number r k) 0) Forward Backward
+
+unfoldable pub options : List ℕ → ℕ → StreamlineOptions
+options r k =
+    record {
+      «step_size» = real r (k + 1);
+      «max_steps» = number r (k + 2);
+      «max_length» = real r (k + 3);
+      «stagnation_speed» = real r (k + 4);
+    }
+
+-- refusal 33: "max_steps above 65,536"
+unfoldable pub streamline : List ℕ → Request
+streamline r = barring 33 (ltb 65536 (options r 4 .«max_steps»)) (Streamline (point r 1) (direction r 4) (options r 4))
+
+-- the same of a rake with so many seeds
+unfoldable pub rakeOf : List ℕ → ℕ → Request
+rakeOf r count = barring 33 (ltb 65536 (options r 8 .«max_steps»)) (Rake (point r 1) (point r 4) count (direction r 8) (options r 8))
+
+-- refusal 32: "rake count below 2"; 33: "count above 64 or max_steps above 65,536"
+unfoldable pub rake : List ℕ → Request
+rake r = barring 32 (ltb (number r 7) 2) (barring 33 (ltb 64 (number r 7)) (rakeOf r (number r 7)))
+
+-- ---- planes
+
+-- "origin, u, v"
+unfoldable pub planeOf : List ℕ → Plane
+planeOf r = record { origin = point r 1; u = point r 4; v = point r 7 }
+
+-- refusal 38: "field above 5"
+unfoldable pub statistics : List ℕ → Plane → Request
+statistics r s = barring 38 (ltb 5 (number r 10)) (Statistics s (number r 10))
+
+-- codes 5 to 8 over an accepted plane
+unfoldable pub overPlane : List ℕ → ℕ → Plane → Request
+overPlane r code s = cond (eqb code 5) (Section s) (cond (eqb code 6) (statistics r s) (cond (eqb code 7) (Integrals s) (Probe s (point r 10))))
+
+-- refusals 36 and 37
+unfoldable pub planar : List ℕ → ℕ → Request
+planar r code = barring 36 (invalid (planeOf r)) (barring 37 (remote (planeOf r)) (overPlane r code (planeOf r)))
+
+-- ---- all eight codes
+
+unfoldable pub byCode : List ℕ → ℕ → Request
+byCode r code =
+    cond (eqb code 1) (Locate (point r 1))
+    (cond (eqb code 2) (Velocity (point r 1))
+    (cond (eqb code 3) (streamline r)
+    (cond (eqb code 4) (rake r) (planar r code))))
+
+-- "30 unknown code ..; 31 codes 1 to 4 need 2D, 5 to 8 need 3D", then by code
+unfoldable pub requestOf : Bool → List ℕ → Request
+requestOf flat r = barring 30 (illFormed r) (barring 31 (against flat (number r 0)) (byCode r (number r 0)))

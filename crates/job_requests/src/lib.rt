@@ -1,0 +1,263 @@
+// A request: 16 words of 8 bytes, taken apart. Refusals 30 to 33 and 36 to 38.
+pub mod encode;
+
+use arith::Vec3;
+use arith::bytes;
+use lines::StreamlineDirection;
+use lines_step::StreamlineOptions;
+use planes_cut::Plane;
+use planes_cut::axes;
+ghost use mathlib.Core.Path.{_≡_};
+ghost use mathlib.Core.Bool.{true, false};
+ghost use Prim.Native.Nat.{_+_, _*_, _≤_, _<_};
+ghost use lib.ListN.{length, drop};
+ghost use lib.Dec.{ltb};
+ghost use Rattle.arith.specs.Lists.{any};
+ghost use Rattle.job_requests.specs.Requests as Requests;
+ghost use Rattle.job_requests.specs.Requests.{wordsAt};
+ghost use Rattle.job_requests.specs.Bounds.{Allowed};
+
+pub enum Request {
+    Refused(u64),
+    Locate(Vec3),
+    Velocity(Vec3),
+    Streamline(Vec3, StreamlineDirection, StreamlineOptions),
+    Rake(Vec3, Vec3, usize, StreamlineDirection, StreamlineOptions),
+    Section(Plane),
+    Statistics(Plane, u64),
+    Integrals(Plane),
+    Probe(Plane, Vec3),
+}
+
+// Word k of the request at `at`.
+fn number(bytes: &[u8], at: usize, k: usize) -> u64
+    requires { ⌜ (at + 128 ≤ length (now bytes)) × (k < 16) ⌝ }
+    ensures { λ r. ⌜ r ≡ Requests.number (wordsAt (now (bytes .entry)) at) k ⌝ }
+{
+    bytes::u64_at(bytes, at + 8 * k)
+}
+
+// The same as a float.
+fn real(bytes: &[u8], at: usize, k: usize) -> f64
+    requires { ⌜ (at + 128 ≤ length (now bytes)) × (k < 16) ⌝ }
+    ensures { λ r. ⌜ r ≡ Requests.real (wordsAt (now (bytes .entry)) at) k ⌝ }
+{
+    bytes::float_of(number(bytes, at, k))
+}
+
+// Words k to k + 2 as a point.
+fn point(bytes: &[u8], at: usize, k: usize) -> Vec3
+    requires { ⌜ (at + 128 ≤ length (now bytes)) × (k < 14) ⌝ }
+    ensures { λ r. ⌜ r ≡ Requests.point (wordsAt (now (bytes .entry)) at) k ⌝ }
+{
+    let x = real(bytes, at, k);
+    let y = real(bytes, at, k + 1);
+    let z = real(bytes, at, k + 2);
+    Vec3::new(x, y, z)
+}
+
+// How many words a code uses, itself counted.
+fn used_words(code: u64) -> usize
+    requires { ⌜ code ≤ 8 ⌝ }
+    ensures { λ r. ⌜ r ≡ Requests.usedWords code ⌝ }
+{
+    let used = [0, 4, 4, 9, 13, 10, 11, 10, 13];
+    used[code as usize]
+}
+
+// A word from k on is not zero.
+fn any_set(bytes: &[u8], at: usize, k: usize) -> bool
+    requires { ⌜ at + 128 ≤ length (now bytes) ⌝ }
+    ensures { λ r. ⌜ r ≡ any (ltb 0) (drop k (wordsAt (now (bytes .entry)) at)) ⌝ }
+{
+    let mut i = k;
+    while i < 16 {
+        if number(bytes, at, i) > 0 {
+            return true;
+        }
+        i += 1;
+    }
+    false
+}
+
+// The direction of a line is above 1.
+fn is_astray(bytes: &[u8], at: usize, code: u64) -> bool
+    requires { ⌜ at + 128 ≤ length (now bytes) ⌝ }
+    ensures { λ r. ⌜ r ≡ Requests.astray (wordsAt (now (bytes .entry)) at) code ⌝ }
+{
+    match code {
+        3 => number(bytes, at, 4) > 1,
+        4 => number(bytes, at, 8) > 1,
+        _ => false,
+    }
+}
+
+// Unknown code, unused word not zero, direction above 1.
+fn is_ill_formed(bytes: &[u8], at: usize) -> bool
+    requires { ⌜ at + 128 ≤ length (now bytes) ⌝ }
+    ensures { λ r. ⌜ r ≡ Requests.illFormed (wordsAt (now (bytes .entry)) at) ⌝ }
+{
+    let code = number(bytes, at, 0);
+    if code < 1 {
+        return true;
+    }
+    if code > 8 {
+        return true;
+    }
+    if any_set(bytes, at, used_words(code)) {
+        return true;
+    }
+    is_astray(bytes, at, code)
+}
+
+// Direction of the line whose arguments stand from k on.
+fn direction(bytes: &[u8], at: usize, k: usize) -> StreamlineDirection
+    requires { ⌜ (at + 128 ≤ length (now bytes)) × (k < 16) ⌝ }
+    ensures { λ r. ⌜ r ≡ Requests.direction (wordsAt (now (bytes .entry)) at) k ⌝ }
+{
+    if number(bytes, at, k) == 0 {
+        StreamlineDirection::Forward
+    } else {
+        StreamlineDirection::Backward
+    }
+}
+
+// Its options.
+fn options(bytes: &[u8], at: usize, k: usize) -> StreamlineOptions
+    requires { ⌜ (at + 128 ≤ length (now bytes)) × (k < 12) ⌝ }
+    ensures { λ r. ⌜ r ≡ Requests.options (wordsAt (now (bytes .entry)) at) k ⌝ }
+{
+    let step_size = real(bytes, at, k + 1);
+    let max_steps = number(bytes, at, k + 2) as usize;
+    let max_length = real(bytes, at, k + 3);
+    let stagnation_speed = real(bytes, at, k + 4);
+    StreamlineOptions {
+        step_size,
+        max_steps,
+        max_length,
+        stagnation_speed,
+    }
+}
+
+fn streamline(bytes: &[u8], at: usize) -> Request
+    requires { ⌜ at + 128 ≤ length (now bytes) ⌝ }
+    ensures { λ r. ⌜ r ≡ Requests.streamline (wordsAt (now (bytes .entry)) at) ⌝ }
+{
+    let o = options(bytes, at, 4);
+    if o.max_steps > 65536 {
+        return Request::Refused(33);
+    }
+    Request::Streamline(point(bytes, at, 1), direction(bytes, at, 4), o)
+}
+
+// The lines from `count` seeds.
+fn rake_of(bytes: &[u8], at: usize, count: usize) -> Request
+    requires { ⌜ at + 128 ≤ length (now bytes) ⌝ }
+    ensures { λ r. ⌜ r ≡ Requests.rakeOf (wordsAt (now (bytes .entry)) at) count ⌝ }
+{
+    let o = options(bytes, at, 8);
+    if o.max_steps > 65536 {
+        return Request::Refused(33);
+    }
+    Request::Rake(
+        point(bytes, at, 1),
+        point(bytes, at, 4),
+        count,
+        direction(bytes, at, 8),
+        o,
+    )
+}
+
+fn rake(bytes: &[u8], at: usize) -> Request
+    requires { ⌜ at + 128 ≤ length (now bytes) ⌝ }
+    ensures { λ r. ⌜ r ≡ Requests.rake (wordsAt (now (bytes .entry)) at) ⌝ }
+{
+    let count = number(bytes, at, 7) as usize;
+    if count < 2 {
+        return Request::Refused(32);
+    }
+    if count > 64 {
+        return Request::Refused(33);
+    }
+    rake_of(bytes, at, count)
+}
+
+// Origin, u and v.
+fn plane_of(bytes: &[u8], at: usize) -> Plane
+    requires { ⌜ at + 128 ≤ length (now bytes) ⌝ }
+    ensures { λ r. ⌜ r ≡ Requests.planeOf (wordsAt (now (bytes .entry)) at) ⌝ }
+{
+    let origin = point(bytes, at, 1);
+    let u = point(bytes, at, 4);
+    let v = point(bytes, at, 7);
+    Plane { origin, u, v }
+}
+
+// A request over an accepted plane.
+fn over_plane(bytes: &[u8], at: usize, code: u64, plane: Plane) -> Request
+    requires { ⌜ at + 128 ≤ length (now bytes) ⌝ }
+    ensures { λ r. ⌜ r ≡ Requests.overPlane (wordsAt (now (bytes .entry)) at) code plane ⌝ }
+{
+    match code {
+        5 => Request::Section(plane),
+        6 => {
+            let field = number(bytes, at, 10);
+            if field > 5 {
+                Request::Refused(38)
+            } else {
+                Request::Statistics(plane, field)
+            }
+        }
+        7 => Request::Integrals(plane),
+        _ => Request::Probe(plane, point(bytes, at, 10)),
+    }
+}
+
+// Codes 5 to 8.
+fn planar(bytes: &[u8], at: usize, code: u64) -> Request
+    requires { ⌜ at + 128 ≤ length (now bytes) ⌝ }
+    ensures { λ r. ⌜ r ≡ Requests.planar (wordsAt (now (bytes .entry)) at) code ⌝ }
+{
+    let plane = plane_of(bytes, at);
+    let k = axes::validate(plane);
+    if k != 0 {
+        return Request::Refused(k);
+    }
+    over_plane(bytes, at, code, plane)
+}
+
+// A request that is well-formed, over a mesh of this dimension.
+fn by_code(bytes: &[u8], at: usize, code: u64) -> Request
+    requires { ⌜ at + 128 ≤ length (now bytes) ⌝ }
+    ensures { λ r. ⌜ r ≡ Requests.byCode (wordsAt (now (bytes .entry)) at) code ⌝ }
+{
+    match code {
+        1 => Request::Locate(point(bytes, at, 1)),
+        2 => Request::Velocity(point(bytes, at, 1)),
+        3 => streamline(bytes, at),
+        4 => rake(bytes, at),
+        _ => planar(bytes, at, code),
+    }
+}
+
+// The code needs the other dimension.
+fn is_against(flat: bool, code: u64) -> bool
+    ensures { λ r. ⌜ r ≡ Requests.against flat code ⌝ }
+{
+    if flat { code > 4 } else { code <= 4 }
+}
+
+// The request at `at`, over a 2D mesh or a 3D one.
+pub fn request_of(flat: bool, bytes: &[u8], at: usize) -> Request
+    requires { ⌜ at + 128 ≤ length (now bytes) ⌝ }
+    ensures { λ r. ⌜ (r ≡ Requests.requestOf flat (wordsAt (now (bytes .entry)) at)) × Allowed r ⌝ }
+{
+    if is_ill_formed(bytes, at) {
+        return Request::Refused(30);
+    }
+    let code = number(bytes, at, 0);
+    if is_against(flat, code) {
+        return Request::Refused(31);
+    }
+    by_code(bytes, at, code)
+}

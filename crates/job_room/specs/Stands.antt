@@ -1,0 +1,50 @@
+-- A room that stands in the work area, and what `prepare` promises.
+use Prim.Native.Nat.{ℕ, _*_, _/_, _%_, _≤_}
+use mathlib.Core.Path.{_≡_}
+use mathlib.Core.List.{List}
+use lib.ListN.{length}
+use lib.Ieee.{Float}
+use Rattle.reading.specs.Result.{Result, refused, fine}
+use Rattle.case_file.specs.declared.Counts.{Counts}
+use Rattle.case_file.specs.declared.Opened.the-variants.{Case}
+use Rattle.case_file.specs.Trailer.{opened}
+use Rattle.mesh_area.specs.Layout.{pointsIn, meshIn}
+use Rattle.lines_locate.specs.Layout.{fieldIn}
+use Rattle.lines_velocity.specs.Ready as Tracer
+use Rattle.planes_samples.specs.Stream as Planes
+use Rattle.job_room.specs.Room.{Room, flat, solid, Lent}
+use Rattle.job_room.specs.declared.Place.{Place}
+use Rattle.job_room.specs.declared.Place.the-variants.{Flat, Solid}
+use Rattle.job_room.specs.declared.Prepared.{Prepared}
+use Rattle.job_room.specs.declared.Prepared.the-variants as Prepared
+
+-- the room that stands at a place
+unfoldable pub roomIn : List ℕ → List ℕ → List Float → Place → Room
+roomIn file words floats (Flat n s g) = flat (fieldIn g s words floats)
+roomIn file words floats (Solid n s) = solid (meshIn (pointsIn file (n .points)) s words floats)
+
+-- the counts of its case
+unfoldable pub countsIn : Place → Counts
+countsIn (Flat n s g) = n
+countsIn (Solid n s) = n
+
+-- what the tracer, or the planes, ask of it
+unfoldable pub Servable : List ℕ → List ℕ → List Float → Place → Type 0
+Servable file words floats (Flat n s g) = Tracer.Ready file n words floats s g
+Servable file words floats (Solid n s) = (marks : List ℕ) → n .cells ≤ length marks → Planes.Ready file n s words marks
+
+pub record Stands (file words : List ℕ) (floats : List Float) (p : Place) : Type 0 where
+  pub opens : opened file ≡ Case (countsIn p)
+  pub servable : Servable file words floats p
+
+-- the room stands in the area, or the refusal
+pub data Preparing (r : Result Room) (file words : List ℕ) (floats : List Float) : Prepared → Type 0 where
+  standing : {p : Place} → r ≡ fine (roomIn file words floats p) → Stands file words floats p → Preparing r file words floats (Prepared.Ready p)
+  barred : {k : ℕ} → r ≡ refused k → Preparing r file words floats (Prepared.Refused k)
+
+-- 5, 6 and 7 were not due
+pub record Fits (cells requests : ℕ) (lent : Lent) : Type 0 where
+  pub marks : cells ≤ lent .marks
+  pub whole : requests % 128 ≡ 0
+  pub few : requests ≤ 524288
+  pub answers : 2 * (requests / 128) ≤ lent .answers

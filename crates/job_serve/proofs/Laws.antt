@@ -1,0 +1,273 @@
+-- From what a code's function leaves to its answer. Assumes nothing.
+use Prim.Native.Nat.{ℕ, _≤_}
+use native.Mathlib.Omega.{arith}
+use mathlib.Core.Path.{_≡_, refl, ap, sym, _∙_}
+use mathlib.Core.Logic.{inl, inr}
+use mathlib.Core.List.{List, [], _∷_, map, append-nil}
+use lib.ListN.{length}
+use lib.Seq.{sets, length-sets}
+use lib.Ieee.{Float}
+use Rattle.arith.specs.Lists.{concat}
+use Rattle.arith.specs.declared.Vec3.{Vec3}
+use Rattle.arith.specs.declared.Found.{Found}
+use Rattle.arith.specs.declared.Found.the-variants.{At, Nothing}
+use Rattle.reading.specs.declared.Values.{Values}
+use Rattle.reading.specs.Result.{Result, refused, fine}
+use Rattle.reading.specs.Asks.{Asks, give, run, reads, _>>=_}
+use Rattle.reading.specs.Marks.{markAll}
+use Rattle.reading.specs.Served.{Served}
+use Rattle.reading.proofs.AsksLaws.{run-bind, reads-bind}
+use Rattle.mesh_area.specs.Tables.{Mesh}
+use Rattle.mesh_area.specs.Layout.{pointsIn, meshIn}
+use Rattle.mesh_area.specs.declared.Sizes.{Sizes}
+use Rattle.lines_locate.specs.declared.Grid.{Grid}
+use Rattle.lines_locate.specs.Field.{StreamlineField}
+use Rattle.lines_locate.specs.Locate.{locate}
+use Rattle.lines_locate.specs.Layout.{cellPolygonsIn, fieldIn}
+use Rattle.case_file.specs.declared.Counts.{Counts}
+use Rattle.planes_cut.specs.declared.Plane.{Plane}
+use Rattle.planes_sections.specs.Intersect.{intersect}
+use Rattle.lines_velocity.specs.declared.Vector.{Vector}
+use Rattle.lines_velocity.specs.declared.Vector.the-variants.{Here, Nowhere}
+use Rattle.lines_velocity.specs.Velocity.{velocityAt}
+use Rattle.lines_velocity.specs.Ready as Tracer
+use Rattle.lines_velocity.proofs.VelocityLaws.{locate-in}
+use Rattle.lines_step.specs.declared.StreamlineOptions.{StreamlineOptions}
+use Rattle.lines.specs.declared.Traced.{Traced}
+use Rattle.lines.specs.declared.Traced.the-variants as Traced
+use Rattle.lines.specs.declared.StreamlineDirection.{StreamlineDirection}
+use Rattle.lines.specs.Line.{integrate}
+use Rattle.lines.specs.Rake.{integrateRake}
+use Rattle.lines.specs.Answered as Lines
+use Rattle.lines.specs.Answered.{resultOf, countOf, readsOf}
+use Rattle.planes.specs.declared.Answered.{Answered}
+use Rattle.planes.specs.declared.Answered.the-variants as Answered
+use Rattle.planes.specs.Answers.{sectionOf, statisticsOf, integralsOf, probeOf}
+use Rattle.answers.specs.Words.{vecWords}
+use Rattle.planes_sums.specs.Words.{sampleWords}
+use Rattle.planes_samples.specs.Stream as Planes
+use Rattle.planes.specs.Reply.{answeredOf, replied, goods, leftBy, Replied}
+use Rattle.job_requests.specs.declared.Request.{Request}
+use Rattle.job_requests.specs.declared.Request.the-variants.{Refused, Locate, Velocity, Streamline, Rake, Section, Statistics, Integrals, Probe}
+use Rattle.job_requests.specs.Bounds.{Allowed}
+use Rattle.job_room.specs.Room.{Room, flat, solid}
+use Rattle.job_room.specs.declared.Place.{Place}
+use Rattle.job_room.specs.declared.Place.the-variants.{Flat, Solid}
+use Rattle.job_room.specs.Stands.{roomIn, countsIn, Servable, Stands}
+use Rattle.job_requests.proofs.Request.{the-type}
+use types.Run.{OneOf}
+use denote.Enum.Declared.{tagOf}
+use Rattle.job_serve.specs.Serve.{foundWords, velocityWords, decided, serveFlat, serveSolid, serve}
+use Rattle.job_serve.specs.Left.{leftUnder}
+
+-- ---- an answer, or a refusal, that is decided before any value is read
+
+module _ {f : ℕ → Values} {o m : List ℕ} where
+  pub replied-no : (n : ℕ) → Replied (give (refused n)) f o (Answered.Refused n) o o m m
+  unfolding answeredOf replied
+  replied-no n = record { result = refl; answers = refl; marks = refl }
+
+  pub replied-yes : {left o′ : List ℕ} (ws : List ℕ) (n : ℕ) → length ws ≡ n → o′ ≡ sets o 0 ws → Replied (give (fine ws)) f left (Answered.Words n) o o′ m m
+  unfolding answeredOf replied
+  replied-yes ws n e h = record { result = rw (← e); answers = h; marks = refl }
+
+-- ---- a job over lines
+
+module _ (f : ℕ → Values) where
+  pub run-decided : (j : Result (Asks (List ℕ))) → answeredOf (run (decided j) f) ≡ elim (countOf j f) [ fine k ↦ Answered.Words k | refused k ↦ Answered.Refused k ]
+  unfolding decided answeredOf countOf
+  run-decided (refused n) = refl
+  run-decided (fine t) = rw (run-bind t (λ ws. give (fine ws)) f)
+
+  pub traced-words : (j : Result (Asks (List ℕ))) (r : Traced) (k : ℕ) → resultOf r ≡ countOf j f → r ≡ Traced.Words k → Answered.Words k ≡ answeredOf (run (decided j) f)
+  unfolding resultOf
+  traced-words j r k e h = rw (run-decided j, ← e, h)
+
+  pub traced-refused : (j : Result (Asks (List ℕ))) (r : Traced) (k : ℕ) → resultOf r ≡ countOf j f → r ≡ Traced.Refused k → Answered.Refused k ≡ answeredOf (run (decided j) f)
+  unfolding resultOf
+  traced-refused j r k e h = rw (run-decided j, ← e, h)
+
+  pub reads-decided : (j : Result (Asks (List ℕ))) → reads (decided j) f ≡ readsOf j f
+  unfolding decided readsOf
+  reads-decided (refused n) = refl
+  reads-decided (fine t) = reads-bind t (λ ws. give (fine ws)) f ∙ append-nil (reads t f)
+
+  pub replied-decided : (o : List ℕ) (j : Result (Asks (List ℕ))) → replied o o (run (decided j) f) ≡ sets o 0 (Lines.wordsOf j f)
+  unfolding decided replied Lines.wordsOf
+  replied-decided o (refused n) = refl
+  replied-decided o (fine t) = rw (run-bind t (λ ws. give (fine ws)) f)
+
+  pub decided-replied : {j : Result (Asks (List ℕ))} {m m′ o o′ : List ℕ} {r : Traced} {a : Answered} → Lines.Answered j f m m′ o o′ r
+      → ((k : Result (Asks (List ℕ))) (h : ℕ → Values) → resultOf r ≡ countOf k h → a ≡ answeredOf (run (decided k) h)) → Replied (decided j) f o a o o′ m m′
+  decided-replied {j} {m} {o} w e =
+      record {
+        result = e j f (w .result);
+        answers = w .words ∙ sym (replied-decided o j);
+        marks = w .marks ∙ ap (markAll m) (sym (reads-decided j));
+      }
+
+-- ---- codes 1 to 4
+
+found-one : (r : Found) → length (foundWords r) ≡ 1
+unfolding foundWords
+found-one (At i) = refl
+found-one Nothing = refl
+
+velocity-four : (r : Vector) → length (velocityWords r) ≡ 4
+unfolding velocityWords vecWords
+velocity-four (Here u) = refl
+velocity-four Nowhere = refl
+
+module _ {v : ℕ → Values} {o o′ m : List ℕ} where
+  pub locate-reply : (g : Grid) (s : Sizes) (w : List ℕ) (fs : List Float) (p : Vec3) (r : Found) → r ≡ locate g (cellPolygonsIn s w fs) p → o′ ≡ sets o 0 (foundWords r)
+      → Replied (serveFlat (fieldIn g s w fs) (Locate p)) v o (Answered.Words 1) o o′ m m
+  unfolding serveFlat
+  locate-reply g s w fs p r e h = rw (sym (locate-in g s w fs p r e)) (replied-yes (foundWords r) 1 (found-one r) h)
+
+  pub velocity-reply : (F : StreamlineField) {m′ : List ℕ} (p : Vec3) (r : Vector) → Served (velocityAt F p) v m m′ r → o′ ≡ sets o 0 (velocityWords r)
+      → Replied (serveFlat F (Velocity p)) v o (Answered.Words 4) o o′ m m′
+  unfolding serveFlat answeredOf replied
+  velocity-reply F p r t h =
+      let tail : Vector → Asks (Result (List ℕ)) = λ u. give (fine (velocityWords u)) in
+      let answer : run (velocityAt F p >>= tail) v ≡ fine (velocityWords r) = run-bind (velocityAt F p) tail v ∙ ap (λ (u : Vector). fine (velocityWords u)) (sym (t .answer)) in
+      record {
+        result = rw answer (ap Answered.Words (sym (velocity-four r)));
+        answers = rw answer h;
+        marks = t .marks ∙ ap (markAll m) (sym (reads-bind (velocityAt F p) tail v ∙ append-nil (reads (velocityAt F p) v)));
+      }
+
+  pub streamline-reply : {m′ : List ℕ} (F : StreamlineField) (p : Vec3) (d : StreamlineDirection) (x : StreamlineOptions) (r : Traced) (a : Answered) → Lines.Answered (integrate F p d x) v m m′ o o′ r
+      → ((k : Result (Asks (List ℕ))) (h : ℕ → Values) → resultOf r ≡ countOf k h → a ≡ answeredOf (run (decided k) h)) → Replied (serveFlat F (Streamline p d x)) v o a o o′ m m′
+  unfolding serveFlat
+  streamline-reply F p d x r a w e = decided-replied v w e
+
+  pub rake-reply : {m′ : List ℕ} (F : StreamlineField) (a b : Vec3) (n : ℕ) (d : StreamlineDirection) (x : StreamlineOptions) (r : Traced) (t : Answered) → Lines.Answered (integrateRake F a b n d x) v m m′ o o′ r
+      → ((k : Result (Asks (List ℕ))) (h : ℕ → Values) → resultOf r ≡ countOf k h → t ≡ answeredOf (run (decided k) h)) → Replied (serveFlat F (Rake a b n d x)) v o t o o′ m m′
+  unfolding serveFlat
+  rake-reply F a b n d x r t w e = decided-replied v w e
+
+-- ---- which code it is
+
+pub allowed-streamline : (q : Request) (p : Vec3) (d : StreamlineDirection) (x : StreamlineOptions) → q ≡ Streamline p d x → Allowed q → x .«max_steps» ≤ 65536
+unfolding Allowed
+allowed-streamline q p d x e h = rw e at h
+
+pub allowed-rake : (q : Request) (a b : Vec3) (n : ℕ) (d : StreamlineDirection) (x : StreamlineOptions) → q ≡ Rake a b n d x → Allowed q
+    → (2 ≤ n) × (n ≤ 64) × (x .«max_steps» ≤ 65536)
+unfolding Allowed
+allowed-rake q a b n d x e h = rw e at h
+
+abbrev tag : Request → ℕ
+tag = tagOf the-type
+
+low : (x : ℕ) → OneOf (1 ∷ 2 ∷ 3 ∷ 4 ∷ []) x → (1 ≤ x) × (x ≤ 4)
+low x (inl e) = (omega arith, omega arith)
+low x (inr (inl e)) = (omega arith, omega arith)
+low x (inr (inr (inl e))) = (omega arith, omega arith)
+low x (inr (inr (inr e))) = (omega arith, omega arith)
+
+high : (x : ℕ) → OneOf (5 ∷ 6 ∷ 7 ∷ 8 ∷ []) x → 5 ≤ x
+high x (inl e) = omega arith
+high x (inr (inl e)) = omega arith
+high x (inr (inr (inl e))) = omega arith
+high x (inr (inr (inr e))) = omega arith
+
+module _ (F : StreamlineField) {v : ℕ → Values} {o m : List ℕ} where
+  pub flat-refused : (q : Request) (n : ℕ) → q ≡ Refused n → Replied (serveFlat F q) v o (Answered.Refused n) o o m m
+  unfolding serveFlat
+  flat-refused q n e = rw e (replied-no n)
+
+  pub flat-other : (q : Request) → OneOf (5 ∷ 6 ∷ 7 ∷ 8 ∷ []) (tag q) → Replied (serveFlat F q) v o (Answered.Refused 31) o o m m
+  unfolding serveFlat
+  flat-other (Refused n) h = absurd (let k = high 0 h in omega arith)
+  flat-other (Locate p) h = absurd (let k = high 1 h in omega arith)
+  flat-other (Velocity p) h = absurd (let k = high 2 h in omega arith)
+  flat-other (Streamline p d x) h = absurd (let k = high 3 h in omega arith)
+  flat-other (Rake a b n d x) h = absurd (let k = high 4 h in omega arith)
+  flat-other (Section s) h = replied-no 31
+  flat-other (Statistics s field) h = replied-no 31
+  flat-other (Integrals s) h = replied-no 31
+  flat-other (Probe s p) h = replied-no 31
+
+  pub flat-code : {r : Answered} {o′ m′ : List ℕ} (q k : Request) → q ≡ k → Replied (serveFlat F k) v o r o o′ m m′ → Replied (serveFlat F q) v o r o o′ m m′
+  flat-code q k e h = rw e h
+
+module _ (M : Mesh) (v : ℕ → Values) (o : List ℕ) {m : List ℕ} where
+  pub solid-refused : (q : Request) (n : ℕ) → q ≡ Refused n → Replied (serveSolid M q) v (leftUnder (solid M) q v o) (Answered.Refused n) o o m m
+  unfolding serveSolid leftUnder
+  solid-refused q n e = rw e (replied-no n)
+
+  pub solid-other : (q : Request) → OneOf (1 ∷ 2 ∷ 3 ∷ 4 ∷ []) (tag q) → Replied (serveSolid M q) v (leftUnder (solid M) q v o) (Answered.Refused 31) o o m m
+  unfolding serveSolid leftUnder
+  solid-other (Refused n) h = absurd (let k = low 0 h in omega arith)
+  solid-other (Locate p) h = replied-no 31
+  solid-other (Velocity p) h = replied-no 31
+  solid-other (Streamline p d x) h = replied-no 31
+  solid-other (Rake a b n d x) h = replied-no 31
+  solid-other (Section s) h = absurd (let k = low 5 h in omega arith)
+  solid-other (Statistics s field) h = absurd (let k = low 6 h in omega arith)
+  solid-other (Integrals s) h = absurd (let k = low 7 h in omega arith)
+  solid-other (Probe s p) h = absurd (let k = low 8 h in omega arith)
+
+  module _ {r : Answered} {o′ m′ : List ℕ} (q : Request) (s : Plane) where
+    pub solid-section : q ≡ Section s → Replied (sectionOf M s) v (leftBy v (intersect M s) o) r o o′ m m′ → Replied (serveSolid M q) v (leftUnder (solid M) q v o) r o o′ m m′
+    unfolding serveSolid leftUnder
+    solid-section e h = rw e h
+
+    pub solid-statistics : (field : ℕ) → q ≡ Statistics s field → Replied (statisticsOf M s field) v o r o o′ m m′ → Replied (serveSolid M q) v (leftUnder (solid M) q v o) r o o′ m m′
+    unfolding serveSolid leftUnder
+    solid-statistics field e h = rw e h
+
+    pub solid-integrals : q ≡ Integrals s → Replied (integralsOf M s) v o r o o′ m m′ → Replied (serveSolid M q) v (leftUnder (solid M) q v o) r o o′ m m′
+    unfolding serveSolid leftUnder
+    solid-integrals e h = rw e h
+
+    pub solid-probe : (p : Vec3) → q ≡ Probe s p → Replied (probeOf M s p) v o r o o′ m m′ → Replied (serveSolid M q) v (leftUnder (solid M) q v o) r o o′ m m′
+    unfolding serveSolid leftUnder
+    solid-probe p e h = rw e h
+
+-- ---- which room it is
+
+module _ (file words : List ℕ) (floats : List Float) (p : Place) (n : Counts) (s : Sizes) where
+  pub stands-flat : (g : Grid) → p ≡ Flat n s g → Stands file words floats p → Tracer.Ready file n words floats s g
+  unfolding Servable
+  stands-flat g e h = rw e at (h .servable)
+
+  pub stands-solid : (marks : List ℕ) → p ≡ Solid n s → Stands file words floats p → countsIn p .cells ≤ length marks → Planes.Ready file n s words marks
+  unfolding Servable countsIn
+  stands-solid marks e h b = (rw e at (h .servable)) marks (rw e at b)
+
+  module _ (v : ℕ → Values) {r : Answered} (o : List ℕ) {o′ m m′ : List ℕ} (q : Request) where
+    pub in-flat : (g : Grid) → p ≡ Flat n s g → Replied (serveFlat (fieldIn g s words floats) q) v o r o o′ m m′
+        → Replied (serve (roomIn file words floats p) q) v (leftUnder (roomIn file words floats p) q v o) r o o′ m m′
+    unfolding serve roomIn leftUnder
+    in-flat g e h = rw e h
+
+    pub in-solid : p ≡ Solid n s
+        → Replied (serveSolid (meshIn (pointsIn file (n .points)) s words floats) q) v (leftUnder (solid (meshIn (pointsIn file (n .points)) s words floats)) q v o) r o o′ m m′
+        → Replied (serve (roomIn file words floats p) q) v (leftUnder (roomIn file words floats p) q v o) r o o′ m m′
+    unfolding serve roomIn
+    in-solid e h = rw e h
+
+-- ---- the answer words keep their number
+
+pub left-long : (room : Room) (q : Request) (v : ℕ → Values) (o : List ℕ) → length (leftUnder room q v o) ≡ length o
+unfolding leftUnder leftBy
+left-long (flat f) q v o = refl
+left-long (solid m) (Refused n) v o = refl
+left-long (solid m) (Locate p) v o = refl
+left-long (solid m) (Velocity p) v o = refl
+left-long (solid m) (Streamline p d x) v o = refl
+left-long (solid m) (Rake a b n d x) v o = refl
+left-long (solid m) (Section s) v o = length-sets o 1 (concat (map sampleWords (goods v (intersect m s))))
+left-long (solid m) (Statistics s field) v o = refl
+left-long (solid m) (Integrals s) v o = refl
+left-long (solid m) (Probe s p) v o = refl
+
+long-of : (o left : List ℕ) (r : Result (List ℕ)) → length left ≡ length o → length (replied o left r) ≡ length o
+unfolding replied
+long-of o left (refused n) h = h
+long-of o left (fine ws) h = length-sets o 0 ws
+
+pub replied-long : (room : Room) (q : Request) (v : ℕ → Values) (o : List ℕ) → length (replied o (leftUnder room q v o) (run (serve room q) v)) ≡ length o
+replied-long room q v o = long-of o (leftUnder room q v o) (run (serve room q) v) (left-long room q v o)

@@ -1,0 +1,57 @@
+use Rattle.planes.proofs.ReplyLaws.{no-word}
+use Rattle.answers.specs.Words.{vecWords}
+use Rattle.job_serve.specs.Serve.{velocityWords}
+use borrow.Author.Needs.{needs}
+use Rattle.job_serve.proofs.put_velocity.Statement.{statement}
+use Rattle.job_serve.proofs.put_velocity.Tie as tie
+
+enum-known-r : tie.Need-enum-known-r
+enum-known-r c = search needs
+
+put-requires : tie.Need-put-requires
+put-requires c κs = search needs
+
+put-vec-requires : tie.Need-put-vec-requires
+put-vec-requires c κs = search needs
+
+enum-told : tie.Need-enum-told
+enum-told c = search needs
+
+put-requires-2 : tie.Need-put-requires-2
+put-requires-2 c κs = search needs
+
+new-requires : tie.Need-new-requires
+new-requires c κs = search needs
+
+put-vec-requires-2 : tie.Need-put-vec-requires-2
+put-vec-requires-2 c κs = search needs
+
+same-length : tie.Need-same-length
+same-length c = search needs
+
+returns : tie.Need-returns
+unfolding velocityWords
+returns c = rw (c .before .before .before .before .before .before .before .before .before .r .given .1, c .before .before .put-vec .ensures, c .before .before .before .before .before .before .put .ensures)
+
+same-length-2 : tie.Need-same-length-2
+same-length-2 c = search needs
+
+returns-2 : tie.Need-returns-2
+unfolding velocityWords vecWords
+returns-2 c = rw (c .before .before .before .before .before .before .before .before .before .enum-told .given .1, c .before .before .put-vec2 .ensures, c .before .before .before .new .ensures, c .before .before .before .before .before .before .before .put2 .ensures, no-word)
+
+pub put-velocity-spec : {M : Type 1} → statement M
+put-velocity-spec =
+    tie.close
+    (tie.spec
+    enum-known-r
+    put-requires
+    put-vec-requires
+    enum-told
+    put-requires-2
+    new-requires
+    put-vec-requires-2
+    same-length
+    returns
+    same-length-2
+    returns-2)

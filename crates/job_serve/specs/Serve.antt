@@ -1,0 +1,64 @@
+-- The answer of each code, whatever room there is for it. Refusals 34, 35 and 39 to 43.
+use Prim.Native.Nat.{ℕ, _-_, _^_}
+use mathlib.Core.List.{List, [], _∷_}
+use Rattle.arith.specs.declared.Found.{Found}
+use Rattle.arith.specs.declared.Found.the-variants.{At, Nothing}
+use Rattle.reading.specs.Result.{Result, refused, fine}
+use Rattle.reading.specs.Asks.{Asks, give, _>>=_}
+use Rattle.mesh_area.specs.Tables.{Mesh}
+use Rattle.lines_locate.specs.Field.{StreamlineField}
+use Rattle.lines_velocity.specs.declared.Vector.{Vector}
+use Rattle.lines_velocity.specs.declared.Vector.the-variants.{Here, Nowhere}
+use Rattle.lines_velocity.specs.Velocity.{locateIn, velocityAt}
+use Rattle.lines.specs.Line.{integrate}
+use Rattle.lines.specs.Rake.{integrateRake}
+use Rattle.answers.specs.Words.{vecWords}
+use Rattle.planes.specs.Answers.{sectionOf, statisticsOf, integralsOf, probeOf}
+use Rattle.job_requests.specs.declared.Request.{Request}
+use Rattle.job_requests.specs.declared.Request.the-variants.{Refused, Locate, Velocity, Streamline, Rake, Section, Statistics, Integrals, Probe}
+use Rattle.job_room.specs.Room.{Room, flat, solid}
+
+-- "cell, or 2^64-1 for none"
+unfoldable pub foundWords : Found → List ℕ
+foundWords (At i) = i ∷ []
+foundWords Nothing = (2 ^ 64 - 1) ∷ []
+
+-- "1 and the velocity, or four zeros"
+unfoldable pub velocityWords : Vector → List ℕ
+velocityWords (Here v) = 1 ∷ vecWords v
+velocityWords Nowhere = 0 ∷ 0 ∷ 0 ∷ 0 ∷ []
+
+-- a refusal that is decided before any value is read
+unfoldable pub decided : Result (Asks (List ℕ)) → Asks (Result (List ℕ))
+decided (refused n) = give (refused n)
+decided (fine t) = t >>= λ ws. give (fine ws)
+
+-- codes 1 to 4. 31 is due before a request's arguments are looked at: `requestOf` (crates/job_requests/specs/Requests.antt) refuses with it, and makes no
+-- request of codes 5 to 8 over a 2D mesh. So the last four cases do not come in a job; they are here since the definition is of every request.
+unfoldable pub serveFlat : StreamlineField → Request → Asks (Result (List ℕ))
+serveFlat f (Refused n) = give (refused n)
+serveFlat f (Locate p) = give (fine (foundWords (locateIn f p)))
+serveFlat f (Velocity p) = velocityAt f p >>= λ v. give (fine (velocityWords v))
+serveFlat f (Streamline p d o) = decided (integrate f p d o)
+serveFlat f (Rake a b n d o) = decided (integrateRake f a b n d o)
+serveFlat f (Section s) = give (refused 31)
+serveFlat f (Statistics s field) = give (refused 31)
+serveFlat f (Integrals s) = give (refused 31)
+serveFlat f (Probe s p) = give (refused 31)
+
+-- codes 5 to 8; in the same way codes 1 to 4 do not come over a 3D mesh
+unfoldable pub serveSolid : Mesh → Request → Asks (Result (List ℕ))
+serveSolid m (Refused n) = give (refused n)
+serveSolid m (Locate p) = give (refused 31)
+serveSolid m (Velocity p) = give (refused 31)
+serveSolid m (Streamline p d o) = give (refused 31)
+serveSolid m (Rake a b n d o) = give (refused 31)
+serveSolid m (Section s) = sectionOf m s
+serveSolid m (Statistics s field) = statisticsOf m s field
+serveSolid m (Integrals s) = integralsOf m s
+serveSolid m (Probe s p) = probeOf m s p
+
+-- each code's answer
+unfoldable pub serve : Room → Request → Asks (Result (List ℕ))
+serve (flat f) q = serveFlat f q
+serve (solid m) q = serveSolid m q

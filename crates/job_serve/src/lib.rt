@@ -1,0 +1,245 @@
+// The answer to one request, over a room in the work area.
+use arith::Found;
+use arith::Vec3;
+use case_file::Counts;
+use job_requests::Request;
+use job_room::Place;
+use lines::StreamlineDirection;
+use lines::Traced;
+use lines::integrate;
+use lines::rake;
+use lines_locate::Grid;
+use lines_step::StreamlineOptions;
+use lines_velocity::Vector;
+use lines_velocity::interpolate;
+use mesh_area::Sizes;
+use planes::Answered;
+use planes::answers;
+ghost use mathlib.Core.Path.{_≡_};
+ghost use mathlib.Core.List.{List};
+ghost use Prim.Native.Nat.{ℕ, _≤_};
+ghost use lib.ListN.{length};
+ghost use lib.Seq.{sets};
+ghost use lib.Ieee.{Float};
+ghost use Rattle.reading.specs.declared.Values.{Values};
+ghost use Rattle.reading.specs.Result.{Result};
+ghost use Rattle.reading.specs.Asks.{Asks, run};
+ghost use Rattle.mesh_area.specs.Layout.{LentWords, LentFloats, pointsIn, meshIn};
+ghost use Rattle.case_file.specs.Field.{valuesOf};
+ghost use Rattle.lines_locate.specs.Layout.{fieldIn, Searchable};
+ghost use Rattle.lines_velocity.specs.Ready as Tracer;
+ghost use Rattle.lines.specs.Answered.{resultOf, countOf};
+ghost use Rattle.planes_samples.specs.Stream as Planes;
+ghost use Rattle.planes.specs.Reply.{answeredOf, Replied};
+ghost use Rattle.job_requests.specs.declared.Request.the-variants as Code;
+ghost use Rattle.job_requests.specs.Bounds.{Allowed};
+ghost use Rattle.job_room.specs.Room.{solid};
+ghost use Rattle.job_room.specs.Stands.{roomIn, countsIn, Stands};
+ghost use Rattle.job_serve.specs.Serve as Serve;
+ghost use Rattle.job_serve.specs.Left.{leftUnder};
+
+// The cell, or 2^64-1 for none.
+fn put_found(r: Found, out: &mut [u64])
+    ensures { λ _. ⌜ now (out .exit) ≡ sets (now (out .entry)) 0 (Serve.foundWords r) ⌝ }
+{
+    match r {
+        Found::At(i) => answers::put(out, 0, i as u64),
+        Found::Nothing => answers::put(out, 0, 0xffff_ffff_ffff_ffff),
+    }
+}
+
+// 1 and the velocity, or four zeros.
+fn put_velocity(r: Vector, out: &mut [u64])
+    ensures { λ _. ⌜ now (out .exit) ≡ sets (now (out .entry)) 0 (Serve.velocityWords r) ⌝ }
+{
+    match r {
+        Vector::Here(v) => {
+            answers::put(out, 0, 1);
+            answers::put_vec(out, 1, v);
+        }
+        Vector::Nowhere => {
+            answers::put(out, 0, 0);
+            answers::put_vec(out, 1, Vec3::new(0.0, 0.0, 0.0));
+        }
+    }
+}
+
+// How many words, or the refusal.
+fn answered(r: Traced) -> Answered
+    ensures { λ a. ⌜ ((j : Result (Asks (List ℕ))) (f : ℕ → Values) → resultOf r ≡ countOf j f → a ≡ answeredOf (run (Serve.decided j) f)) ⌝ }
+{
+    match r {
+        Traced::Words(k) => Answered::Words(k),
+        Traced::Refused(k) => Answered::Refused(k),
+    }
+}
+
+// Code 1.
+fn serve_locate(
+    words: &[u32],
+    floats: &[f64],
+    s: Sizes,
+    g: Grid,
+    out: &mut [u64],
+    p: Vec3,
+) -> Answered
+    requires { ⌜ LentWords s (now words) × LentFloats s (now floats) × Searchable g s (now words) (now floats) ⌝ }
+    ensures { λ r. ⌜ ((f : ℕ → Values) (m : List ℕ) → Replied (Serve.serveFlat (fieldIn g s (now (words .entry)) (now (floats .entry))) (Code.Locate p)) f (now (out .entry)) r (now (out .entry)) (now (out .exit)) m m) ⌝ }
+{
+    put_found(lines_locate::locate_cell(words, floats, s, g, p), out);
+    Answered::Words(1)
+}
+
+// Code 2.
+fn serve_velocity(
+    case: &[u8],
+    n: Counts,
+    words: &[u32],
+    floats: &[f64],
+    s: Sizes,
+    g: Grid,
+    marks: &mut [u8],
+    out: &mut [u64],
+    p: Vec3,
+) -> Answered
+    requires { ⌜ Tracer.Ready (now case) n (now words) (now floats) s g ⌝ }
+    ensures { λ r. ⌜ Replied (Serve.serveFlat (fieldIn g s (now (words .entry)) (now (floats .entry))) (Code.Velocity p)) (valuesOf (now (case .entry))) (now (out .entry)) r (now (out .entry)) (now (out .exit)) (now (marks .entry)) (now (marks .exit)) ⌝ }
+{
+    let v = interpolate::velocity_at(case, n, words, floats, s, g, marks, p);
+    put_velocity(v, out);
+    Answered::Words(4)
+}
+
+// Code 3.
+fn serve_streamline(
+    case: &[u8],
+    n: Counts,
+    words: &[u32],
+    floats: &[f64],
+    s: Sizes,
+    g: Grid,
+    marks: &mut [u8],
+    out: &mut [u64],
+    p: Vec3,
+    d: StreamlineDirection,
+    options: StreamlineOptions,
+) -> Answered
+    requires { ⌜ Tracer.Ready (now case) n (now words) (now floats) s g ⌝ }
+    requires { ⌜ options .«max_steps» ≤ 65536 ⌝ }
+    ensures { λ r. ⌜ Replied (Serve.serveFlat (fieldIn g s (now (words .entry)) (now (floats .entry))) (Code.Streamline p d options)) (valuesOf (now (case .entry))) (now (out .entry)) r (now (out .entry)) (now (out .exit)) (now (marks .entry)) (now (marks .exit)) ⌝ }
+{
+    let t = integrate::integrate(case, n, words, floats, s, g, marks, out, p, d, options);
+    answered(t)
+}
+
+// Code 4.
+fn serve_rake(
+    case: &[u8],
+    n: Counts,
+    words: &[u32],
+    floats: &[f64],
+    s: Sizes,
+    g: Grid,
+    marks: &mut [u8],
+    out: &mut [u64],
+    a: Vec3,
+    b: Vec3,
+    count: usize,
+    d: StreamlineDirection,
+    options: StreamlineOptions,
+) -> Answered
+    requires { ⌜ Tracer.Ready (now case) n (now words) (now floats) s g ⌝ }
+    requires { ⌜ (2 ≤ count) × (count ≤ 64) × (options .«max_steps» ≤ 65536) ⌝ }
+    ensures { λ r. ⌜ Replied (Serve.serveFlat (fieldIn g s (now (words .entry)) (now (floats .entry))) (Code.Rake a b count d options)) (valuesOf (now (case .entry))) (now (out .entry)) r (now (out .entry)) (now (out .exit)) (now (marks .entry)) (now (marks .exit)) ⌝ }
+{
+    let t = rake::integrate_rake(
+        case,
+        n,
+        words,
+        floats,
+        s,
+        g,
+        marks,
+        out,
+        a,
+        b,
+        count,
+        d,
+        options,
+    );
+    answered(t)
+}
+
+// Codes 1 to 4.
+fn serve_flat(
+    case: &[u8],
+    words: &[u32],
+    floats: &[f64],
+    n: Counts,
+    s: Sizes,
+    g: Grid,
+    marks: &mut [u8],
+    out: &mut [u64],
+    q: Request,
+) -> Answered
+    requires { ⌜ Tracer.Ready (now case) n (now words) (now floats) s g ⌝ }
+    requires { ⌜ Allowed q ⌝ }
+    ensures { λ r. ⌜ Replied (Serve.serveFlat (fieldIn g s (now (words .entry)) (now (floats .entry))) q) (valuesOf (now (case .entry))) (now (out .entry)) r (now (out .entry)) (now (out .exit)) (now (marks .entry)) (now (marks .exit)) ⌝ }
+{
+    match q {
+        Request::Refused(k) => Answered::Refused(k),
+        Request::Locate(p) => serve_locate(words, floats, s, g, out, p),
+        Request::Velocity(p) => serve_velocity(case, n, words, floats, s, g, marks, out, p),
+        Request::Streamline(p, d, o) => {
+            serve_streamline(case, n, words, floats, s, g, marks, out, p, d, o)
+        }
+        Request::Rake(a, b, count, d, o) => {
+            serve_rake(case, n, words, floats, s, g, marks, out, a, b, count, d, o)
+        }
+        _ => Answered::Refused(31), // request_of gave 31 already
+    }
+}
+
+// Codes 5 to 8.
+fn serve_solid(
+    case: &[u8],
+    words: &[u32],
+    n: Counts,
+    s: Sizes,
+    marks: &mut [u8],
+    out: &mut [u64],
+    q: Request,
+) -> Answered
+    requires { ⌜ Planes.Ready (now case) n s (now words) (now marks) ⌝ }
+    ensures { λ r. ⌜ ((floats : List Float) → Replied (Serve.serveSolid (meshIn (pointsIn (now (case .entry)) (n .points)) s (now (words .entry)) floats) q) (valuesOf (now (case .entry))) (leftUnder (solid (meshIn (pointsIn (now (case .entry)) (n .points)) s (now (words .entry)) floats)) q (valuesOf (now (case .entry))) (now (out .entry))) r (now (out .entry)) (now (out .exit)) (now (marks .entry)) (now (marks .exit))) ⌝ }
+{
+    match q {
+        Request::Refused(k) => Answered::Refused(k),
+        Request::Section(plane) => answers::section(case, n, words, s, plane, out, marks),
+        Request::Statistics(plane, field) => {
+            answers::statistics(case, n, words, s, plane, field, out, marks)
+        }
+        Request::Integrals(plane) => answers::integrals(case, n, words, s, plane, out, marks),
+        Request::Probe(plane, p) => answers::probe(case, n, words, s, plane, p, out, marks),
+        _ => Answered::Refused(31), // request_of gave 31 already
+    }
+}
+
+// How many words the answer has, which go to `out` as far as they fit; or the refusal.
+pub fn serve(
+    case: &[u8],
+    words: &[u32],
+    floats: &[f64],
+    place: Place,
+    marks: &mut [u8],
+    out: &mut [u64],
+    q: Request,
+) -> Answered
+    requires { ⌜ Stands (now case) (now words) (now floats) place × (countsIn place .cells ≤ length (now marks)) × Allowed q ⌝ }
+    ensures { λ r. ⌜ Replied (Serve.serve (roomIn (now (case .entry)) (now (words .entry)) (now (floats .entry)) place) q) (valuesOf (now (case .entry))) (leftUnder (roomIn (now (case .entry)) (now (words .entry)) (now (floats .entry)) place) q (valuesOf (now (case .entry))) (now (out .entry))) r (now (out .entry)) (now (out .exit)) (now (marks .entry)) (now (marks .exit)) ⌝ }
+{
+    match place {
+        Place::Flat(n, s, g) => serve_flat(case, words, floats, n, s, g, marks, out, q),
+        Place::Solid(n, s) => serve_solid(case, words, n, s, marks, out, q),
+    }
+}

@@ -1,0 +1,90 @@
+-- Read back, the words of a request are the request with its arguments. Assumes nothing.
+use Prim.Native.Nat.{ℕ}
+use mathlib.Core.Path.{_≡_, refl, ap}
+use mathlib.Core.Bool.{true, false, cond}
+use lib.Dec.{ltb, eqb}
+use lib.Ieee.{Float, binary64}
+use lib.Ieee.Bits.{ofBits-toBits}
+use Rattle.arith.specs.F64.{float, word}
+use Rattle.arith.specs.Lists.{any}
+use Rattle.arith.specs.Vec.{vec}
+use Rattle.arith.specs.declared.Vec3.{Vec3}
+use Rattle.lines_step.specs.declared.StreamlineOptions.{StreamlineOptions}
+use Rattle.lines.specs.declared.StreamlineDirection.{StreamlineDirection}
+use Rattle.lines.specs.declared.StreamlineDirection.the-variants.{Forward, Backward}
+use Rattle.planes_cut.specs.declared.Plane.{Plane}
+use Rattle.planes_cut.specs.Plane.{invalid, remote}
+use Rattle.answers.specs.Words.{vecWords}
+use Rattle.job_requests.specs.Requests.{number, real, point, barring, usedWords, astray, illFormed, against, direction, options, streamline, rakeOf, rake, planeOf, statistics, overPlane, planar, byCode, requestOf}
+use Rattle.job_requests.specs.declared.Request.{Request}
+use Rattle.job_requests.specs.declared.Request.the-variants.{Locate, Velocity, Streamline, Rake, Section, Statistics, Integrals, Probe}
+use Rattle.job_single.specs.Single.{padded, directionWord, lineWords, planeWords, locateWords, velocityWords, streamlineWords, rakeWords, sectionWords, statisticsWords, integralsWords, probeWords}
+use Rattle.job_single.proofs.Laws.{F64, F64s, OptionsHeld, PlaneHeld}
+
+-- ---- one float, one point, one plane, and a line's direction and options
+
+float-back : (x : Float) → F64 x → float (word x) ≡ x
+float-back x h = ofBits-toBits binary64 x h
+
+vec-back : (p : Vec3) → F64s p → vec (float (word (p .x))) (float (word (p .y))) (float (word (p .z))) ≡ p
+vec-back p h = rw (float-back _ (h .x), float-back _ (h .y), float-back _ (h .z))
+
+direction-back : (d : StreamlineDirection) → cond (eqb (directionWord d) 0) Forward Backward ≡ d
+unfolding directionWord
+direction-back Forward = refl
+direction-back Backward = refl
+
+not-astray : (d : StreamlineDirection) → ltb 1 (directionWord d) ≡ false
+unfolding directionWord
+not-astray Forward = refl
+not-astray Backward = refl
+
+options-back : (o : StreamlineOptions) → OptionsHeld o →
+    _≡_ {A = StreamlineOptions} (record { «step_size» = float (word (o .«step_size»)); «max_steps» = o .«max_steps»; «max_length» = float (word (o .«max_length»)); «stagnation_speed» = float (word (o .«stagnation_speed»)) }) o
+options-back o h = rw (float-back _ (h .step), float-back _ (h .length), float-back _ (h .speed))
+
+-- ---- codes 1 and 2
+
+pub locate-read : (p : Vec3) → F64s p → requestOf true (locateWords p) ≡ Locate p
+unfolding requestOf barring illFormed usedWords astray against byCode number point real any locateWords padded vecWords
+locate-read p h = ap Locate (vec-back p h)
+
+pub velocity-read : (p : Vec3) → F64s p → requestOf true (velocityWords p) ≡ Velocity p
+unfolding requestOf barring illFormed usedWords astray against byCode number point real any velocityWords padded vecWords
+velocity-read p h = ap Velocity (vec-back p h)
+
+-- ---- codes 3 and 4: refusals 32 and 33 are by the arguments
+
+module _ (d : StreamlineDirection) (o : StreamlineOptions) (l : OptionsHeld o) where
+  pub streamline-read : (seed : Vec3) → F64s seed → requestOf true (streamlineWords seed d o) ≡ barring 33 (ltb 65536 (o .«max_steps»)) (Streamline seed d o)
+  unfolding requestOf barring illFormed usedWords astray against byCode streamline direction options number point real any streamlineWords padded vecWords lineWords
+  streamline-read seed h = rw (not-astray d, direction-back d, vec-back seed h, options-back o l)
+
+  pub rake-read : (start end : Vec3) (count : ℕ) → F64s start → F64s end
+      → requestOf true (rakeWords start end count d o) ≡ barring 32 (ltb count 2) (barring 33 (ltb 64 count) (barring 33 (ltb 65536 (o .«max_steps»)) (Rake start end count d o)))
+  unfolding requestOf barring illFormed usedWords astray against byCode rake rakeOf direction options number point real any rakeWords padded vecWords lineWords
+  rake-read start end count h k = rw (not-astray d, direction-back d, vec-back start h, vec-back end k, options-back o l)
+
+-- ---- codes 5 to 8: refusals 36 to 38 are by the arguments
+
+module _ (s : Plane) where
+  -- where the plane is accepted
+  abbrev pub over : Request → Request
+  over q = barring 36 (invalid s) (barring 37 (remote s) q)
+
+  module _ (h : PlaneHeld s) where
+    pub section-read : requestOf false (sectionWords s) ≡ over (Section s)
+    unfolding requestOf barring illFormed usedWords astray against byCode planar overPlane planeOf number point real any sectionWords padded planeWords vecWords
+    section-read = rw (vec-back (s .origin) (h .origin), vec-back (s .u) (h .u), vec-back (s .v) (h .v))
+
+    pub statistics-read : (field : ℕ) → requestOf false (statisticsWords s field) ≡ over (barring 38 (ltb 5 field) (Statistics s field))
+    unfolding requestOf barring illFormed usedWords astray against byCode planar overPlane planeOf statistics number point real any statisticsWords padded planeWords vecWords
+    statistics-read field = rw (vec-back (s .origin) (h .origin), vec-back (s .u) (h .u), vec-back (s .v) (h .v))
+
+    pub integrals-read : requestOf false (integralsWords s) ≡ over (Integrals s)
+    unfolding requestOf barring illFormed usedWords astray against byCode planar overPlane planeOf number point real any integralsWords padded planeWords vecWords
+    integrals-read = rw (vec-back (s .origin) (h .origin), vec-back (s .u) (h .u), vec-back (s .v) (h .v))
+
+    pub probe-read : (p : Vec3) → F64s p → requestOf false (probeWords s p) ≡ over (Probe s p)
+    unfolding requestOf barring illFormed usedWords astray against byCode planar overPlane planeOf number point real any probeWords padded planeWords vecWords
+    probe-read p k = rw (vec-back (s .origin) (h .origin), vec-back (s .u) (h .u), vec-back (s .v) (h .v), vec-back p k)

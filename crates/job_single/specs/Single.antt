@@ -1,0 +1,64 @@
+-- The words of one request, for each code. "Request: 16 words of 8 bytes, the code first, then the arguments; words not used are zero."
+use Prim.Native.Nat.{ℕ, _-_}
+use mathlib.Core.List.{List, [], _∷_, _++_}
+use lib.ListN.{length, replicate}
+use Rattle.arith.specs.F64.{word}
+use Rattle.arith.specs.declared.Vec3.{Vec3}
+use Rattle.lines_step.specs.declared.StreamlineOptions.{StreamlineOptions}
+use Rattle.lines.specs.declared.StreamlineDirection.{StreamlineDirection}
+use Rattle.lines.specs.declared.StreamlineDirection.the-variants.{Forward, Backward}
+use Rattle.planes_cut.specs.declared.Plane.{Plane}
+use Rattle.answers.specs.Words.{vecWords}
+
+unfoldable pub padded : List ℕ → List ℕ
+padded ws = ws ++ replicate (16 - length ws) 0
+
+-- "direction (0 forward, 1 backward)"
+unfoldable pub directionWord : StreamlineDirection → ℕ
+directionWord Forward = 0
+directionWord Backward = 1
+
+-- "direction .., step_size, max_steps, max_length, stagnation_speed"
+unfoldable pub lineWords : StreamlineDirection → StreamlineOptions → List ℕ
+lineWords d o =
+    directionWord d
+    ∷ word (o .«step_size»)
+    ∷ o .«max_steps»
+    ∷ word (o .«max_length»)
+    ∷ word (o .«stagnation_speed»)
+    ∷ []
+
+-- "origin, u, v"
+unfoldable pub planeWords : Plane → List ℕ
+planeWords s = vecWords (s .origin) ++ (vecWords (s .u) ++ vecWords (s .v))
+
+-- "1 locate, 2 velocity: point."
+unfoldable pub locateWords : Vec3 → List ℕ
+locateWords p = padded (1 ∷ vecWords p)
+
+unfoldable pub velocityWords : Vec3 → List ℕ
+velocityWords p = padded (2 ∷ vecWords p)
+
+-- "3 streamline: seed, direction .."
+unfoldable pub streamlineWords : Vec3 → StreamlineDirection → StreamlineOptions → List ℕ
+streamlineWords seed d o = padded (3 ∷ (vecWords seed ++ lineWords d o))
+
+-- "4 rake: start, end, seed count, then as 3 from direction on."
+unfoldable pub rakeWords : Vec3 → Vec3 → ℕ → StreamlineDirection → StreamlineOptions → List ℕ
+rakeWords start end count d o = padded (4 ∷ (vecWords start ++ (vecWords end ++ count ∷ lineWords d o)))
+
+-- "5 section: origin, u, v."
+unfoldable pub sectionWords : Plane → List ℕ
+sectionWords s = padded (5 ∷ planeWords s)
+
+-- "6 statistics: the same, field."
+unfoldable pub statisticsWords : Plane → ℕ → List ℕ
+statisticsWords s field = padded (6 ∷ (planeWords s ++ field ∷ []))
+
+-- "7 integrals: as 5."
+unfoldable pub integralsWords : Plane → List ℕ
+integralsWords s = padded (7 ∷ planeWords s)
+
+-- "8 probe: as 5, then a point."
+unfoldable pub probeWords : Plane → Vec3 → List ℕ
+probeWords s p = padded (8 ∷ (planeWords s ++ vecWords p))

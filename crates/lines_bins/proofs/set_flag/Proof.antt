@@ -1,0 +1,26 @@
+use Rattle.lines_bins.proofs.Laws.{pools}
+use borrow.Author.Needs.{needs}
+use Rattle.lines_bins.proofs.set_flag.Statement.{statement}
+use Rattle.lines_bins.proofs.set_flag.Tie as tie
+
+mul-words : tie.Need-mul-words
+mul-words c = search needs
+
+add-words : tie.Need-add-words
+add-words c = search needs
+
+mul-words-2 : tie.Need-mul-words-2
+mul-words-2 c = search needs
+
+slice-write-words : tie.Need-slice-write-words
+slice-write-words c = search needs
+
+same-length : tie.Need-same-length
+same-length c = search needs
+
+returns : tie.Need-returns
+returns c = search (pools, needs)
+
+pub set-flag-spec : {M : Type 1} → statement M
+set-flag-spec =
+    tie.close (tie.spec mul-words add-words mul-words-2 slice-write-words same-length returns)

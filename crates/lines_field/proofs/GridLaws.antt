@@ -1,0 +1,199 @@
+-- The grid by cases, and one turn of the loops that bound and list the cells. Assumes nothing.
+use Prim.Native.Nat.{ℕ, zero, suc, _+_, _*_, _≤_, _<_}
+use native.Mathlib.Nat.{le-antisymm}
+use native.Mathlib.Omega.{arith}
+use mathlib.Core.Path.{_≡_, refl, sym, ap, ap₂, _∙_, subst}
+use mathlib.Core.Logic.{_⊎_, inl, inr}
+use mathlib.Core.Bool.{true, false}
+use mathlib.Core.List.{List, [], _∷_, _++_, map, map-append}
+use lib.ListN.{length, getD, take, drop}
+use lib.Seq.{take-take}
+use lib.Ieee.{Float}
+use borrow.Author.Tests.{lt-ltb, le-ltb}
+use Rattle.arith.specs.Lists.{foldl, concat}
+use Rattle.arith.specs.Records.{tab, puts}
+use Rattle.arith.specs.declared.Vec2.{Vec2}
+use Rattle.arith.proofs.ListLaws.{foldl-next}
+use Rattle.arith.proofs.RecordLaws.{length-tab, getD-tab, tab-next, tab-same, drop-tab, drop-end, same-below, lt-or-ge, getD-puts-out, getD-puts-at, take-puts}
+use Rattle.arith.proofs.SortLaws.{foldl-append}
+use Rattle.reading.specs.Result.{refuse, _>>=_}
+use Rattle.mesh_area.specs.declared.Sizes.{Sizes}
+use Rattle.mesh_area.specs.Layout.{wordsEnd}
+use Rattle.lines_locate.specs.declared.Box.{Box}
+use Rattle.lines_locate.specs.declared.Bin.{Bin}
+use Rattle.lines_locate.specs.declared.Grid.{Grid}
+use Rattle.lines_field.specs.declared.Built.{Built}
+use Rattle.lines_field.specs.declared.Built.the-variants.{Made, Refused}
+use Rattle.lines_field.specs.Bounds.{boundless, widened, boundsOf, lowCorner, highCorner}
+use Rattle.lines_locate.specs.Bins.{CellPolygon, Binned, binFor}
+use Rattle.lines_field.specs.Bins.{listedIn, areFlat, areMany}
+use Rattle.lines_field.specs.Field.{gridFor, builtGrid}
+use Rattle.lines_locate.specs.Layout.{wordsAt, floatsAt, countIn, polygonIn, binFrom, cellPolygonIn, cellPolygonsIn}
+use Rattle.lines_field.specs.Layout.{polygonsIn, Listed}
+use Rattle.lines_polygon.specs.Vertices.{pairFrom, pairsFrom}
+use Rattle.lines_polygon.proofs.Laws.{length-pairs, pairs-at}
+
+-- ---- 18, 19, or the grid
+
+-- what the answer says
+pub Answer : Built → Box → Bin → Type 0
+Answer r b n = (builtGrid r ≡ gridFor b n) × ((g : Grid) → r ≡ Made g → Binned g)
+
+never : (k : ℕ) (g : Grid) → Refused k ≡ Made g → Binned g
+never k g e = absurd (let z : _≡_ {A = ℕ} 0 1 = cc in omega arith)
+
+module _ (b : Box) (n : Bin) where
+  pub grid-flat : areFlat b ≡ true → (builtGrid (Refused 18) ≡ gridFor b n) × ((g : Grid) → Refused 18 ≡ Made g → Binned g)
+  unfolding gridFor builtGrid refuse _>>=_
+  grid-flat e = (rw e, never 18)
+
+  pub grid-wide : areFlat b ≡ false → 65536 < n .x → (builtGrid (Refused 19) ≡ gridFor b n) × ((g : Grid) → Refused 19 ≡ Made g → Binned g)
+  unfolding gridFor builtGrid refuse _>>=_ areMany
+  grid-wide e h = (rw (e, lt-ltb 65536 (n .x) h), never 19)
+
+  pub grid-high : areFlat b ≡ false → n .x ≤ 65536 → 65536 < n .y → (builtGrid (Refused 19) ≡ gridFor b n) × ((g : Grid) → Refused 19 ≡ Made g → Binned g)
+  unfolding gridFor builtGrid refuse _>>=_ areMany
+  grid-high e k h = (rw (e, le-ltb 65536 (n .x) k, lt-ltb 65536 (n .y) h), never 19)
+
+  pub grid-made : areFlat b ≡ false → n .x ≤ 65536 → n .y ≤ 65536 → 0 < n .x → 0 < n .y
+      → (builtGrid (Made (record { bounds = b; bins = n })) ≡ gridFor b n) × ((g : Grid) → Made (record { bounds = b; bins = n }) ≡ Made g → Binned g)
+  unfolding gridFor builtGrid refuse _>>=_ areMany
+  grid-made e k h x y = (
+    rw (e, le-ltb 65536 (n .x) k, le-ltb 65536 (n .y) h),
+    λ g w. let i : record { bounds = b; bins = n } ≡ g = cc in rw (← i) (record { wide = x; high = y; few-wide = k; few-high = h }),
+  )
+
+-- ---- bounds
+
+module _ (floats : List Float) (at n k : ℕ) (b r : Box) (inv : foldl widened b (drop k (pairsFrom floats at n)) ≡ r) where
+  pub widen-turn : k < n → (p : Vec2) (b′ : Box) → p ≡ pairFrom floats (at + 2 * k) → b′ ≡ widened b p → foldl widened b′ (drop (k + 1) (pairsFrom floats at n)) ≡ r
+  widen-turn h p b′ e w =
+      let in-range : k < length (pairsFrom floats at n) = rw (length-pairs floats at n) h in
+      rw (w, e, ← (pairs-at floats at n k (pairFrom floats 0) h)) (sym (foldl-next (pairsFrom floats at n) k (pairFrom floats 0) in-range widened b) ∙ inv)
+
+  pub widen-end : n ≤ k → b ≡ r
+  unfolding foldl
+  widen-end h =
+      let none : drop k (pairsFrom floats at n) ≡ [] = drop-end (pairsFrom floats at n) k (rw (length-pairs floats at n) h) in
+      rw none at inv
+
+module _ (s : Sizes) (words : List ℕ) (floats : List Float) (i : ℕ) (b r : Box) (inv : foldl widened b (concat (drop i (polygonsIn s words floats))) ≡ r) where
+  pub bound-turn : i < s .cells → (b′ : Box) (at n : ℕ) → at ≡ floatsAt s i → n ≡ countIn s words i → b′ ≡ foldl widened b (pairsFrom floats at n)
+      → foldl widened b′ (concat (drop (i + 1) (polygonsIn s words floats))) ≡ r
+  unfolding polygonsIn concat polygonIn
+  bound-turn h b′ at n ea en w =
+      rw (w, ea, en)
+      (sym (foldl-append widened b (polygonIn s words floats i) (concat (drop (i + 1) (tab (polygonIn s words floats) (s .cells)))))
+      ∙ rw (drop-tab (polygonIn s words floats) (s .cells) i h) at inv)
+
+  pub bound-end : s .cells ≤ i → b ≡ r
+  unfolding polygonsIn concat foldl
+  bound-end h =
+      let none : drop i (tab (polygonIn s words floats) (s .cells)) ≡ [] = drop-end _ i (rw (length-tab (polygonIn s words floats) (s .cells)) h) in
+      rw none at inv
+
+-- ---- listing a cell
+
+module _ (s : Sizes) (w w′ : List ℕ) (f : List Float) where
+  -- what stands before cell i's words is read as before
+  pub cellPolygon-same : (i j : ℕ) → take (wordsAt s i) w′ ≡ take (wordsAt s i) w → j < i → cellPolygonIn s w′ f j ≡ cellPolygonIn s w f j
+  unfolding cellPolygonIn polygonIn countIn binFrom
+  cellPolygon-same i j e h =
+      rw (
+        same-below w w′ (wordsAt s i) (wordsAt s j) 0 e (omega arith),
+        same-below w w′ (wordsAt s i) (wordsAt s j + 1) 0 e (omega arith),
+        same-below w w′ (wordsAt s i) (wordsAt s j + 2) 0 e (omega arith),
+        same-below w w′ (wordsAt s i) (wordsAt s j + 2 + 1) 0 e (omega arith),
+        same-below w w′ (wordsAt s i) (wordsAt s j + 4) 0 e (omega arith),
+      )
+
+  pub polygon-of : (i : ℕ) → i < s .cells → polygonsIn s w′ f ≡ polygonsIn s w f → polygonIn s w′ f i ≡ polygonIn s w f i
+  unfolding polygonsIn
+  polygon-of i h e =
+      sym (getD-tab (polygonIn s w′ f) (s .cells) i [] h)
+      ∙ ap (λ (l : List (List Vec2)). getD l i []) e
+      ∙ getD-tab (polygonIn s w f) (s .cells) i [] h
+
+module _ (g : Grid) (s : Sizes) (w : List ℕ) (f : List Float) (i : ℕ) (first last : Bin) (room : wordsAt s i + 4 ≤ length w) where
+  abbrev pub stored : List ℕ
+  stored = puts w (wordsAt s i) (first .x ∷ first .y ∷ last .x ∷ last .y ∷ [])
+
+  polygon-kept : (j : ℕ) → polygonIn s stored f j ≡ polygonIn s w f j
+  unfolding polygonIn countIn
+  polygon-kept j =
+      rw (getD-puts-out w (wordsAt s i) (first .x ∷ first .y ∷ last .x ∷ last .y ∷ []) (wordsAt s j + 4) 0 (out (lt-or-ge j i)))
+    where
+      out : (j < i) ⊎ (i ≤ j) → (wordsAt s j + 4 < wordsAt s i) ⊎ (wordsAt s i + 4 ≤ wordsAt s j + 4)
+      out (inl h) = inl (omega arith)
+      out (inr h) = inr (omega arith)
+
+  at-bin : (k : ℕ) → k < 4 → getD stored (wordsAt s i + k) 0 ≡ getD (first .x ∷ first .y ∷ last .x ∷ last .y ∷ []) k 0
+  at-bin k h = getD-puts-at w (wordsAt s i) (first .x ∷ first .y ∷ last .x ∷ last .y ∷ []) k 0 h room
+
+  bins-here : (binFrom stored (wordsAt s i) ≡ first) × (binFrom stored (wordsAt s i + 2) ≡ last)
+  unfolding binFrom
+  bins-here =
+      let z : wordsAt s i + 0 ≡ wordsAt s i = omega arith in
+      let t : wordsAt s i + 3 ≡ wordsAt s i + 2 + 1 = omega arith in
+      let b0 : getD stored (wordsAt s i) 0 ≡ first .x = subst (λ (n : ℕ). getD stored n 0 ≡ first .x) z (at-bin 0 (omega arith)) in
+      let b1 : getD stored (wordsAt s i + 1) 0 ≡ first .y = at-bin 1 (omega arith) in
+      let b2 : getD stored (wordsAt s i + 2) 0 ≡ last .x = at-bin 2 (omega arith) in
+      let b3 : getD stored (wordsAt s i + 2 + 1) 0 ≡ last .y = subst (λ (n : ℕ). getD stored n 0 ≡ last .y) t (at-bin 3 (omega arith)) in
+      (rw (b0, b1), rw (b2, b3))
+
+  pub listed-cell : first ≡ binFor g (lowCorner (boundsOf (polygonIn s w f i))) → last ≡ binFor g (highCorner (boundsOf (polygonIn s w f i))) → Listed g s w stored f i
+  listed-cell ef el =
+      record {
+        here = unfold cellPolygonIn listedIn in rw (polygon-kept i, bins-here .0, bins-here .1, ← ef, ← el);
+        before = take-puts w (wordsAt s i) (first .x ∷ first .y ∷ last .x ∷ last .y ∷ []);
+        polygons = unfold polygonsIn in tab-same (polygonIn s stored f) (polygonIn s w f) (s .cells) (λ k h. polygon-kept k);
+      }
+
+pub listed-by : (g : Grid) (s : Sizes) (w w′ : List ℕ) (f : List Float) (i : ℕ) (own b : Box) (at n wat : ℕ) (first last : Bin) → b ≡ boundless → at ≡ floatsAt s i
+    → n ≡ countIn s w i → own ≡ foldl widened b (pairsFrom f at n) → first ≡ binFor g (lowCorner own) → last ≡ binFor g (highCorner own) → wat ≡ wordsAt s i
+    → w′ ≡ puts w wat (first .x ∷ first .y ∷ last .x ∷ last .y ∷ []) → wordsAt s i + 4 ≤ length w → Listed g s w w′ f i
+listed-by g s w w′ f i own b at n wat first last eb ea en eo ef el ew e room =
+    let o : own ≡ boundsOf (polygonIn s w f i) = unfold boundsOf polygonIn in eo ∙ rw (eb, ea, en) in
+    rw (e, ew) (listed-cell g s w f i first last room (ef ∙ ap (λ (x : Box). binFor g (lowCorner x)) o) (el ∙ ap (λ (x : Box). binFor g (highCorner x)) o))
+
+pub map-tab : {A B : Type 0} (f : A → B) (g : ℕ → A) (n : ℕ) → map f (tab g n) ≡ tab (λ k. f (g k)) n
+unfolding tab
+map-tab f g zero = refl
+map-tab f g (suc n) = map-append f (tab g n) (g n ∷ []) ∙ ap (λ l. l ++ f (g n) ∷ []) (map-tab f g n)
+
+-- the cells below i are listed, and the polygons are as they were
+pub record Listing (g : Grid) (s : Sizes) (w₀ w : List ℕ) (f : List Float) (i : ℕ) : Type 0 where
+  pub within : i ≤ s .cells
+  pub as-long : length w ≡ length w₀
+  pub done : tab (cellPolygonIn s w f) i ≡ tab (λ j. listedIn g (polygonIn s w₀ f j)) i
+  pub polygons : polygonsIn s w f ≡ polygonsIn s w₀ f
+  pub before : take (wordsEnd s) w ≡ take (wordsEnd s) w₀
+
+pub listing-start : (g : Grid) (s : Sizes) (w : List ℕ) (f : List Float) → Listing g s w w f 0
+unfolding tab
+listing-start g s w f = record { within = omega arith; as-long = refl; done = refl; polygons = refl; before = refl }
+
+pub listing-turn : (g : Grid) (s : Sizes) (w₀ w w′ : List ℕ) (f : List Float) (i : ℕ) → Listing g s w₀ w f i → i < s .cells → length w′ ≡ length w → Listed g s w w′ f i
+    → Listing g s w₀ w′ f (i + 1)
+listing-turn g s w₀ w w′ f i l h e d =
+    record {
+      within = omega arith;
+      as-long = e ∙ l .as-long;
+      done =
+          tab-next (cellPolygonIn s w′ f) i
+          ∙ ap₂ (λ (a : List CellPolygon) (b : CellPolygon). a ++ b ∷ [])
+          (tab-same (cellPolygonIn s w′ f) (cellPolygonIn s w f) i (λ k b. cellPolygon-same s w w′ f i k (d .before) b) ∙ l .done)
+          (d .here ∙ ap (listedIn g) (polygon-of s w₀ w f i h (l .polygons)))
+          ∙ sym (tab-next (λ j. listedIn g (polygonIn s w₀ f j)) i);
+      polygons = d .polygons ∙ l .polygons;
+      before =
+          let less : wordsEnd s ≤ wordsAt s i = omega arith in
+          sym (take-take (wordsEnd s) (wordsAt s i) w′ less) ∙ ap (take (wordsEnd s)) (d .before) ∙ take-take (wordsEnd s) (wordsAt s i) w less ∙ l .before;
+    }
+
+pub listing-end : (g : Grid) (s : Sizes) (w₀ w : List ℕ) (f : List Float) (i : ℕ) → Listing g s w₀ w f i → s .cells ≤ i
+    → (cellPolygonsIn s w f ≡ map (listedIn g) (polygonsIn s w₀ f)) × (take (wordsEnd s) w ≡ take (wordsEnd s) w₀)
+unfolding cellPolygonsIn polygonsIn
+listing-end g s w₀ w f i l h =
+    let e : s .cells ≡ i = le-antisymm h (l .within) in
+    (rw (map-tab (listedIn g) (polygonIn s w₀ f) (s .cells)) (subst (λ (n : ℕ). tab (cellPolygonIn s w f) n ≡ tab (λ j. listedIn g (polygonIn s w₀ f j)) n) (sym e) (l .done)), l .before)

@@ -1,0 +1,82 @@
+-- What the builder of the tracer's part of the work area promises.
+use Prim.Native.Nat.{ℕ, _+_, _≤_, _<_}
+use mathlib.Core.Path.{_≡_}
+use mathlib.Core.List.{List, map}
+use lib.ListN.{getD, take, drop}
+use lib.Ieee.{Float, nan}
+use Rattle.arith.specs.Records.{tab}
+use Rattle.arith.specs.Vec.{pair}
+use Rattle.arith.specs.declared.Vec2.{Vec2}
+use Rattle.arith.specs.declared.Vec3.{Vec3}
+use Rattle.arith.specs.Angle.{angleOf}
+use Rattle.arith.specs.Sort.{angleAt}
+use Rattle.reading.specs.Result.{fine}
+use Rattle.mesh_area.specs.declared.Sizes.{Sizes}
+use Rattle.mesh_area.specs.Tables.{Mesh}
+use Rattle.mesh_area.specs.Layout.{wordsEnd, floatsEnd}
+use Rattle.lines_polygon.specs.Extent.{Outside, limitsFrom}
+use Rattle.lines_locate.specs.declared.Grid.{Grid}
+use Rattle.lines_locate.specs.Layout.{wordsAt, floatsAt, polygonIn, cellPolygonIn, fieldIn, Searchable}
+use Rattle.lines_field.specs.declared.Built.{Built}
+use Rattle.lines_field.specs.declared.Built.the-variants.{Made}
+use Rattle.lines_field.specs.Corners.{about}
+use Rattle.lines_field.specs.Bins.{listedIn}
+use Rattle.lines_field.specs.Field.{gridOf, polygonsOf, fieldOf, builtGrid}
+
+-- the polygons of all cells that the area holds
+unfoldable pub polygonsIn : Sizes → List ℕ → List Float → List (List Vec2)
+polygonsIn s words floats = tab (polygonIn s words floats) (s .cells)
+
+-- point k of those whose x and y stand in two lists, and the first n of them
+abbrev pub cornerIn : List Float → List Float → ℕ → Vec2
+cornerIn xs ys k = pair (getD xs k nan) (getD ys k nan)
+
+unfoldable pub cornersIn : List Float → List Float → ℕ → List Vec2
+cornersIn xs ys n = tab (cornerIn xs ys) n
+
+-- the points of a list are the first n; what stands behind them is as it was
+pub record Collected (l : List Vec2) (xs xs′ ys ys′ : List Float) (n : ℕ) : Type 0 where
+  pub points : cornersIn xs′ ys′ n ≡ l
+  pub few : n ≤ 24
+  pub xs-behind : drop n xs′ ≡ drop n xs
+  pub ys-behind : drop n ys′ ≡ drop n ys
+
+-- the mesh's part of the area is as it was
+pub record Kept (s : Sizes) (w w′ : List ℕ) (f f′ : List Float) : Type 0 where
+  pub words : take (wordsEnd s) w′ ≡ take (wordsEnd s) w
+  pub floats : take (floatsEnd s) f′ ≡ take (floatsEnd s) f
+
+-- the angle of each of the first n points about a centre
+pub record AnglesAbout (c : Vec3) (xs ys : List Float) (quarters : List ℕ) (slopes : List Float) (n : ℕ) : Type 0 where
+  pub each : (k : ℕ) → k < n → angleAt quarters slopes k ≡ angleOf (about c (cornerIn xs ys k))
+
+-- the first n places give the points of a polygon
+pub record Placed (polygon : List Vec2) (xs ys : List Float) (places : List ℕ) (n : ℕ) : Type 0 where
+  pub points : map (cornerIn xs ys) (take n places) ≡ polygon
+  pub below : (k : ℕ) → k < n → getD places k 0 < n
+  pub few : n ≤ 24
+
+-- cell i's polygon stands in the area, and nothing before it is changed
+pub record Stored (polygon : List Vec2) (s : Sizes) (w w′ : List ℕ) (f f′ : List Float) (i : ℕ) : Type 0 where
+  pub here : polygonIn s w′ f′ i ≡ polygon
+  pub words : take (wordsAt s i) w′ ≡ take (wordsAt s i) w
+  pub floats : take (floatsAt s i) f′ ≡ take (floatsAt s i) f
+
+-- cell i is listed in its bins, and no other record is changed
+pub record Listed (g : Grid) (s : Sizes) (w w′ : List ℕ) (f : List Float) (i : ℕ) : Type 0 where
+  pub here : cellPolygonIn s w′ f i ≡ listedIn g (polygonIn s w f i)
+  pub before : take (wordsAt s i) w′ ≡ take (wordsAt s i) w
+  pub polygons : polygonsIn s w′ f ≡ polygonsIn s w f
+
+-- cell i has its limits; no polygon, no other cell's limits and nothing of the mesh is changed
+pub record LimitStored (s : Sizes) (w : List ℕ) (f f′ : List Float) (i : ℕ) : Type 0 where
+  pub here : Outside (polygonIn s w f′ i) (limitsFrom f′ (floatsAt s i + 48))
+  pub polygons : (j : ℕ) → polygonIn s w f′ j ≡ polygonIn s w f j
+  pub others : (j : ℕ) → j < i → limitsFrom f′ (floatsAt s j + 48) ≡ limitsFrom f (floatsAt s j + 48)
+  pub mesh : take (floatsEnd s) f′ ≡ take (floatsEnd s) f
+
+-- the refusal, or the field of the mesh
+pub record Traceable (m : Mesh) (s : Sizes) (words′ : List ℕ) (floats′ : List Float) (r : Built) : Type 0 where
+  pub result : builtGrid r ≡ gridOf (s .cells) (polygonsOf m)
+  pub field : (g : Grid) → r ≡ Made g → fieldOf m ≡ fine (fieldIn g s words′ floats′)
+  pub searchable : (g : Grid) → r ≡ Made g → Searchable g s words′ floats′

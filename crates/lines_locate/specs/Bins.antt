@@ -1,0 +1,43 @@
+-- The bins of a grid, and the bins that a cell is listed in.
+use Prim.Native.Nat.{ℕ, _%_, _<_, _≤_}
+use mathlib.Core.Bool.{Bool, _&&_}
+use mathlib.Core.List.{List}
+use lib.Dec.{leb}
+use lib.Ieee.{Float}
+use Rattle.arith.specs.F64.{_⊖_, _⊗_, _⊘_, clamp, ofℕ, floorℕ}
+use Rattle.arith.specs.declared.Vec2.{Vec2}
+use Rattle.lines_locate.specs.declared.Bin.{Bin}
+use Rattle.lines_locate.specs.declared.Grid.{Grid}
+
+-- the bin of `a` between `low` and `high`, of n: "`bin_for` ends in modulo, so coordinate 1.0 gives bin 0"
+unfoldable pub binAlong : Float → Float → ℕ → Float → ℕ
+binAlong low high n a = floorℕ (clamp ((a ⊖ low) ⊘ (high ⊖ low)) ⊗ ofℕ n) % n
+
+-- `bin_for`
+unfoldable pub binFor : Grid → Vec2 → Bin
+binFor g p =
+    record {
+      x = binAlong (g .bounds .left) (g .bounds .right) (g .bins .x) (p .x);
+      y = binAlong (g .bounds .bottom) (g .bounds .top) (g .bins .y) (p .y);
+    }
+
+-- a cell's polygon with the bins that it is listed in, from first to last each way
+pub record CellPolygon : Type 0 where
+  pub polygon : List Vec2
+  pub first : Bin
+  pub last : Bin
+
+-- from first to last: "a range that ends below its start lists nothing"
+unfoldable pub reaches : ℕ → ℕ → ℕ → Bool
+reaches first last b = leb first b && leb b last
+
+-- the cell is listed in bin b
+unfoldable pub isListed : Bin → CellPolygon → Bool
+isListed b c = reaches (c .first .x) (c .last .x) (b .x) && reaches (c .first .y) (c .last .y) (b .y)
+
+-- what `bin_for` needs of a grid
+pub record Binned (g : Grid) : Type 0 where
+  pub wide : 0 < g .bins .x
+  pub high : 0 < g .bins .y
+  pub few-wide : g .bins .x ≤ 65536
+  pub few-high : g .bins .y ≤ 65536

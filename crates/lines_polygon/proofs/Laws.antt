@@ -1,0 +1,105 @@
+-- One turn of the loop over a polygon's sides. Assumes nothing.
+use Prim.Native.Nat.{ℕ, _+_, _*_, _%_, _≤_, _<_}
+use native.Mathlib.Nat.{zero-add}
+use native.Mathlib.Omega.{arith}
+use mathlib.Core.Path.{_≡_, refl, sym, _∙_}
+use mathlib.Core.Bool.{Bool, true, false, not, cond, _||_}
+use mathlib.Core.List.{List, []}
+use lib.Dec.{eqb}
+use lib.ListN.{length, getD, drop}
+use lib.Ieee.{Float}
+use borrow.Author.Tests.{lt-leb, le-leb}
+use Rattle.arith.specs.declared.Vec2.{Vec2}
+use Rattle.arith.specs.Lists.{Side, sides, after, count, any}
+use Rattle.arith.specs.Polygon.{crosses, evenOdd}
+use Rattle.arith.proofs.ListLaws.{count-next, any-here, any-next, length-sides, sides-at}
+use Rattle.arith.proofs.RoundLaws.{after-less, odd, odd-here, odd-past}
+use Rattle.arith.proofs.RecordLaws.{length-tab, getD-tab, drop-end}
+use Rattle.lines_polygon.specs.Contains.{onEdge, contains}
+use Rattle.lines_polygon.specs.Vertices.{pairFrom, pairsFrom, sideFrom}
+
+-- ---- points in the area
+
+pub length-pairs : (floats : List Float) (at n : ℕ) → length (pairsFrom floats at n) ≡ n
+unfolding pairsFrom
+length-pairs floats at n = length-tab (λ k. pairFrom floats (at + 2 * k)) n
+
+pub pairs-at : (floats : List Float) (at n k : ℕ) (d : Vec2) → k < n → getD (pairsFrom floats at n) k d ≡ pairFrom floats (at + 2 * k)
+unfolding pairsFrom
+pairs-at floats at n k d h = getD-tab (λ k. pairFrom floats (at + 2 * k)) n k d h
+
+-- ---- on a side among those to come, or an odd number of crossings, those so far and those to come
+
+unfoldable pub rest : Vec2 → List (Side Vec2) → Bool → ℕ → Bool
+rest q l inside i = any (onEdge q) (drop i l) || odd inside (count (crosses q) (drop i l))
+
+-- ---- the sides of a polygon in the area
+
+module _ (floats : List Float) (at n : ℕ) where
+  abbrev pub sidesIn : List (Side Vec2)
+  sidesIn = sides (pairsFrom floats at n)
+
+  long : length sidesIn ≡ n
+  long = length-sides (pairsFrom floats at n) ∙ length-pairs floats at n
+
+  pub sides-past : (i : ℕ) → n ≤ i → drop i sidesIn ≡ []
+  sides-past i h = drop-end sidesIn i (omega (arith, long))
+
+  module _ (i : ℕ) (more : i < n) where
+    pub in-range : i < length sidesIn
+    in-range = rw long more
+
+    pub side-at : getD sidesIn i (sideFrom floats at n 0) ≡ sideFrom floats at n i
+    unfolding sideFrom
+    side-at =
+        sides-at (pairsFrom floats at n) i (pairFrom floats 0) (sideFrom floats at n 0) (rw (length-pairs floats at n) more)
+        ∙ rw (length-pairs floats at n, pairs-at floats at n i (pairFrom floats 0) more, pairs-at floats at n (after n i) (pairFrom floats 0) (after-less n i more))
+
+-- ---- one turn
+
+module _ (q : Vec2) (floats : List Float) (at n : ℕ) where
+  pub few-sides : n < 3 → false ≡ contains q (pairsFrom floats at n)
+  unfolding contains
+  few-sides h = rw (length-pairs floats at n, lt-leb 3 n h)
+
+  pub rest-start : 3 ≤ n → rest q (sidesIn floats at n) false 0 ≡ contains q (pairsFrom floats at n)
+  unfolding rest contains odd evenOdd
+  rest-start h = rw (length-pairs floats at n, le-leb 3 n h, zero-add (count (crosses q) (sidesIn floats at n)))
+
+  pub rest-end : (i : ℕ) (inside r : Bool) → n ≤ i → rest q (sidesIn floats at n) inside i ≡ r → inside ≡ r
+  unfolding rest odd count any
+  rest-end i inside r h e =
+      let none = sides-past floats at n i h in
+      by inside ∙ (rw none at e)
+    where
+      by : (b : Bool) → b ≡ eqb ((cond b 1 0 + 0) % 2) 1
+      by true = refl
+      by false = refl
+
+  module _ (i : ℕ) (more : i < n) where
+    module _ (inside r : Bool) (a b : Vec2) (es : sideFrom floats at n i ≡ record { from = a; to = b }) (inv : rest q (sidesIn floats at n) inside i ≡ r) where
+      side-now : getD (sidesIn floats at n) i (sideFrom floats at n 0) ≡ record { from = a; to = b }
+      side-now = side-at floats at n i more ∙ es
+
+      pub rest-here : (e : Bool) → e ≡ onEdge q (record { from = a; to = b }) → e ≡ true → true ≡ r
+      unfolding rest
+      rest-here e h t = rw (any-here (sidesIn floats at n) i (sideFrom floats at n 0) (in-range floats at n i more) (onEdge q) (rw side-now (sym h ∙ t))) at inv
+
+      next : (e : Bool) → e ≡ onEdge q (record { from = a; to = b }) → e ≡ false → (c : Bool) → c ≡ crosses q (record { from = a; to = b })
+          → any (onEdge q) (drop (i + 1) (sidesIn floats at n)) || odd inside (cond c 1 0 + count (crosses q) (drop (i + 1) (sidesIn floats at n))) ≡ r
+      unfolding rest
+      next e h t c hc =
+          rw (hc, ← side-now)
+          (rw (any-next (sidesIn floats at n) i (sideFrom floats at n 0) (in-range floats at n i more) (onEdge q) (rw side-now (sym h ∙ t)), count-next (sidesIn floats at n) i (sideFrom floats at n 0) (in-range floats at n i more) (crosses q)) at inv)
+
+      pub rest-toggled : (e : Bool) → e ≡ onEdge q (record { from = a; to = b }) → e ≡ false → (c inside′ : Bool) → c ≡ crosses q (record { from = a; to = b })
+          → c ≡ true → inside′ ≡ not inside → rest q (sidesIn floats at n) inside′ (i + 1) ≡ r
+      unfolding rest
+      rest-toggled e h t c inside′ hc tc ei =
+          rw (ei, ← (odd-here inside (count (crosses q) (drop (i + 1) (sidesIn floats at n))))) (rw tc at (next e h t c hc))
+
+      pub rest-kept : (e : Bool) → e ≡ onEdge q (record { from = a; to = b }) → e ≡ false → (c inside′ : Bool) → c ≡ crosses q (record { from = a; to = b })
+          → c ≡ false → inside′ ≡ inside → rest q (sidesIn floats at n) inside′ (i + 1) ≡ r
+      unfolding rest
+      rest-kept e h t c inside′ hc tc ei =
+          rw (ei, ← (odd-past inside (count (crosses q) (drop (i + 1) (sidesIn floats at n))))) (rw tc at (next e h t c hc))

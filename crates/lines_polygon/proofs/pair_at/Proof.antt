@@ -1,0 +1,28 @@
+use mathlib.Core.Path.{refl}
+use Rattle.lines_polygon.specs.Vertices.{pairFrom}
+use borrow.Author.Needs.{needs}
+use Rattle.lines_polygon.proofs.pair_at.Statement.{statement}
+use Rattle.lines_polygon.proofs.pair_at.Tie as tie
+
+mul-t3 : tie.Need-mul-t3
+mul-t3 c = search needs
+
+shared-slice-read-t5 : tie.Need-shared-slice-read-t5
+shared-slice-read-t5 c = search needs
+
+add-t6 : tie.Need-add-t6
+add-t6 c = search needs
+
+mul-t7 : tie.Need-mul-t7
+mul-t7 c = search needs
+
+shared-slice-read-t9 : tie.Need-shared-slice-read-t9
+shared-slice-read-t9 c = search needs
+
+returns : tie.Need-returns
+unfolding pairFrom
+returns c = refl
+
+pub pair-at-spec : {M : Type 1} → statement M
+pair-at-spec =
+    tie.close (tie.spec mul-t3 shared-slice-read-t5 add-t6 mul-t7 shared-slice-read-t9 returns)

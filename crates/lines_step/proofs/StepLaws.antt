@@ -1,0 +1,83 @@
+-- How the promises of the parts of a step make its own. Assumes nothing.
+use Prim.Native.Nat.{ℕ}
+use mathlib.Core.Path.{_≡_, sym, _∙_}
+use mathlib.Core.Bool.{Bool, true, false}
+use mathlib.Core.List.{List}
+use lib.Ieee.{Float}
+use Rattle.arith.specs.F64.{_⊕_, _≺_, finite}
+use Rattle.arith.specs.Vec.{plus, minus, times, norm}
+use Rattle.arith.specs.declared.Vec3.{Vec3}
+use Rattle.arith.specs.declared.Found.{Found}
+use Rattle.arith.specs.declared.Found.the-variants.{At, Nothing}
+use Rattle.reading.specs.declared.Values.{Values}
+use Rattle.reading.specs.Asks.{Asks, give, _>>=_}
+use Rattle.reading.specs.Served.{Served}
+use Rattle.reading.proofs.ServedLaws.{served-give, served-then}
+use Rattle.mesh_area.specs.declared.Sizes.{Sizes}
+use Rattle.lines_locate.specs.declared.Grid.{Grid}
+use Rattle.lines_locate.specs.Locate.{locate}
+use Rattle.lines_locate.specs.Field.{StreamlineField}
+use Rattle.lines_locate.specs.Layout.{cellPolygonsIn, fieldIn}
+use Rattle.lines_velocity.specs.declared.Vector.{Vector}
+use Rattle.lines_velocity.specs.declared.Vector.the-variants.{Here, Nowhere}
+use Rattle.lines_velocity.specs.Velocity.{locateIn, from, directionAt}
+use Rattle.lines_velocity.proofs.VelocityLaws.{served-lost, served-found, locate-in}
+use Rattle.lines_step.specs.declared.Step.{Step}
+use Rattle.lines_step.specs.declared.Step.the-variants.{Next, Ended}
+use Rattle.lines_step.specs.declared.StreamlineOptions.{StreamlineOptions}
+use Rattle.lines_step.specs.RungeKutta.{rungeKutta}
+use Rattle.lines_step.specs.Step.{hereIf, rk4Step, kept, step}
+
+-- a direction taken a way along another one, k
+module _ (direction next : Vec3 → Asks Vector) (p k : Vec3) (h : Float) {v : ℕ → Values} {m m′ : List ℕ} {r : Vector} {way q : Vec3} (ew : way ≡ times k h) (eq : q ≡ plus p way)
+    (d : Served (direction q) v m m′ r) where
+  pub along-lost : r ≡ Nowhere → Served (direction (plus p (times k h)) >>= from next) v m m′ Nowhere
+  along-lost e = served-lost next (rw (eq, ew) at d) e
+
+  pub along-found : {m″ : List ℕ} {u : Vec3} {a : Vector} → r ≡ Here u → Served (next u) v m′ m″ a → Served (direction (plus p (times k h)) >>= from next) v m m″ a
+  along-found e s = served-found next (rw (eq, ew) at d) e s
+
+module _ (g : Grid) (s : Sizes) (w : List ℕ) (f : List Float) (v : ℕ → Values) (m m′ : List ℕ) (still h : Float) (p : Vec3) (r : Vector)
+    (d : Served (rungeKutta (directionAt (fieldIn g s w f) still) h p) v m m′ r) where
+  pub rk4-lost : r ≡ Nowhere → Served (rk4Step (fieldIn g s w f) still h p) v m m′ Nowhere
+  unfolding rk4Step
+  rk4-lost e = served-lost (λ q. give (hereIf (locateIn (fieldIn g s w f) q) q)) d e
+
+  module _ (q : Vec3) (l : Found) (e : r ≡ Here q) (el : l ≡ locate g (cellPolygonsIn s w f) q) where
+    pub rk4-outside : l ≡ Nothing → Served (rk4Step (fieldIn g s w f) still h p) v m m′ Nowhere
+    unfolding rk4Step hereIf
+    rk4-outside n =
+        served-found (λ q. give (hereIf (locateIn (fieldIn g s w f) q) q)) d e (rw (sym (locate-in g s w f q l el) ∙ n) served-give)
+
+    pub rk4-inside : (i : ℕ) → l ≡ At i → Served (rk4Step (fieldIn g s w f) still h p) v m m′ (Here q)
+    unfolding rk4Step hereIf
+    rk4-inside i n =
+        served-found (λ q. give (hereIf (locateIn (fieldIn g s w f) q) q)) d e (rw (sym (locate-in g s w f q l el) ∙ n) served-give)
+
+module _ (f : StreamlineField) (v : ℕ → Values) (m m′ : List ℕ) (o : StreamlineOptions) (h : Float) (p : Vec3) (total : Float) (r : Vector)
+    (d : Served (rk4Step f (o .«stagnation_speed») h p) v m m′ r) where
+  pub step-ended : r ≡ Nowhere → Served (step f o h p total) v m m′ Ended
+  unfolding step kept
+  step-ended e =
+      let s : Served (rk4Step f (o .«stagnation_speed») h p >>= λ q. give (kept (o .«max_length») p total q)) v m m′ Ended =
+      served-then (λ q. give (kept (o .«max_length») p total q)) (rw e at d) served-give
+      in
+      s
+
+  pub step-kept : (q : Vec3) (x : Step) → r ≡ Here q → x ≡ kept (o .«max_length») p total (Here q) → Served (step f o h p total) v m m′ x
+  unfolding step
+  step-kept q x e k = rw k (served-then (λ q. give (kept (o .«max_length») p total q)) (rw e at d) served-give)
+
+-- what is kept of a point q, by the tests of its segment
+module _ (longest total segment : Float) (p q offset : Vec3) (is-finite : Bool) (eo : offset ≡ minus q p) (es : segment ≡ norm offset) (ef : is-finite ≡ finite segment) where
+  pub kept-too-long : is-finite ≡ true → (longest ≺ total ⊕ segment) ≡ true → Ended ≡ kept longest p total (Here q)
+  unfolding kept
+  kept-too-long h k = rw (← eo, ← es, ← ef, h, k)
+
+  pub kept-on : is-finite ≡ true → (longest ≺ total ⊕ segment) ≡ false → Next q segment ≡ kept longest p total (Here q)
+  unfolding kept
+  kept-on h k = rw (← eo, ← es, ← ef, h, k)
+
+  pub kept-endless : is-finite ≡ false → Ended ≡ kept longest p total (Here q)
+  unfolding kept
+  kept-endless h = rw (← eo, ← es, ← ef, h)

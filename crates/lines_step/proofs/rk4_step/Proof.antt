@@ -1,0 +1,57 @@
+use Rattle.lines_step.proofs.StepLaws.{rk4-lost, rk4-outside, rk4-inside}
+use borrow.Author.Needs.{needs}
+use Rattle.lines_step.proofs.rk4_step.Statement.{statement}
+use Rattle.lines_step.proofs.rk4_step.Tie as tie
+
+runge-kutta-requires : tie.Need-runge-kutta-requires
+runge-kutta-requires c κs = search needs
+
+enum-known-q : tie.Need-enum-known-q
+enum-known-q c = search needs
+
+enum-told : tie.Need-enum-told
+enum-told c = search needs
+
+same-length : tie.Need-same-length
+same-length c = search needs
+
+returns : tie.Need-returns
+returns c = rk4-lost _ _ _ _ _ _ _ _ _ _ _ (c .before .before .before .before .runge-kutta .ensures) (c .enum-told .given .1)
+
+locate-cell-requires : tie.Need-locate-cell-requires
+locate-cell-requires c κs = search needs
+
+enum-told-2 : tie.Need-enum-told-2
+enum-told-2 c = search needs
+
+enum-told-3 : tie.Need-enum-told-3
+enum-told-3 c = search needs
+
+same-length-2 : tie.Need-same-length-2
+same-length-2 c = search needs
+
+returns-2 : tie.Need-returns-2
+returns-2 c = rk4-outside _ _ _ _ _ _ _ _ _ _ _ (c .before .before .before .before .before .before .before .before .runge-kutta .ensures) _ _ (c .before .before .before .before .q .given .1) (c .before .before .locate-cell .ensures) (c .enum-told3 .given .1)
+
+same-length-3 : tie.Need-same-length-3
+same-length-3 c = search needs
+
+returns-3 : tie.Need-returns-3
+returns-3 c = rk4-inside _ _ _ _ _ _ _ _ _ _ _ (c .before .before .before .before .before .before .before .before .runge-kutta .ensures) _ _ (c .before .before .before .before .q .given .1) (c .before .before .locate-cell .ensures) _ (c .enum-told2 .given .1)
+
+pub rk4-step-spec : {M : Type 1} → statement M
+rk4-step-spec =
+    tie.close
+    (tie.spec
+    runge-kutta-requires
+    enum-known-q
+    enum-told
+    same-length
+    returns
+    locate-cell-requires
+    enum-told-2
+    enum-told-3
+    same-length-2
+    returns-2
+    same-length-3
+    returns-3)

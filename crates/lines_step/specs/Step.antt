@@ -1,0 +1,37 @@
+-- `rk4_step`, and one step of a line: "One step answers the next point with its segment length, or that the line ends."
+use mathlib.Core.Bool.{Bool, true, false, not, cond, _&&_}
+use lib.Ieee.{Float}
+use Rattle.arith.specs.F64.{_⊕_, _≺_, finite}
+use Rattle.arith.specs.Vec.{minus, norm}
+use Rattle.arith.specs.declared.Vec3.{Vec3}
+use Rattle.arith.specs.declared.Found.{Found}
+use Rattle.arith.specs.declared.Found.the-variants.{At, Nothing}
+use Rattle.reading.specs.Asks.{Asks, give, _>>=_}
+use Rattle.lines_locate.specs.Field.{StreamlineField}
+use Rattle.lines_velocity.specs.declared.Vector.{Vector}
+use Rattle.lines_velocity.specs.declared.Vector.the-variants.{Here, Nowhere}
+use Rattle.lines_velocity.specs.Velocity.{locateIn, from, directionAt}
+use Rattle.lines_step.specs.declared.Step.{Step}
+use Rattle.lines_step.specs.declared.Step.the-variants.{Next, Ended}
+use Rattle.lines_step.specs.declared.StreamlineOptions.{StreamlineOptions}
+use Rattle.lines_step.specs.RungeKutta.{rungeKutta}
+
+-- the point itself, where it locates
+unfoldable pub hereIf : Found → Vec3 → Vector
+hereIf Nothing p = Nowhere
+hereIf (At i) p = Here p
+
+-- `rk4_step`: a Runge-Kutta step that ends in a cell
+unfoldable pub rk4Step : StreamlineField → Float → Float → Vec3 → Asks Vector
+rk4Step f still h p = rungeKutta (directionAt f still) h p >>= from (λ q. give (hereIf (locateIn f q) q))
+
+-- "a total equal to max_length is kept"
+unfoldable pub kept : Float → Vec3 → Float → Vector → Step
+kept longest p total Nowhere = Ended
+kept longest p total (Here q) =
+    let segment = norm (minus q p) in
+    cond (finite segment && not (longest ≺ total ⊕ segment)) (Next q segment) Ended
+
+-- one step, the line being `total` long at p
+unfoldable pub step : StreamlineField → StreamlineOptions → Float → Vec3 → Float → Asks Step
+step f o h p total = rk4Step f (o .«stagnation_speed») h p >>= λ q. give (kept (o .«max_length») p total q)

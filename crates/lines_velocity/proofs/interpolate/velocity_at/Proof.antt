@@ -1,0 +1,37 @@
+use Rattle.lines_velocity.proofs.VelocityLaws.{velocity-nowhere, velocity-here}
+use borrow.Author.Needs.{needs}
+use Rattle.lines_velocity.proofs.interpolate.velocity_at.Statement.{statement}
+use Rattle.lines_velocity.proofs.interpolate.velocity_at.Tie as tie
+
+locate-cell-requires : tie.Need-locate-cell-requires
+locate-cell-requires c κs = search needs
+
+enum-known-i : tie.Need-enum-known-i
+enum-known-i c = search needs
+
+enum-told : tie.Need-enum-told
+enum-told c = search needs
+
+returns : tie.Need-returns
+returns c = velocity-nowhere _ _ _ _ _ _ _ (c .before .before .locate-cell .ensures) (c .enum-told .given .1)
+
+velocity-in-requires : tie.Need-velocity-in-requires
+velocity-in-requires c κs = search needs
+
+same-length : tie.Need-same-length
+same-length c = search needs
+
+returns-2 : tie.Need-returns-2
+returns-2 c = velocity-here _ _ _ _ _ _ _ _ (c .before .before .before .before .before .before .before .locate-cell .ensures) (c .before .before .before .before .before .i .given .1) (c .before .before .velocity-in .ensures _)
+
+pub velocity-at-spec : {M : Type 1} → statement M
+velocity-at-spec =
+    tie.close
+    (tie.spec
+    locate-cell-requires
+    enum-known-i
+    enum-told
+    returns
+    velocity-in-requires
+    same-length
+    returns-2)

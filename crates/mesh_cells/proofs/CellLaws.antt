@@ -1,0 +1,453 @@
+-- One cell, and all of them: what the parts of `fill_cell`, `add_cell` and `fill_cells` leave, put together. Assumes nothing.
+use Prim.Native.Nat.{ℕ, zero, suc, _+_, _-_, _*_, _≤_, _<_}
+use native.Mathlib.Decide.{ℕ-discrete}
+use native.Mathlib.Nat.{sub-zero}
+use native.Mathlib.Omega.{arith}
+use mathlib.Core.Path.{_≡_, refl, ap, ap₂, sym, _∙_}
+use mathlib.Core.Bool.{Bool, true, false}
+use mathlib.Core.List.{List, [], _∷_, _++_}
+use mathlib.Core.Logic.{inl}
+use lib.ListN.{length, getD, take, drop, drop-of-length-le}
+use lib.Seq.{getD-take, take-take}
+use lib.Ieee.{Float, nan}
+use Rattle.arith.specs.Lists.{foldl}
+use Rattle.arith.specs.Records.{tab, puts}
+use Rattle.arith.specs.declared.Vec3.{Vec3}
+use Rattle.arith.proofs.ListLaws.{foldl-next}
+use Rattle.arith.proofs.RecordLaws.{length-tab, tab-next, tab-same, length-puts, take-puts, getD-puts-out, getD-puts-at}
+use Rattle.reading.specs.Result.{refused, fine, _>>=_, refuse, steps}
+use Rattle.reading.proofs.ResultLaws.{steps-next, steps-refused}
+use Rattle.case_definitions.specs.Faces.{Definition, polygon, facesOf, faceCount, addFaceCount, facesCounted}
+use Rattle.case_definitions.specs.Definitions.{definition, definitions}
+use Rattle.case_definitions.specs.Walker.{readOf, definitionAt, headOf, stepAt}
+use Rattle.case_definitions.specs.declared.Head.{Head}
+use Rattle.case_definitions.specs.declared.Cursor.{Cursor}
+use Rattle.case_definitions.specs.declared.Step.the-variants.{Record, Wrong}
+use Rattle.case_definitions.proofs.RecordLaws.{steps-to}
+use Rattle.case_definitions.proofs.FaceLaws.{headed}
+use Rattle.case_definitions.proofs.Walking.{length-definitions, never-wrong, CellRead, cell-read, head-faces}
+use Rattle.mesh_area.specs.declared.Sizes.{Sizes}
+use Rattle.mesh_area.specs.Layout.{listAt, vecFrom, facesIn, meshWords}
+use Rattle.mesh_face_table.specs.Chains.{Chained}
+use Rattle.mesh_face_table.proofs.RecordParts.{read-count}
+use Rattle.mesh_faces.specs.Using.{sized}
+use Rattle.mesh_faces.proofs.AreaLaws.{chained-kept, faces-kept}
+use Rattle.mesh_points.specs.Collect.{wrongKind, missing, checked, referenceCase}
+use Rattle.mesh_points.specs.declared.Reference.{Reference}
+use Rattle.mesh_points.specs.declared.Reference.the-variants as Reference
+use Rattle.mesh_cells.specs.Cells.{Draft, Drafts, addFaceOf, addCell, drafts}
+use Rattle.mesh_cells.specs.Drafting as Drafting
+use Rattle.mesh_cells.specs.Drafting.{cellWord, draftIn, draftsIn, Lists, Adding}
+use Rattle.mesh_cells.specs.Steps as Steps
+use Rattle.mesh_cells.specs.Steps.{growingIn, addFaces, Listed, FacesReady, FacesAdding, CellPut, CellReady, CellStored, CellFilling, Filled, read, definedIn, Addable, CellTurn, CellAdding}
+use Rattle.mesh_cells.specs.declared.Drafted.{Drafted}
+use Rattle.mesh_cells.specs.declared.Drafted.the-variants as Drafted
+use Rattle.mesh_cells.specs.declared.Progress.{Progress}
+use Rattle.mesh_cells.specs.declared.CellAdded.{CellAdded}
+use Rattle.mesh_cells.specs.declared.CellAdded.the-variants as CellAdded
+use Rattle.mesh_cells.proofs.FaceLaws.{kept-at, lent-sized, lent-floats-sized}
+
+-- ---- `fill_cell`
+
+-- what stands before a stored run of at least b stays
+front-puts : {A : Type 0} (l l′ : List A) (b at : ℕ) (vs : List A) → l′ ≡ puts l at vs → b ≤ at → take b l′ ≡ take b l
+front-puts l l′ b at vs e h =
+    sym (take-take b at l′ h) ∙ ap (take b) (ap (take at) e ∙ take-puts l at vs) ∙ take-take b at l h
+
+module _ (ws : List ℕ) (s : Sizes) (words : List ℕ) (floats : List Float) (h : Head) (i first : ℕ) (rd : CellReady ws s words floats h i first)
+    (words₁ : List ℕ) (floats₁ : List Float) (at f k : ℕ) (reference : Vec3) (put : CellPut s words words₁ floats floats₁ i at f k reference) where
+  long-words : length words₁ ≡ length words
+  long-words = ap length (put .words-put) ∙ length-puts words (16 * s .slots + 8 * i) (at ∷ f ∷ k ∷ 0 ∷ [])
+
+  long-floats : length floats₁ ≡ length floats
+  long-floats = ap length (put .floats-put) ∙ length-puts floats (12 * s .slots + 4 * i) (reference .x ∷ reference .y ∷ reference .z ∷ [])
+
+  front-words : take (13 * s .slots) words₁ ≡ take (13 * s .slots) words
+  front-words = front-puts words words₁ (13 * s .slots) (16 * s .slots + 8 * i) (at ∷ f ∷ k ∷ 0 ∷ []) (put .words-put) (omega arith)
+
+  front-floats : take (12 * s .slots) floats₁ ≡ take (12 * s .slots) floats
+  front-floats = front-puts floats floats₁ (12 * s .slots) (12 * s .slots + 4 * i) (reference .x ∷ reference .y ∷ reference .z ∷ []) (put .floats-put) (omega arith)
+
+  pub cell-faces : FacesReady ws s words₁ floats₁ h i first
+  cell-faces =
+      record {
+        headed = rd .headed;
+        lent-words = lent-sized s words words₁ (s .faces) (rd .lent-words) long-words (rd .lent-words .few-faces);
+        lent-floats = lent-floats-sized s floats floats₁ (s .faces) (rd .lent-floats) long-floats (rd .lent-floats .few-faces);
+        chained = chained-kept s words words₁ (rd .lent-words) long-words (rd .chained) front-words;
+        behind = rd .behind;
+        room = rd .room;
+        cells-few = omega (arith, rd .cell, rd .lent-words .few-cells);
+      }
+
+  word-put : (j : ℕ) → j < 4 → getD words₁ (16 * s .slots + 8 * i + j) 0 ≡ getD (at ∷ f ∷ k ∷ 0 ∷ []) j 0
+  word-put j b =
+      ap (λ (l : List ℕ). getD l (16 * s .slots + 8 * i + j) 0) (put .words-put)
+      ∙ getD-puts-at words (16 * s .slots + 8 * i) (at ∷ f ∷ k ∷ 0 ∷ []) j 0 b (omega (arith, rd .lent-words .long, rd .cell))
+
+  word-before : (j : ℕ) → j < 16 * s .slots + 8 * i → getD words₁ j 0 ≡ getD words j 0
+  word-before j b =
+      ap (λ (l : List ℕ). getD l j 0) (put .words-put) ∙ getD-puts-out words (16 * s .slots + 8 * i) (at ∷ f ∷ k ∷ 0 ∷ []) j 0 (inl b)
+
+  float-put : (j : ℕ) → j < 3 → getD floats₁ (12 * s .slots + 4 * i + j) nan ≡ getD (reference .x ∷ reference .y ∷ reference .z ∷ []) j nan
+  float-put j b =
+      ap (λ (l : List Float). getD l (12 * s .slots + 4 * i + j) nan) (put .floats-put)
+      ∙ getD-puts-at floats (12 * s .slots + 4 * i) (reference .x ∷ reference .y ∷ reference .z ∷ []) j nan b (omega (arith, rd .lent-floats .long, rd .cell))
+
+  float-before : (j : ℕ) → j < 12 * s .slots + 4 * i → getD floats₁ j nan ≡ getD floats j nan
+  float-before j b =
+      ap (λ (l : List Float). getD l j nan) (put .floats-put)
+      ∙ getD-puts-out floats (12 * s .slots + 4 * i) (reference .x ∷ reference .y ∷ reference .z ∷ []) j nan (inl b)
+
+  module _ (words′ : List ℕ) (floats′ : List Float) (n : ℕ) (l : Listed s words₁ words′ floats₁ floats′ first (h .faces) n) (ea : at ≡ h .at) (ef : f ≡ first) (ek : k ≡ h .faces) where
+    high : (j : ℕ) → 16 * s .slots ≤ j → getD words′ j 0 ≡ getD words₁ j 0
+    high j b =
+        let e : 13 * s .slots + (j - 13 * s .slots) ≡ j = omega arith in
+        rw e at (l .after (j - 13 * s .slots) (omega (arith, rd .room)))
+
+    float-high : (j : ℕ) → 12 * s .slots ≤ j → getD floats′ j nan ≡ getD floats₁ j nan
+    float-high j b =
+        let e : 12 * s .slots + (j - 12 * s .slots) ≡ j = omega arith in
+        rw e at (kept-at floats₁ floats′ (12 * s .slots) (j - 12 * s .slots) nan (l .floats-kept))
+
+    stored-word : (j : ℕ) → j < 4 → cellWord s words′ i j ≡ getD (at ∷ f ∷ k ∷ 0 ∷ []) j 0
+    stored-word j b = high (16 * s .slots + 8 * i + j) (omega arith) ∙ word-put j b
+
+    stored : CellStored s words words′ floats floats′ h i first n reference
+    unfolding vecFrom
+    stored =
+        let zero-first : 12 * s .slots + 4 * i + 0 ≡ 12 * s .slots + 4 * i = omega arith in
+        record {
+          chained = l .chained;
+          behind = l .behind;
+          position = stored-word 0 (omega arith) ∙ ea;
+          start = stored-word 1 (omega arith) ∙ ef;
+          count = stored-word 2 (omega arith) ∙ ek;
+          alone = stored-word 3 (omega arith);
+          averaged =
+              rw (float-high (12 * s .slots + 4 * i) (omega arith), float-high (12 * s .slots + 4 * i + 1) (omega arith), float-high (12 * s .slots + 4 * i + 2) (omega arith))
+              (rw (rw zero-first at (float-put 0 (omega arith)), float-put 1 (omega arith), float-put 2 (omega arith)));
+          lists-kept = λ j b. l .before j b ∙ word-before (13 * s .slots + j) (omega (arith, rd .room));
+          cells-kept = λ j m b c. high (16 * s .slots + 8 * j + m) (omega arith) ∙ word-before (16 * s .slots + 8 * j + m) (omega arith);
+          floats-kept = λ j b.
+              rw (float-high (12 * s .slots + 4 * j) (omega arith), float-high (12 * s .slots + 4 * j + 1) (omega arith), float-high (12 * s .slots + 4 * j + 2) (omega arith))
+              (rw (float-before (12 * s .slots + 4 * j) (omega arith), float-before (12 * s .slots + 4 * j + 1) (omega arith), float-before (12 * s .slots + 4 * j + 2) (omega arith)));
+        }
+
+  pub cell-filled : (d : ℕ) (ps : List Vec3) (words′ : List ℕ) (floats′ : List Float) (r : Drafted) → at ≡ h .at → f ≡ first → k ≡ h .faces
+      → FacesAdding d ps ws i reference s words₁ words′ floats₁ floats′ h first r → CellFilling d ps ws reference s words words′ floats floats′ h i first r
+  cell-filled d ps words′ floats′ r ea ef ek (Steps.FacesAdding.added n e l) =
+      let same = faces-kept s words words₁ (rd .lent-words) long-words (rd .chained) front-words floats floats₁ front-floats in
+      Steps.CellFilling.filled n (rw same at e) (stored words′ floats′ n l ea ef ek)
+  cell-filled d ps words′ floats′ r ea ef ek (Steps.FacesAdding.refusing j e) =
+      let same = faces-kept s words words₁ (rd .lent-words) long-words (rd .chained) front-words floats floats₁ front-floats in
+      Steps.CellFilling.refusing j (rw same at e)
+
+-- ---- the drafts in the area, one more
+
+-- no list reaches past the end
+lists-below : (ws : List ℕ) (s : Sizes) (words : List ℕ) (n end : ℕ) → Lists ws s words n end → (left j : ℕ) → j + suc left ≡ n → cellWord s words j 1 + cellWord s words j 2 ≤ end
+lists-below ws s words n end l zero j e = let w = l .last j (omega arith) in omega arith
+lists-below ws s words n end l (suc left) j e =
+    let w = lists-below ws s words n end l left (j + 1) (omega arith) in
+    let v = l .next j (omega arith) in
+    omega arith
+
+module _ (ws : List ℕ) (s : Sizes) (words words′ : List ℕ) (floats floats′ : List Float) (h : Head) (i first n m : ℕ) (reference : Vec3)
+    (l : Lists ws s words i first) (c : CellStored (sized s m) words words′ floats floats′ h i first n reference) where
+  draft-kept : (j : ℕ) → j < i → draftIn ws s words′ floats′ j ≡ draftIn ws s words floats j
+  unfolding draftIn listAt
+  draft-kept j b =
+      let below = lists-below ws s words i first l (i - (j + 1)) j (omega arith) in
+      let list : tab (λ k. getD words′ (13 * s .slots + cellWord s words j 1 + k) 0) (cellWord s words j 2) ≡ tab (λ k. getD words (13 * s .slots + cellWord s words j 1 + k) 0) (cellWord s words j 2) =
+      tab-same _ _ (cellWord s words j 2)
+      (λ k w.
+      let e : 13 * s .slots + (cellWord s words j 1 + k) ≡ 13 * s .slots + cellWord s words j 1 + k = omega arith in
+      rw e at (c .lists-kept (cellWord s words j 1 + k) (omega arith)))
+      in
+      rw (c .cells-kept j 0 b (omega arith), c .cells-kept j 1 b (omega arith), c .cells-kept j 2 b (omega arith), c .floats-kept j b, list)
+
+  drafts-next : draftsIn ws s words′ floats′ (i + 1)
+      ≡ draftsIn ws s words floats i ++ record { definition = definitionAt ws (h .at); faces = listAt words′ (13 * s .slots + first) (h .faces); reference = reference } ∷ []
+  unfolding draftsIn draftIn definitionAt
+  drafts-next =
+      tab-next _ i
+      ∙ ap₂ (λ (a : List Draft) (b : Draft). a ++ b ∷ []) (tab-same _ _ i draft-kept) (rw (c .position, c .start, c .count, c .averaged))
+
+  -- cell j is the new one or one before it
+  module _ (few : h .faces ≤ 24) (all : h .faces ≡ length (facesOf (definitionAt ws (h .at)))) where
+    first-list : Dec (i ≡ 0) → cellWord s words′ 0 1 ≡ 0
+    first-list (yes e) = rw e at (c .start) ∙ l .none e
+    first-list (no ne) = c .cells-kept 0 1 (omega arith) (omega arith) ∙ l .first (omega arith)
+
+    next-list : (j : ℕ) → j + 1 < i + 1 → Dec (j + 1 ≡ i) → cellWord s words′ (j + 1) 1 ≡ cellWord s words′ j 1 + cellWord s words′ j 2
+    next-list j b (yes e) =
+        let q = c .start in
+        let q′ : cellWord s words′ (j + 1) 1 ≡ first = rw e q in
+        q′ ∙ l .last j e ∙ ap₂ (λ (a b : ℕ). a + b) (sym (c .cells-kept j 1 (omega arith) (omega arith))) (sym (c .cells-kept j 2 (omega arith) (omega arith)))
+    next-list j b (no ne) =
+        c .cells-kept (j + 1) 1 (omega arith) (omega arith)
+        ∙ l .next j (omega arith)
+        ∙ ap₂ (λ (a b : ℕ). a + b) (sym (c .cells-kept j 1 (omega arith) (omega arith))) (sym (c .cells-kept j 2 (omega arith) (omega arith)))
+
+    last-list : (j : ℕ) → j + 1 ≡ i + 1 → first + h .faces ≡ cellWord s words′ j 1 + cellWord s words′ j 2
+    last-list j e = let q : j ≡ i = omega arith in rw (q, c .start, c .count)
+
+    few-in : (j : ℕ) → j < i + 1 → Dec (j ≡ i) → cellWord s words′ j 2 ≤ 24
+    few-in j b (yes e) = rw (e, c .count) few
+    few-in j b (no ne) = rw (c .cells-kept j 2 (omega arith) (omega arith)) (l .few j (omega arith))
+
+    counts-in : (j : ℕ) → j < i + 1 → Dec (j ≡ i) → cellWord s words′ j 2 ≡ length (facesOf (readOf (definition (drop (cellWord s words′ j 0) ws))))
+    unfolding definitionAt draftIn
+    counts-in j b (yes e) = rw (e, c .count, c .position) all
+    counts-in j b (no ne) =
+        rw (c .cells-kept j 2 (omega arith) (omega arith), c .cells-kept j 0 (omega arith) (omega arith)) (l .counts j (omega arith))
+
+    lonely-in : (j : ℕ) → j < i + 1 → Dec (j ≡ i) → cellWord s words′ j 3 ≡ 0
+    lonely-in j b (yes e) = rw e (c .alone)
+    lonely-in j b (no ne) = c .cells-kept j 3 (omega arith) (omega arith) ∙ l .lonely j (omega arith)
+
+    lists-next : Lists ws s words′ (i + 1) (first + h .faces)
+    unfolding draftIn
+    lists-next =
+        record {
+          first = λ b. first-list (ℕ-discrete i 0);
+          next = λ j b. next-list j b (ℕ-discrete (j + 1) i);
+          last = last-list;
+          none = λ e. absurd (omega arith);
+          few = λ j b. few-in j b (ℕ-discrete j i);
+          counts = λ j b. counts-in j b (ℕ-discrete j i);
+          lonely = λ j b. lonely-in j b (ℕ-discrete j i);
+        }
+
+-- ---- `add_cell`
+
+-- what was counted is counted
+counted-least : (n : ℕ) (l : List Definition) → n ≤ foldl addFaceCount n l
+unfolding foldl addFaceCount
+counted-least n [] = omega arith
+counted-least n (d ∷ l) = let w = counted-least (n + faceCount d) l in omega arith
+
+-- refusals 11 and 12, then the faces
+cell-checked : (d : ℕ) (ps : List Vec3) (t : Drafts) (def : Definition) → addCell d ps t def
+    ≡ (checked d ps def >>= λ v. steps (addFaceOf d ps (length (t .cells)) v) (record { faces = t .faces; own = [] }) (facesOf def) >>= λ g.
+    fine (record { faces = g .faces; cells = t .cells ++ record { definition = def; faces = g .own; reference = v } ∷ [] }))
+unfolding addCell checked refuse _>>=_
+cell-checked d ps t def = by (wrongKind d def) (missing ps def) refl refl
+  where
+    by : (a b : Bool) → wrongKind d def ≡ a → missing ps def ≡ b → addCell d ps t def
+        ≡ (checked d ps def >>= λ v. steps (addFaceOf d ps (length (t .cells)) v) (record { faces = t .faces; own = [] }) (facesOf def) >>= λ g.
+        fine (record { faces = g .faces; cells = t .cells ++ record { definition = def; faces = g .own; reference = v } ∷ [] }))
+    by true b ea eb = rw ea
+    by false true ea eb = rw (ea, eb)
+    by false false ea eb = rw (ea, eb)
+
+-- the definitions are those that were read
+pub defined : (case : List ℕ) (points : ℕ) (ws words : List ℕ) (floats : List Float) (s : Sizes) → Addable case points ws words floats s → definitions (s .cells) ws ≡ fine (definedIn s ws)
+unfolding read
+defined case points ws words floats s a = a .right ∙ ap fine (sym (ap read (a .right)))
+
+module _ (d : ℕ) (ps : List Vec3) (case : List ℕ) (points : ℕ) (ws words : List ℕ) (floats : List Float) (s : Sizes) (i : ℕ) (p : Progress)
+    (t : CellTurn d ps case points ws words floats s i p) where
+  abbrev defs : List Definition
+  defs = definedIn s ws
+
+  many : length (definedIn s ws) ≡ s .cells
+  many = length-definitions (s .cells) ws (definedIn s ws) (defined case points ws words floats s (t .addable))
+
+  there : i < length (definedIn s ws)
+  there = omega (arith, many, t .cell)
+
+  pub cell-wrong : (k : ℕ) → Wrong k ≡ stepAt ws (p .at) → CellAdding d ps ws s words floats i (CellAdded.Refused k)
+  cell-wrong k e = absurd (never-wrong ws (s .cells) i (p .at) (definedIn s ws) (t .cell) many (t .filled .left) k e)
+
+  module _ (h : Head) (c : Cursor) (e : Record h c ≡ stepAt ws (p .at)) where
+    abbrev def : Definition
+    def = getD (definedIn s ws) i (polygon [])
+
+    cell : CellRead ws (s .cells) i (definedIn s ws) h (p .at) (c .at) (polygon [])
+    cell = cell-read ws (s .cells) i (p .at) (definedIn s ws) (t .cell) many (t .filled .left) h c (polygon []) e
+
+    position : h .at ≡ p .at
+    unfolding headOf
+    position = ap (λ (x : Head). x .at) (cell .head)
+
+    count : h .faces ≡ faceCount (getD (definedIn s ws) i (polygon []))
+    unfolding headOf
+    count = ap (λ (x : Head). x .faces) (cell .head)
+
+    same-def : getD (definedIn s ws) i (polygon []) ≡ definitionAt ws (h .at)
+    same-def = cell .same ∙ ap (definitionAt ws) (sym position)
+
+    counted : foldl addFaceCount (p .first + h .faces) (drop (i + 1) (definedIn s ws)) ≡ s .slots
+    unfolding addFaceCount
+    counted = rw count (sym (foldl-next (definedIn s ws) i (polygon []) there addFaceCount (p .first)) ∙ t .filled .counted)
+
+    room : p .first + h .faces ≤ s .slots
+    room = let w = counted-least (p .first + h .faces) (drop (i + 1) (definedIn s ws)) in omega (arith, counted)
+
+    pub cell-ready : CellReady ws (sized s (p .faces)) words floats h i (p .first)
+    cell-ready =
+        let many : p .faces ≤ s .slots = omega (arith, t .filled .behind, room) in
+        let step = steps-to ws (p .at) h c e in
+        record {
+          headed = headed ws (p .at) h c e;
+          lent-words = lent-sized s words words (p .faces) (t .addable .lent-words) refl many;
+          lent-floats = lent-floats-sized s floats floats (p .faces) (t .addable .lent-floats) refl many;
+          chained = t .filled .chained;
+          behind = t .filled .behind;
+          room = room;
+          cell = t .cell;
+          position = omega (arith, position, step .past, step .within, t .addable .words-few);
+        }
+
+    -- the cells so far
+    abbrev drafted : Drafts
+    drafted = record { faces = facesIn (sized s (p .faces)) words floats; cells = draftsIn ws s words floats i }
+
+    so-many : length (draftsIn ws s words floats i) ≡ i
+    unfolding draftsIn
+    so-many = length-tab (draftIn ws s words floats) i
+
+    refusing : (k : ℕ) → addCell d ps drafted (getD (definedIn s ws) i (polygon [])) ≡ refused k → drafts d ps (definedIn s ws) ≡ refused k
+    refusing k q = sym (t .filled .rest) ∙ steps-refused (definedIn s ws) i (polygon []) there (addCell d ps) drafted k q
+
+    module _ (r : Reference) (er : referenceCase r ≡ checked d ps (definitionAt ws (h .at))) where
+      pub cell-refused : (k : ℕ) (words′ : List ℕ) (floats′ : List Float) → r ≡ Reference.Refused k → CellAdding d ps ws s words′ floats′ i (CellAdded.Refused k)
+      unfolding referenceCase _>>=_
+      cell-refused k words′ floats′ q =
+          let x : checked d ps (definitionAt ws (h .at)) ≡ refused k = sym er ∙ ap referenceCase q in
+          Steps.CellAdding.refusing k (refusing k (rw (same-def, cell-checked, x)))
+
+      module _ (v : Vec3) (ev : r ≡ Reference.Point v) (words′ : List ℕ) (floats′ : List Float) where
+        with-faces : addCell d ps drafted (getD (definedIn s ws) i (polygon []))
+            ≡ (addFaces d ps ws i v (facesIn (sized s (p .faces)) words floats) h >>= λ g.
+            fine (record { faces = g .faces; cells = draftsIn ws s words floats i ++ record { definition = definitionAt ws (h .at); faces = g .own; reference = v } ∷ [] }))
+        unfolding referenceCase _>>=_
+        with-faces =
+            let x : checked d ps (definitionAt ws (h .at)) ≡ fine v = sym er ∙ ap referenceCase ev in
+            rw (same-def, cell-checked, x, so-many)
+
+        pub cell-not-filled : (x : Drafted) (k : ℕ) → CellFilling d ps ws v (sized s (p .faces)) words words′ floats floats′ h i (p .first) x → x ≡ Drafted.Refused k
+            → CellAdding d ps ws s words′ floats′ i (CellAdded.Refused k)
+        unfolding _>>=_
+        cell-not-filled x k (Steps.CellFilling.filled n q st) ex = absurd (let z : _≡_ {A = ℕ} 0 1 = cc in omega arith)
+        cell-not-filled x k (Steps.CellFilling.refusing j q) ex =
+            let z : j ≡ k = cc in
+            Steps.CellAdding.refusing k (refusing k (with-faces ∙ rw (q, z)))
+
+        filled-next : (n : ℕ) → addFaces d ps ws i v (facesIn (sized s (p .faces)) words floats) h ≡ fine (growingIn (sized s n) words′ floats′ (p .first) (h .faces))
+            → CellStored (sized s (p .faces)) words words′ floats floats′ h i (p .first) n v
+            → Filled d ps ws (definedIn s ws) s words′ floats′ (i + 1) (record { at = c .at; first = p .first + h .faces; faces = n })
+        unfolding _>>=_
+        filled-next n q st =
+            let f = head-faces ws h (headed ws (p .at) h c e) in
+            let more = drafts-next ws s words words′ floats floats′ h i (p .first) n (p .faces) v (t .filled .lists) st in
+            record {
+              chained = st .chained;
+              behind = st .behind;
+              counted = counted;
+              left = cell .rest;
+              lists = lists-next ws s words words′ floats floats′ h i (p .first) n (p .faces) v (t .filled .lists) st (f .few) (f .all);
+              rest =
+                  rw more
+                  (sym (steps-next (definedIn s ws) i (polygon []) there (addCell d ps) drafted _ (with-faces ∙ rw q))
+                  ∙ t .filled .rest);
+            }
+
+        pub cell-next : (x : Drafted) (n : ℕ) → CellFilling d ps ws v (sized s (p .faces)) words words′ floats floats′ h i (p .first) x → x ≡ Drafted.Faces n
+            → CellAdding d ps ws s words′ floats′ i (CellAdded.Next (record { at = c .at; first = p .first + h .faces; faces = n }))
+        cell-next x n (Steps.CellFilling.refusing j q) ex = absurd (let z : _≡_ {A = ℕ} 0 1 = cc in omega arith)
+        cell-next x n (Steps.CellFilling.filled m q st) ex =
+            let z : m ≡ n = cc in
+            Steps.CellAdding.next _ (filled-next n (rw z at q) (rw z at st))
+
+-- ---- `fill_cells`
+
+-- the area is lent as it was
+pub addable-kept : (case : List ℕ) (points : ℕ) (ws words₀ words : List ℕ) (floats₀ floats : List Float) (s : Sizes) → Addable case points ws words₀ floats₀ s
+    → length words ≡ length words₀ → length floats ≡ length floats₀ → Addable case points ws words floats s
+addable-kept case points ws words₀ words floats₀ floats s a lw lf =
+    record {
+      lent-words = lent-sized s words₀ words (s .faces) (a .lent-words) lw (a .lent-words .few-faces);
+      lent-floats = lent-floats-sized s floats₀ floats (s .faces) (a .lent-floats) lf (a .lent-floats .few-faces);
+      empty = a .empty;
+      points-few = a .points-few;
+      points-there = a .points-there;
+      words-few = a .words-few;
+      defs = a .defs;
+      right = a .right;
+      slots = a .slots;
+    }
+
+module _ (d : ℕ) (ps : List Vec3) (ws : List ℕ) (s : Sizes) (words : List ℕ) (floats : List Float) (i : ℕ) where
+  pub added-refused : (r : CellAdded) (k : ℕ) → CellAdding d ps ws s words floats i r → r ≡ CellAdded.Refused k → drafts d ps (definedIn s ws) ≡ refused k
+  added-refused r k (Steps.CellAdding.next q g) e = absurd (let z : _≡_ {A = ℕ} 0 1 = cc in omega arith)
+  added-refused r k (Steps.CellAdding.refusing j g) e = let z : j ≡ k = cc in rw z at g
+
+  pub added-next : (r : CellAdded) (q : Progress) → CellAdding d ps ws s words floats i r → r ≡ CellAdded.Next q → Filled d ps ws (definedIn s ws) s words floats (i + 1) q
+  added-next r q (Steps.CellAdding.refusing j g) e = absurd (let z : _≡_ {A = ℕ} 0 1 = cc in omega arith)
+  added-next r q (Steps.CellAdding.next x g) e = let z : x ≡ q = cc in rw z at g
+
+module _ (d : ℕ) (ps : List Vec3) (case : List ℕ) (points : ℕ) (ws words₀ : List ℕ) (floats₀ : List Float) (s : Sizes) (a : Addable case points ws words₀ floats₀ s) where
+  pub filled-start : Chained (sized s 0) words₀ → Filled d ps ws (definedIn s ws) s words₀ floats₀ 0 (record { at = 0; first = 0; faces = 0 })
+  unfolding facesCounted draftsIn facesIn tab drafts read
+  filled-start ch =
+      record {
+        chained = ch;
+        behind = omega arith;
+        counted = sym (a .slots ∙ ap facesCounted (sym (ap read (a .right))));
+        left = rw (sub-zero (s .cells)) (defined case points ws words₀ floats₀ s a);
+        lists =
+            record {
+              first = λ b. absurd (omega arith);
+              next = λ j b. absurd (omega arith);
+              last = λ j b. absurd (omega arith);
+              none = λ e. refl;
+              few = λ j b. absurd (omega arith);
+              counts = λ j b. absurd (omega arith);
+              lonely = λ j b. absurd (omega arith);
+            };
+        rest = refl;
+      }
+
+  module _ (defs : List Definition) (e : definitions (s .cells) ws ≡ fine defs) where
+    same : definedIn s ws ≡ defs
+    unfolding read
+    same = ap read e
+
+    pub drafts-refused : (words : List ℕ) (floats : List Float) (k : ℕ) → drafts d ps (definedIn s ws) ≡ refused k → Adding d ps ws defs s words floats (Drafted.Refused k)
+    drafts-refused words floats k q = Drafting.Adding.refusing (rw same at q)
+
+    module _ (words : List ℕ) (floats : List Float) (i : ℕ) (p : Progress) (lw : length words ≡ length words₀) (g : Filled d ps ws (definedIn s ws) s words floats i p)
+        (low : i ≤ s .cells) (end : s .cells ≤ i) where
+      none-left : drop i (definedIn s ws) ≡ []
+      none-left =
+          drop-of-length-le (definedIn s ws) {i = i} (omega (arith, length-definitions (s .cells) ws (definedIn s ws) (defined case points ws words₀ floats₀ s a)))
+
+      all-cells : i ≡ s .cells
+      all-cells = omega arith
+
+      all-slots : p .first ≡ s .slots
+      unfolding foldl
+      all-slots = rw (none-left, foldl) at (g .counted)
+
+      corner : (f : ℕ) → f < p .faces → getD words (12 * f + 0) 0 ≤ 8
+      unfolding meshWords
+      corner f b =
+          let few = g .chained .few in
+          let e : getD (meshWords (sized s (p .faces)) words) (12 * f + 0) 0 ≡ getD words (12 * f + 0) 0 = getD-take (16 * s .slots + 8 * s .cells) words (12 * f + 0) 0 (omega arith) in
+          rw (← e, read-count (meshWords (sized s (p .faces)) words) f) (g .chained .short f b)
+
+      pub drafts-done : Adding d ps ws defs s words floats (Drafted.Faces (p .faces))
+      unfolding steps
+      drafts-done =
+          let w : fine (record { faces = facesIn (sized s (p .faces)) words floats; cells = draftsIn ws s words floats i }) ≡ drafts d ps (definedIn s ws) = rw (none-left, steps) at (g .rest) in
+          Drafting.Adding.added (rw (same, all-cells) at (sym w))
+          (record {
+            table = refl;
+            few = g .chained .few;
+            corners = corner;
+            cells = refl;
+            lists = rw (all-cells, all-slots) at (g .lists);
+          })

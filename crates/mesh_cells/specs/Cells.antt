@@ -1,0 +1,51 @@
+-- The first pass of `from_cells`, cell by cell: "11 to 14 cell by cell: 11, then 12, then face by face 13 and 14".
+use Prim.Native.Nat.{ℕ}
+use mathlib.Core.List.{List, [], _∷_, _++_}
+use lib.ListN.{length}
+use Rattle.arith.specs.declared.Vec3.{Vec3}
+use Rattle.reading.specs.Result.{Result, fine, _>>=_, refuse, steps}
+use Rattle.case_definitions.specs.Faces.{Definition, facesOf}
+use Rattle.mesh_area.specs.Tables.{Face}
+use Rattle.mesh_geometry.specs.Faces.{Oriented, orientedFace}
+use Rattle.mesh_points.specs.Collect.{wrongKind, missing, referenceOf}
+use Rattle.mesh_face_table.specs.declared.Measured.{Measured}
+use Rattle.mesh_faces.specs.Table.{Placed, addFace}
+
+-- what was measured of a face that is turned outward
+unfoldable pub measuredFrom : Oriented → Measured
+measuredFrom o = record { centre = o .centre; area = o .area; normal = o .normal; «area_vector» = o .areaVector }
+
+-- the face table, and the numbers of the present cell's faces so far
+pub record Growing : Type 0 where
+  pub faces : List Face
+  pub own : List ℕ
+
+-- refusals 13 and 14, "face by face"
+unfoldable pub addFaceOf : ℕ → List Vec3 → ℕ → Vec3 → Growing → List ℕ → Result Growing
+addFaceOf d ps cell reference g l =
+    orientedFace d ps reference l >>= λ o.
+    addFace cell (o .vertices) (measuredFrom o) (g .faces) >>= λ p.
+    fine (record { faces = p .faces; own = g .own ++ p .number ∷ [] })
+
+-- a cell before its centre is known: its definition, the numbers of its faces, and the average of its points
+pub record Draft : Type 0 where
+  pub definition : Definition
+  pub faces : List ℕ
+  pub reference : Vec3
+
+-- the face table, and the cells so far
+pub record Drafts : Type 0 where
+  pub faces : List Face
+  pub cells : List Draft
+
+-- one cell more
+unfoldable pub addCell : ℕ → List Vec3 → Drafts → Definition → Result Drafts
+addCell d ps t def =
+    refuse 11 (wrongKind d def) >>= λ _.
+    refuse 12 (missing ps def) >>= λ _.
+    steps (addFaceOf d ps (length (t .cells)) (referenceOf ps def)) (record { faces = t .faces; own = [] }) (facesOf def) >>= λ g.
+    fine (record { faces = g .faces; cells = t .cells ++ record { definition = def; faces = g .own; reference = referenceOf ps def } ∷ [] })
+
+-- all cells
+unfoldable pub drafts : ℕ → List Vec3 → List Definition → Result Drafts
+drafts d ps defs = steps (addCell d ps) (record { faces = []; cells = [] }) defs

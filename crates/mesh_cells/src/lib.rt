@@ -1,0 +1,370 @@
+// The first pass of from_cells: the face table and the cells as drafts, in the lent area.
+use arith::Vec3;
+use arith::number::narrow;
+use case_definitions::Cursor;
+use case_definitions::FaceCursor;
+use case_definitions::Head;
+use case_definitions::Step;
+use case_definitions::face_lists;
+use case_definitions::walker;
+use mesh_area::Sizes;
+use mesh_face_table::Measured;
+use mesh_faces::Added;
+use mesh_geometry::FaceGeometry;
+use mesh_geometry::TurnedFace;
+use mesh_points::Reference;
+ghost use mathlib.Core.Path.{_≡_};
+ghost use mathlib.Core.List.{List};
+ghost use Prim.Native.Nat.{_+_, _*_, _≤_, _<_};
+ghost use lib.ListN.{length};
+ghost use Rattle.reading.specs.Result.{fine};
+ghost use Rattle.case_file.specs.Trailer.{wordsIn};
+ghost use Rattle.case_definitions.specs.Faces.{Definition};
+ghost use Rattle.case_definitions.specs.Definitions.{definitions};
+ghost use Rattle.mesh_area.specs.Layout.{pointsIn};
+ghost use Rattle.mesh_face_table.specs.Chains.{Chained};
+ghost use Rattle.mesh_faces.specs.Using.{sized};
+ghost use Rattle.mesh_cells.specs.Drafting.{Adding};
+ghost use Rattle.mesh_cells.specs.Steps.{Placeable, Placing, FaceReady, FaceAdding, FacesReady, FacesAdding, CellPut, CellReady, CellFilling, Addable, CellTurn, CellAdding};
+
+// The number of faces in the table, or the refusal.
+pub enum Drafted {
+    Faces(usize),
+    Refused(u64),
+}
+
+// A face's number and the number of faces in the table, or the refusal.
+enum FacePlaced {
+    Face(usize, usize),
+    Refused(u64),
+}
+
+// The next face of the record and the number of faces in the table, or the refusal.
+enum FaceAdded {
+    Next(FaceCursor, usize),
+    Refused(u64),
+}
+
+// Where the next record starts, where the next cell's lists start, and the number of faces in
+// the table.
+struct Progress {
+    pub at: usize,
+    pub first: usize,
+    pub faces: usize,
+}
+
+enum CellAdded {
+    Next(Progress),
+    Refused(u64),
+}
+
+// ---- the faces of a cell
+
+// What was measured of a face that is turned outward.
+fn measured(g: FaceGeometry) -> Measured
+    ensures { λ r. ⌜ r ≡ record { centre = g .centre; area = g .area; normal = g .normal; «area_vector» = g .«area_vector» } ⌝ }
+{
+    let centre = g.centre;
+    let normal = g.normal;
+    let area_vector = g.area_vector;
+    Measured {
+        centre,
+        area: g.area,
+        normal,
+        area_vector,
+    }
+}
+
+// A face of the cell, turned outward, is added to the table, or gets its second cell.
+fn place_face(
+    case: &[u8],
+    points: usize,
+    dimension: usize,
+    words: &mut [u32],
+    floats: &mut [f64],
+    s: Sizes,
+    cell: usize,
+    reference: Vec3,
+    vertices: &mut [u32],
+) -> FacePlaced
+    requires { ⌜ Placeable s (now words) (now floats) (now vertices) cell × (points ≤ 65536) × (24 * points ≤ length (now case)) ⌝ }
+    ensures { λ r. ⌜ Placing dimension (pointsIn (now (case .entry)) points) cell reference s (now (words .entry)) (now (words .exit)) (now (floats .entry)) (now (floats .exit)) (now (vertices .entry)) r ⌝ }
+{
+    let turned = mesh_geometry::oriented_face(dimension, case, points, vertices, reference);
+    let TurnedFace::Face(g) = turned else {
+        return FacePlaced::Refused(13);
+    };
+    let added = mesh_faces::use_face(words, floats, s, cell, vertices, measured(g));
+    match added {
+        Added::New(f) => FacePlaced::Face(f, s.faces + 1),
+        Added::Second(f) => FacePlaced::Face(f, s.faces),
+        Added::Third => FacePlaced::Refused(14),
+    }
+}
+
+// Face c of the record: its number goes to its place in the cell's list.
+fn add_face(
+    case: &[u8],
+    points: usize,
+    dimension: usize,
+    ws: &[u8],
+    words: &mut [u32],
+    floats: &mut [f64],
+    s: Sizes,
+    cell: usize,
+    reference: Vec3,
+    h: Head,
+    first: usize,
+    c: FaceCursor,
+) -> FaceAdded
+    requires { ⌜ FaceReady (wordsIn (now ws)) s (now words) (now floats) h cell first c × (points ≤ 65536) × (24 * points ≤ length (now case)) ⌝ }
+    ensures { λ r. ⌜ FaceAdding dimension (pointsIn (now (case .entry)) points) (wordsIn (now (ws .entry))) cell reference s (now (words .entry)) (now (words .exit)) (now (floats .entry)) (now (floats .exit)) h first c r ⌝ }
+{
+    let mut vertices = [0u32; 8];
+    let copied = face_lists::copy_face(ws, h, c, &mut vertices);
+    let count = copied.count;
+    let placed = place_face(
+        case,
+        points,
+        dimension,
+        words,
+        floats,
+        s,
+        cell,
+        reference,
+        &mut vertices[..count],
+    );
+    match placed {
+        FacePlaced::Refused(k) => FaceAdded::Refused(k),
+        FacePlaced::Face(f, n) => {
+            let at = 13 * s.slots + first + c.face;
+            words[at] = narrow(f);
+            let next = copied.next;
+            FaceAdded::Next(next, n)
+        }
+    }
+}
+
+// All faces of the record; the cell's list of their numbers starts at `first`.
+fn add_faces(
+    case: &[u8],
+    points: usize,
+    dimension: usize,
+    ws: &[u8],
+    words: &mut [u32],
+    floats: &mut [f64],
+    s: Sizes,
+    cell: usize,
+    reference: Vec3,
+    h: Head,
+    first: usize,
+) -> Drafted
+    requires { ⌜ FacesReady (wordsIn (now ws)) s (now words) (now floats) h cell first × (points ≤ 65536) × (24 * points ≤ length (now case)) ⌝ }
+    ensures { λ r. ⌜ FacesAdding dimension (pointsIn (now (case .entry)) points) (wordsIn (now (ws .entry))) cell reference s (now (words .entry)) (now (words .exit)) (now (floats .entry)) (now (floats .exit)) h first r ⌝ }
+{
+    let mut n = s.faces;
+    let mut c = face_lists::first_face(h);
+    while c.face < h.faces {
+        let t = Sizes {
+            slots: s.slots,
+            faces: n,
+            cells: s.cells,
+        };
+        let added = add_face(
+            case,
+            points,
+            dimension,
+            ws,
+            words,
+            floats,
+            t,
+            cell,
+            reference,
+            h,
+            first,
+            c,
+        );
+        match added {
+            FaceAdded::Refused(k) => return Drafted::Refused(k),
+            FaceAdded::Next(next, m) => {
+                n = m;
+                c = next;
+            }
+        }
+    }
+    Drafted::Faces(n)
+}
+
+// ---- the cells
+
+// The record of cell i; the average stands where its centre will.
+fn put_cell(
+    words: &mut [u32],
+    floats: &mut [f64],
+    s: Sizes,
+    i: usize,
+    at: u32,
+    first: u32,
+    count: u32,
+    reference: Vec3,
+)
+    requires { ⌜ (s .slots ≤ 1048576) × (i < 16384) × (16 * s .slots + 8 * i + 8 ≤ length (now words)) × (12 * s .slots + 4 * i + 4 ≤ length (now floats)) ⌝ }
+    ensures { λ _. ⌜ CellPut s (now (words .entry)) (now (words .exit)) (now (floats .entry)) (now (floats .exit)) i at first count reference ⌝ }
+{
+    let w = 16 * s.slots + 8 * i;
+    words[w] = at;
+    words[w + 1] = first;
+    words[w + 2] = count;
+    words[w + 3] = 0;
+    let f = 12 * s.slots + 4 * i;
+    floats[f] = reference.x;
+    floats[f + 1] = reference.y;
+    floats[f + 2] = reference.z;
+}
+
+// Cell i with its faces.
+fn fill_cell(
+    case: &[u8],
+    points: usize,
+    dimension: usize,
+    ws: &[u8],
+    words: &mut [u32],
+    floats: &mut [f64],
+    s: Sizes,
+    i: usize,
+    reference: Vec3,
+    h: Head,
+    first: usize,
+) -> Drafted
+    requires { ⌜ CellReady (wordsIn (now ws)) s (now words) (now floats) h i first × (points ≤ 65536) × (24 * points ≤ length (now case)) ⌝ }
+    ensures { λ r. ⌜ CellFilling dimension (pointsIn (now (case .entry)) points) (wordsIn (now (ws .entry))) reference s (now (words .entry)) (now (words .exit)) (now (floats .entry)) (now (floats .exit)) h i first r ⌝ }
+{
+    put_cell(
+        words,
+        floats,
+        s,
+        i,
+        narrow(h.at),
+        narrow(first),
+        narrow(h.faces),
+        reference,
+    );
+    add_faces(
+        case,
+        points,
+        dimension,
+        ws,
+        words,
+        floats,
+        s,
+        i,
+        reference,
+        h,
+        first,
+    )
+}
+
+// One cell more: the record at the cursor.
+fn add_cell(
+    case: &[u8],
+    points: usize,
+    dimension: usize,
+    ws: &[u8],
+    words: &mut [u32],
+    floats: &mut [f64],
+    s: Sizes,
+    i: usize,
+    p: Progress,
+) -> CellAdded
+    requires { ⌜ CellTurn dimension (pointsIn (now case) points) (now case) points (wordsIn (now ws)) (now words) (now floats) s i p ⌝ }
+    ensures { λ r. ⌜ CellAdding dimension (pointsIn (now (case .entry)) points) (wordsIn (now (ws .entry))) s (now (words .exit)) (now (floats .exit)) i r ⌝ }
+{
+    let at = p.at;
+    let step = walker::record_at(ws, Cursor { at });
+    match step {
+        // This cannot come: the definitions are right (`Addable`).
+        Step::Wrong(k) => CellAdded::Refused(k),
+        Step::Record(h, next) => {
+            let found = mesh_points::reference_of(dimension, case, points, ws, h);
+            match found {
+                Reference::Refused(k) => CellAdded::Refused(k),
+                Reference::Point(reference) => {
+                    let first = p.first;
+                    let t = Sizes {
+                        slots: s.slots,
+                        faces: p.faces,
+                        cells: s.cells,
+                    };
+                    let filled = fill_cell(
+                        case,
+                        points,
+                        dimension,
+                        ws,
+                        words,
+                        floats,
+                        t,
+                        i,
+                        reference,
+                        h,
+                        first,
+                    );
+                    match filled {
+                        Drafted::Refused(k) => CellAdded::Refused(k),
+                        Drafted::Faces(n) => CellAdded::Next(Progress {
+                            at: next.at,
+                            first: first + h.faces,
+                            faces: n,
+                        }),
+                    }
+                }
+            }
+        }
+    }
+}
+
+// All cells, into an empty table.
+fn fill_cells(
+    case: &[u8],
+    points: usize,
+    dimension: usize,
+    ws: &[u8],
+    words: &mut [u32],
+    floats: &mut [f64],
+    s: Sizes,
+) -> Drafted
+    requires { ⌜ Addable (now case) points (wordsIn (now ws)) (now words) (now floats) s × Chained (sized s 0) (now words) ⌝ }
+    ensures { λ r. ⌜ ((defs : List Definition) → definitions (s .cells) (wordsIn (now (ws .entry))) ≡ fine defs → Adding dimension (pointsIn (now (case .entry)) points) (wordsIn (now (ws .entry))) defs s (now (words .exit)) (now (floats .exit)) r) ⌝ }
+{
+    let mut p = Progress {
+        at: 0,
+        first: 0,
+        faces: 0,
+    };
+    let mut i = 0;
+    while i < s.cells {
+        let added = add_cell(case, points, dimension, ws, words, floats, s, i, p);
+        match added {
+            CellAdded::Refused(k) => return Drafted::Refused(k),
+            CellAdded::Next(q) => p = q,
+        }
+        i += 1;
+    }
+    Drafted::Faces(p.faces)
+}
+
+// The first pass over the definitions `ws`: all cells, each with its faces.
+pub fn add_cells(
+    case: &[u8],
+    points: usize,
+    dimension: usize,
+    ws: &[u8],
+    words: &mut [u32],
+    floats: &mut [f64],
+    s: Sizes,
+) -> Drafted
+    requires { ⌜ Addable (now case) points (wordsIn (now ws)) (now words) (now floats) s ⌝ }
+    ensures { λ r. ⌜ ((defs : List Definition) → definitions (s .cells) (wordsIn (now (ws .entry))) ≡ fine defs → Adding dimension (pointsIn (now (case .entry)) points) (wordsIn (now (ws .entry))) defs s (now (words .exit)) (now (floats .exit)) r) ⌝ }
+{
+    mesh_faces::clear(words, s);
+    fill_cells(case, points, dimension, ws, words, floats, s)
+}

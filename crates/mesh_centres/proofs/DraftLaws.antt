@@ -1,0 +1,42 @@
+-- The drafts are those of the definitions, one each, in their order. Assumes nothing.
+use Prim.Native.Nat.{ℕ}
+use mathlib.Core.Path.{_≡_, refl, sym, ap, _∙_}
+use mathlib.Core.List.{List, [], _∷_, _++_, map, append-nil}
+use lib.ListN.{length, length-map}
+use Rattle.arith.specs.declared.Vec3.{Vec3}
+use Rattle.reading.specs.Result.{fine, steps}
+use Rattle.reading.proofs.ResultLaws.{bound}
+use Rattle.case_definitions.specs.Faces.{Definition}
+use Rattle.mesh_points.specs.Collect.{referenceOf}
+use Rattle.mesh_cells.specs.Cells.{Draft, Drafts, addCell, drafts}
+use Rattle.mesh_centres.specs.Finish.{definitionsOf}
+
+map-end : {A B : Type 0} (f : A → B) (l : List A) (a : A) (k : List B) → map f (l ++ a ∷ []) ++ k ≡ map f l ++ f a ∷ k
+map-end f [] a k = refl
+map-end {B = B} f (x ∷ l) a k = ap {B = List B} (λ r. f x ∷ r) (map-end f l a k)
+
+module _ (d : ℕ) (ps : List Vec3) where
+  cell-added : (t u : Drafts) (def : Definition) (k : List Definition) → addCell d ps t def ≡ fine u
+      → definitionsOf (u .cells) ++ k ≡ definitionsOf (t .cells) ++ def ∷ k
+  unfolding addCell
+  cell-added t u def k e =
+      let b₁ = bound _ _ _ e in
+      let b₂ = bound _ _ _ (b₁ .then) in
+      let b₃ = bound _ _ _ (b₂ .then) in
+      let c : Draft = record { definition = def; faces = b₃ .value .own; reference = referenceOf ps def } in
+      let w : _≡_ {A = Drafts} (record { faces = b₃ .value .faces; cells = t .cells ++ c ∷ [] }) u = cc (b₃ .then) in
+      rw (← w) (map-end _ (t .cells) c k)
+
+  all-added : (l : List Definition) (t u : Drafts) → steps (addCell d ps) t l ≡ fine u → definitionsOf (u .cells) ≡ definitionsOf (t .cells) ++ l
+  unfolding steps
+  all-added [] t u e = let w : t ≡ u = cc in rw (← w) (sym (append-nil _))
+  all-added (a ∷ l) t u e =
+      let b = bound _ _ _ e in
+      all-added l (b .value) u (b .then) ∙ cell-added t (b .value) a l (b .had)
+
+  pub drafts-defined : (defs : List Definition) (t : Drafts) → drafts d ps defs ≡ fine t → definitionsOf (t .cells) ≡ defs
+  unfolding drafts
+  drafts-defined defs t e = all-added defs _ t e
+
+  pub drafts-counted : (defs : List Definition) (t : Drafts) → drafts d ps defs ≡ fine t → length (t .cells) ≡ length defs
+  drafts-counted defs t e = sym (length-map (t .cells) _) ∙ ap length (drafts-defined defs t e)

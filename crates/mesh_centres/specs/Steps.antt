@@ -1,0 +1,81 @@
+-- The contracts of the parts of `finish_cells`.
+use Prim.Native.Nat.{ℕ, _+_, _-_, _*_, _≤_, _<_}
+use mathlib.Core.Path.{_≡_}
+use mathlib.Core.List.{List, [], _∷_, _++_}
+use lib.ListN.{getD, take, drop}
+use lib.Ieee.{Float, nan}
+use Rattle.arith.specs.Records.{tab, puts}
+use Rattle.arith.specs.declared.Vec3.{Vec3}
+use Rattle.reading.specs.Result.{Result, refused, fine, _>>=_, mapAll}
+use Rattle.case_definitions.specs.Faces.{Definition, facesOf}
+use Rattle.case_definitions.specs.Definitions.{Taken, definition, definitions}
+use Rattle.case_definitions.specs.Walker.{Headed, definitionAt}
+use Rattle.case_definitions.specs.declared.Cursor.{Cursor}
+use Rattle.case_definitions.specs.declared.Head.{Head}
+use Rattle.mesh_area.specs.declared.Sizes.{Sizes}
+use Rattle.mesh_area.specs.Tables.{Cell}
+use Rattle.mesh_area.specs.Layout.{vecFrom, cellIn, meshWords, meshFloats, LentFloats}
+use Rattle.mesh_volumes.specs.declared.CellGeometry.{CellGeometry}
+use Rattle.mesh_volumes.specs.Geometry.{cellGeometry}
+use Rattle.mesh_measure.specs.Records.{Points}
+use Rattle.mesh_cells.specs.Drafting.{draftsIn}
+use Rattle.mesh_centres.specs.Finish.{finished, definitionsOf}
+use Rattle.mesh_centres.specs.declared.Finished.{Finished}
+use Rattle.mesh_centres.specs.declared.Finished.the-variants as Finished
+use Rattle.mesh_centres.specs.declared.CellFinished.{CellFinished}
+use Rattle.mesh_centres.specs.declared.CellFinished.the-variants as CellFinished
+
+-- ---- one cell
+
+-- where the floats of cell i start
+abbrev pub cellFrom : Sizes → ℕ → ℕ
+cellFrom s i = 12 * s .slots + 4 * i
+
+-- a cell's centre and volume, as they are stored
+abbrev pub floatsOf : CellGeometry → List Float
+floatsOf g = g .centre .x ∷ g .centre .y ∷ g .centre .z ∷ g .volume ∷ []
+
+-- the geometry of cell i, whose definition is at `at` and whose average stands where its centre will
+unfoldable pub geometryAt : ℕ → List Vec3 → List ℕ → Sizes → List Float → ℕ → ℕ → Result CellGeometry
+geometryAt d ps ws s floats i at = cellGeometry d ps (vecFrom floats (cellFrom s i)) (facesOf (definitionAt ws at))
+
+pub record RecordReady (case : List ℕ) (points : ℕ) (ws : List ℕ) (floats : List Float) (s : Sizes) (i : ℕ) (h : Head) : Type 0 where
+  pub lent-floats : LentFloats s floats
+  pub points-there : Points case points
+  pub cell : i < s .cells
+  pub headed : Headed ws h
+
+-- `finish_record`: the geometry of cell i is stored, or it has none
+pub data RecordFinishing (d : ℕ) (ps : List Vec3) (ws : List ℕ) (s : Sizes) (floats floats′ : List Float) (i at : ℕ) : Finished → Type 0 where
+  stored : (g : CellGeometry) → geometryAt d ps ws s floats i at ≡ fine g → floats′ ≡ puts floats (cellFrom s i) (floatsOf g)
+      → RecordFinishing d ps ws s floats floats′ i at Finished.Done
+  zero : geometryAt d ps ws s floats i at ≡ refused 15 → floats′ ≡ floats → RecordFinishing d ps ws s floats floats′ i at Finished.ZeroVolume
+
+-- a right record is at the cursor: `survey` has walked over all of them, so the walker does not refuse one here with 3
+pub record CellReady (case : List ℕ) (points : ℕ) (ws : List ℕ) (floats : List Float) (s : Sizes) (i : ℕ) (c : Cursor) : Type 0 where
+  pub lent-floats : LentFloats s floats
+  pub points-there : Points case points
+  pub cell : i < s .cells
+  pub taken : Taken Definition
+  pub right : definition (drop (c .at) ws) ≡ fine taken
+
+-- `finish_cell`: the geometry of cell i is stored, and the next record starts at q; or it has none
+pub data CellFinishing (d : ℕ) (ps : List Vec3) (ws : List ℕ) (s : Sizes) (floats floats′ : List Float) (i at : ℕ) : CellFinished → Type 0 where
+  next : (q : Cursor) (g : CellGeometry) → geometryAt d ps ws s floats i at ≡ fine g → floats′ ≡ puts floats (cellFrom s i) (floatsOf g)
+      → definition (drop at ws) ≡ fine (record { read = definitionAt ws at; left = drop (q .at) ws })
+      → CellFinishing d ps ws s floats floats′ i at (CellFinished.Next q)
+  zero : geometryAt d ps ws s floats i at ≡ refused 15 → floats′ ≡ floats → CellFinishing d ps ws s floats floats′ i at CellFinished.ZeroVolume
+
+-- ---- all cells
+
+-- the first i cells of the mesh's part
+unfoldable pub firstCells : Sizes → List ℕ → List Float → ℕ → List Cell
+firstCells s words floats i = tab (cellIn (meshWords s words) (meshFloats s floats) (s .slots)) i
+
+-- i cells are finished, where floats₀ held the drafts; what is left, finished after them, gives the whole
+pub record Going (d : ℕ) (ps : List Vec3) (ws : List ℕ) (s : Sizes) (words : List ℕ) (floats₀ floats : List Float) (i at : ℕ) : Type 0 where
+  pub left : definitions (s .cells - i) (drop at ws) ≡ fine (drop i (definitionsOf (draftsIn ws s words floats₀ (s .cells))))
+  pub rest : (mapAll (finished d ps) (drop i (draftsIn ws s words floats₀ (s .cells))) >>= λ bs. fine (firstCells s words floats i ++ bs))
+      ≡ mapAll (finished d ps) (draftsIn ws s words floats₀ (s .cells))
+  pub later : (j : ℕ) → cellFrom s i ≤ j → getD floats j nan ≡ getD floats₀ j nan
+  pub faces : take (12 * s .slots) floats ≡ take (12 * s .slots) floats₀

@@ -1,0 +1,121 @@
+-- What the functions of this crate keep and promise of the words.
+use Prim.Native.Nat.{ℕ, zero, suc, _+_, _*_, _<_, _≤_}
+use mathlib.Core.Path.{_≡_}
+use mathlib.Core.Bool.{Bool, true, false, cond}
+use mathlib.Core.List.{List, []}
+use mathlib.Core.Logic.{_≢_, _⊎_}
+use lib.Dec.{eqb}
+use lib.Ieee.{Float}
+use lib.ListN.{getD, take}
+use Rattle.arith.specs.Lists.{addNew}
+use Rattle.arith.specs.declared.Found.{Found}
+use Rattle.arith.specs.declared.Found.the-variants.{At}
+use Rattle.mesh_area.specs.declared.Sizes.{Sizes}
+use Rattle.mesh_area.specs.Tables.{cellAt, faceAt}
+use Rattle.mesh_area.specs.Layout.{listAt, facesIn, cellsIn, wordsEnd}
+use Rattle.mesh_connection.specs.Neighbours.{beyond, addNeighbour, neighboursOf, firstIn, countIn, Outside}
+use Rattle.mesh_connection.specs.Connection.{rounds, meets, connectedCells}
+
+-- ---- neighbour lists
+
+-- the cell beyond face f, which fits a word
+pub record Beyond (s : Sizes) (w : List ℕ) (cell f : ℕ) (r : Found) : Type 0 where
+  pub found : (floats : List Float) → r ≡ beyond cell (faceAt (facesIn s w floats) f)
+  pub small : (d : ℕ) → r ≡ At d → d < 4294967296
+
+-- the list of n words at a place, with d added unless it is there
+pub record Added (w w′ : List ℕ) (at n d r : ℕ) : Type 0 where
+  pub list : listAt w′ at r ≡ addNew eqb (listAt w at n) d
+  pub more : r ≤ n + 1
+  pub grows : n ≤ r
+  pub kept : (j : ℕ) → (j < at + n) ⊎ (at + r ≤ j) → getD w′ j 0 ≡ getD w j 0
+
+-- the same with the cell beyond face f, where there is one
+pub record Crossed (s : Sizes) (w w′ : List ℕ) (cell f at n r : ℕ) : Type 0 where
+  pub list : (floats : List Float) → listAt w′ at r ≡ addNeighbour (facesIn s w floats) cell (listAt w at n) f
+  pub more : r ≤ n + 1
+  pub grows : n ≤ r
+  pub kept : (j : ℕ) → (j < at + n) ⊎ (at + r ≤ j) → getD w′ j 0 ≡ getD w j 0
+
+-- the neighbours of one cell
+abbrev pub neighboursIn : Sizes → List ℕ → List Float → ℕ → List ℕ
+neighboursIn s w floats i = neighboursOf (facesIn s w floats) i (cellAt (cellsIn s w floats) i .faces)
+
+-- the neighbour list of cell i stands at a place, and nothing else changed
+pub record Written (s : Sizes) (w w′ : List ℕ) (i at r : ℕ) : Type 0 where
+  pub list : (floats : List Float) → listAt w′ at r ≡ neighboursIn s w floats i
+  pub few : r ≤ countIn s w i
+  pub kept : (j : ℕ) → (j < at) ⊎ (at + r ≤ j) → getD w′ j 0 ≡ getD w j 0
+
+-- cell i has its neighbour list and its count, and nothing else changed
+pub record Listed (s : Sizes) (w w′ : List ℕ) (i : ℕ) : Type 0 where
+  pub list : (floats : List Float) → listAt w′ (14 * s .slots + firstIn s w i) (getD w′ (16 * s .slots + 8 * i + 3) 0) ≡ neighboursIn s w floats i
+  pub few : getD w′ (16 * s .slots + 8 * i + 3) 0 ≤ countIn s w i
+  pub kept : (j : ℕ) → Outside s w w′ i j → getD w′ j 0 ≡ getD w j 0
+
+-- ---- the search: flag of cell i in word base + 2 i, place k of the queue in word base + 2 k + 1
+
+abbrev pub visitedIn : List ℕ → ℕ → ℕ → Bool
+visitedIn w base i = eqb (getD w (base + 2 * i) 0) 1
+
+abbrev pub queueIn : List ℕ → ℕ → ℕ → ℕ
+queueIn w base k = getD w (base + 2 * k + 1) 0
+
+-- no cell below n is visited
+pub record Cleared (w w′ : List ℕ) (base n : ℕ) : Type 0 where
+  pub none : (j : ℕ) → j < n → visitedIn w′ base j ≡ false
+  pub kept : take base w′ ≡ take base w
+
+-- cell d is visited now, and stands in the queue at tail
+pub record Marked (w w′ : List ℕ) (base d tail : ℕ) : Type 0 where
+  pub seen : visitedIn w′ base d ≡ true
+  pub others : (j : ℕ) → j ≢ d → visitedIn w′ base j ≡ visitedIn w base j
+  pub last : queueIn w′ base tail ≡ d
+  pub queue : (k : ℕ) → k ≢ tail → queueIn w′ base k ≡ queueIn w base k
+  pub kept : take base w′ ≡ take base w
+
+-- cell d is none of the n, was visited, or is now
+pub data Met (w w′ : List ℕ) (base n d tail r : ℕ) : Type 0 where
+  out : n ≤ d → w′ ≡ w → r ≡ tail → Met w w′ base n d tail r
+  was : visitedIn w base d ≡ true → w′ ≡ w → r ≡ tail → Met w w′ base n d tail r
+  new : d < n → visitedIn w base d ≡ false → Marked w w′ base d tail → r ≡ tail + 1 → Met w w′ base n d tail r
+
+-- how many of 0 .. n - 1 pass
+unfoldable pub countBelow : (ℕ → Bool) → ℕ → ℕ
+countBelow p zero = 0
+countBelow p (suc n) = cond (p n) 1 0 + countBelow p n
+
+-- the neighbours of cell i, which stand in the words alone
+abbrev pub neighboursAt : Sizes → List ℕ → ℕ → List ℕ
+neighboursAt s w i = cellAt (cellsIn s w []) i .neighbours
+
+-- the place of cell j in the queue
+pub record Placed (w : List ℕ) (base tail j : ℕ) : Type 0 where
+  pub at : ℕ
+  pub low : at < tail
+  pub here : queueIn w base at ≡ j
+
+-- the k th in the queue was visited, and k rounds reach it
+pub record Queued (w : List ℕ) (base n : ℕ) (touch : ℕ → ℕ → Bool) (k : ℕ) : Type 0 where
+  pub inside : queueIn w base k < n
+  pub seen : visitedIn w base (queueIn w base k) ≡ true
+  pub near : getD (rounds touch n k) (queueIn w base k) false ≡ true
+
+-- who is visited is in the queue, who is in the queue is reached in as many rounds as its place says,
+-- and whom the queue has passed has all its neighbours visited; w₀ is the area at the start
+pub record Searching (s : Sizes) (w₀ w : List ℕ) (base head tail : ℕ) : Type 0 where
+  pub at-end : base ≡ wordsEnd s
+  pub some : 0 < s .cells
+  pub kept : take (wordsEnd s) w ≡ take (wordsEnd s) w₀
+  pub order : head ≤ tail
+  pub fits : tail ≤ s .cells
+  pub counted : tail ≡ countBelow (visitedIn w base) (s .cells)
+  pub begun : visitedIn w base 0 ≡ true
+  pub queued : (k : ℕ) → k < tail → Queued w base (s .cells) (meets (cellsIn s w₀ [])) k
+  pub placed : (j : ℕ) → j < s .cells → visitedIn w base j ≡ true → Placed w base tail j
+  pub closed : (k j : ℕ) → k < head → j < s .cells → meets (cellsIn s w₀ []) (queueIn w base k) j ≡ true → visitedIn w base j ≡ true
+
+-- every cell is reached over the neighbours, and the mesh's part is as it was
+pub record Connected (s : Sizes) (w w′ : List ℕ) (r : Bool) : Type 0 where
+  pub result : (floats : List Float) → r ≡ connectedCells (cellsIn s w floats)
+  pub kept : take (wordsEnd s) w′ ≡ take (wordsEnd s) w

@@ -1,0 +1,211 @@
+// The cells' neighbour lists, and whether the cells are connected, over the mesh in the lent work area.
+use arith::Found;
+use arith::number::narrow;
+use arith::number::wide;
+use mesh_area::Sizes;
+ghost use mathlib.Core.Path.{_≡_};
+ghost use mathlib.Core.Bool.{false};
+ghost use Prim.Native.Nat.{_+_, _*_, _≤_, _<_};
+ghost use lib.Dec.{eqb};
+ghost use lib.ListN.{length, getD};
+ghost use Rattle.arith.specs.Lists.{any};
+ghost use Rattle.mesh_area.specs.Layout.{listAt, wordsEnd, LentWords};
+ghost use Rattle.mesh_connection.specs.Neighbours.{firstIn, countIn, Laid, Linked};
+ghost use Rattle.mesh_connection.specs.Search.{Beyond, Added, Crossed, Written, Listed, visitedIn, queueIn, Cleared, Marked, Met, Searching, Connected};
+
+// The cell on the other side of face f, seen from one of its cells.
+fn beyond(words: &[u32], s: Sizes, cell: usize, f: usize) -> Found
+    requires { ⌜ LentWords s (now words) ⌝ }
+    ensures { λ r. ⌜ Beyond s (now (words .entry)) cell f r ⌝ }
+{
+    let Found::At(n) = mesh_area::neighbour_of(words, s, f) else {
+        return Found::Nothing;
+    };
+    let owner = mesh_area::owner_of(words, s, f);
+    if owner == cell {
+        return Found::At(n);
+    }
+    Found::At(owner)
+}
+
+// d is one of the n words at a place.
+fn listed(words: &[u32], at: usize, n: usize, d: usize) -> bool
+    requires { ⌜ (at + n ≤ length (now words)) × (n < 4294967296) ⌝ }
+    ensures { λ r. ⌜ r ≡ any (eqb d) (listAt (now (words .entry)) at n) ⌝ }
+{
+    let mut k = 0;
+    while k < n {
+        if d == wide(words[at + k]) {
+            return true;
+        }
+        k += 1;
+    }
+    false
+}
+
+// Adds d to the list of n words at a place, unless it is there; how many words it has then.
+fn add_new(words: &mut [u32], at: usize, n: usize, d: usize) -> usize
+    requires { ⌜ (at + n < length (now words)) × (n < 4294967296) × (d < 4294967296) ⌝ }
+    ensures { λ r. ⌜ Added (now (words .entry)) (now (words .exit)) at n d r ⌝ }
+{
+    if listed(words, at, n, d) {
+        return n;
+    }
+    words[at + n] = narrow(d);
+    n + 1
+}
+
+// Adds the cell beyond face f.
+fn add_beyond(words: &mut [u32], s: Sizes, cell: usize, f: usize, at: usize, n: usize) -> usize
+    requires { ⌜ LentWords s (now words) × (at + n < length (now words)) × (n < 4294967296) ⌝ }
+    ensures { λ r. ⌜ Crossed s (now (words .entry)) (now (words .exit)) cell f at n r ⌝ }
+{
+    let Found::At(d) = beyond(words, s, cell, f) else {
+        return n;
+    };
+    add_new(words, at, n, d)
+}
+
+// Writes the list of cell i at a place, over its faces; how many words it has.
+fn list_at(words: &mut [u32], s: Sizes, i: usize, at: usize) -> usize
+    requires { ⌜ LentWords s (now words) × Laid s (now words) × (i < s .cells) × (at ≡ 14 * s .slots + firstIn s (now words) i) ⌝ }
+    ensures { λ r. ⌜ Written s (now (words .entry)) (now (words .exit)) i at r ⌝ }
+{
+    let end = mesh_area::face_count(words, s, i);
+    let mut n = 0;
+    let mut k = 0;
+    while k < end {
+        let f = mesh_area::cell_face(words, s, i, k);
+        n = add_beyond(words, s, i, f, at, n);
+        k += 1;
+    }
+    n
+}
+
+// Writes the list of cell i, and its count.
+fn fill_cell(words: &mut [u32], s: Sizes, i: usize)
+    requires { ⌜ LentWords s (now words) × Laid s (now words) × (i < s .cells) ⌝ }
+    ensures { λ _. ⌜ Listed s (now (words .entry)) (now (words .exit)) i ⌝ }
+{
+    let at = 16 * s.slots + 8 * i;
+    let first = wide(words[at + 1]);
+    let n = list_at(words, s, i, 14 * s.slots + first);
+    words[at + 3] = narrow(n);
+}
+
+// Writes each cell's neighbours, in face order.
+pub fn fill_neighbours(words: &mut [u32], s: Sizes)
+    requires { ⌜ LentWords s (now words) ⌝ }
+    requires { ⌜ Laid s (now words) ⌝ }
+    ensures { λ _. ⌜ Linked s (now (words .entry)) (now (words .exit)) ⌝ }
+{
+    let mut i = 0;
+    while i < s.cells {
+        fill_cell(words, s, i);
+        i += 1;
+    }
+}
+
+fn visited(words: &[u32], base: usize, i: usize) -> bool
+    requires { ⌜ base + 2 * i < length (now words) ⌝ }
+    ensures { λ r. ⌜ r ≡ visitedIn (now (words .entry)) base i ⌝ }
+{
+    words[base + 2 * i] == 1
+}
+
+fn queue_at(words: &[u32], base: usize, k: usize) -> usize
+    requires { ⌜ base + 2 * k + 1 < length (now words) ⌝ }
+    ensures { λ r. ⌜ (r ≡ queueIn (now (words .entry)) base k) × (r < 4294967296) ⌝ }
+{
+    wide(words[base + 2 * k + 1])
+}
+
+// Cell d is visited, and goes to the queue's end.
+fn mark(words: &mut [u32], base: usize, d: usize, tail: usize)
+    requires { ⌜ (base + 2 * d + 2 ≤ length (now words)) × (base + 2 * tail + 2 ≤ length (now words)) × (d < 4294967296) ⌝ }
+    ensures { λ _. ⌜ Marked (now (words .entry)) (now (words .exit)) base d tail ⌝ }
+{
+    words[base + 2 * d] = 1;
+    words[base + 2 * tail + 1] = narrow(d);
+}
+
+// Cell d goes to the queue's end, unless it was visited; the queue's new end.
+fn meet(words: &mut [u32], base: usize, n: usize, d: usize, tail: usize) -> usize
+    requires { ⌜ (base + 2 * n ≤ length (now words)) × (n < 4294967296) × (tail < 4294967296) ⌝ }
+    requires { ⌜ (d < n → visitedIn (now words) base d ≡ false → tail < n) ⌝ }
+    ensures { λ r. ⌜ Met (now (words .entry)) (now (words .exit)) base n d tail r ⌝ }
+{
+    if d >= n {
+        return tail;
+    }
+    if visited(words, base, d) {
+        return tail;
+    }
+    mark(words, base, d, tail);
+    tail + 1
+}
+
+// Visits the neighbours of the cell at the queue's head; the queue's new end.
+fn spread(words: &mut [u32], s: Sizes, base: usize, head: usize, tail: usize) -> usize
+    requires { ⌜ LentWords s (now words) × Searching s (now words) (now words) base head tail × (head < tail) ⌝ }
+    ensures { λ r. ⌜ Searching s (now (words .entry)) (now (words .exit)) base (head + 1) r ⌝ }
+{
+    let c = queue_at(words, base, head);
+    let end = mesh_area::neighbour_count(words, s, c);
+    let mut last = tail;
+    let mut m = 0;
+    while m < end {
+        let d = mesh_area::neighbour(words, s, c, m);
+        last = meet(words, base, s.cells, d, last);
+        m += 1;
+    }
+    last
+}
+
+// No cell is visited.
+fn clear(words: &mut [u32], base: usize, n: usize)
+    requires { ⌜ base + 2 * n ≤ length (now words) ⌝ }
+    ensures { λ _. ⌜ Cleared (now (words .entry)) (now (words .exit)) base n ⌝ }
+{
+    let mut i = 0;
+    while i < n {
+        words[base + 2 * i] = 0;
+        i += 1;
+    }
+}
+
+// Cell 0 alone is visited, and stands in the queue.
+fn start(words: &mut [u32], s: Sizes, base: usize)
+    requires { ⌜ LentWords s (now words) × (base ≡ wordsEnd s) × (0 < s .cells) ⌝ }
+    ensures { λ _. ⌜ Searching s (now (words .entry)) (now (words .exit)) base 0 1 ⌝ }
+{
+    clear(words, base, s.cells);
+    mark(words, base, 0, 0);
+}
+
+// Visits all that can be reached from cell 0; how many cells that are.
+fn reach(words: &mut [u32], s: Sizes, base: usize) -> usize
+    requires { ⌜ LentWords s (now words) × Searching s (now words) (now words) base 0 1 ⌝ }
+    ensures { λ r. ⌜ Searching s (now (words .entry)) (now (words .exit)) base r r ⌝ }
+{
+    let mut tail = 1;
+    let mut head = 0;
+    while head < tail {
+        tail = spread(words, s, base, head, tail);
+        head += 1;
+    }
+    tail
+}
+
+// Every cell is connected with cell 0.
+pub fn ensure_connected(words: &mut [u32], s: Sizes) -> bool
+    requires { ⌜ LentWords s (now words) ⌝ }
+    ensures { λ r. ⌜ Connected s (now (words .entry)) (now (words .exit)) r ⌝ }
+{
+    if s.cells <= 1 {
+        return true;
+    }
+    let base = 16 * s.slots + 8 * s.cells;
+    start(words, s, base);
+    reach(words, s, base) == s.cells
+}

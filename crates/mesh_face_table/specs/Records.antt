@@ -1,0 +1,80 @@
+-- The record of a face in the lent area, and what is stored there.
+use Prim.Native.Nat.{ℕ, _+_, _*_}
+use mathlib.Core.List.{List, [], _∷_}
+use lib.ListN.{length, getD, take}
+use lib.Seq.{sets}
+use lib.Ieee.{Float, nan}
+use Rattle.arith.specs.Records.{tab, part, chunk}
+use Rattle.mesh_area.specs.Tables.{Face}
+use Rattle.mesh_area.specs.Layout.{vecFrom, found}
+use Rattle.mesh_face_table.specs.declared.Measured.{Measured}
+
+-- ---- one record
+
+-- the twelve words of a face
+pub record Body : Type 0 where
+  pub count : ℕ
+  pub vertices : List ℕ
+  pub owner : ℕ
+  pub other : ℕ
+  pub link : ℕ
+
+unfoldable pub bodyOf : List ℕ → Body
+bodyOf r =
+    record {
+      count = getD r 0 0;
+      vertices = take (getD r 0 0) (part r 1 8);
+      owner = getD r 9 0;
+      other = getD r 10 0;
+      link = getD r 11 0;
+    }
+
+unfoldable pub bodyIn : List ℕ → ℕ → Body
+bodyIn w f = bodyOf (chunk w 12 f)
+
+-- the twelve floats of a face, of which ten are used
+unfoldable pub measuredOf : List Float → Measured
+measuredOf r = record { centre = vecFrom r 0; area = getD r 3 nan; normal = vecFrom r 4; «area_vector» = vecFrom r 7 }
+
+unfoldable pub measuredIn : List Float → ℕ → Measured
+measuredIn fl f = measuredOf (chunk fl 12 f)
+
+-- the face that they hold
+unfoldable pub faceOf : Body → Measured → Face
+faceOf b m =
+    record {
+      vertices = b .vertices;
+      owner = b .owner;
+      neighbour = found (b .other);
+      centre = m .centre;
+      area = m .area;
+      normal = m .normal;
+      areaVector = m .«area_vector»;
+    }
+
+-- the first n faces
+unfoldable pub tableIn : List ℕ → List Float → ℕ → List Face
+tableIn w fl n = tab (λ f. faceOf (bodyIn w f) (measuredIn fl f)) n
+
+-- the head of bucket b, where there are F slots
+unfoldable pub headIn : List ℕ → ℕ → ℕ → ℕ
+headIn w slots b = getD w (12 * slots + b) 0
+
+-- a face of one cell, and the same face with a second one
+abbrev pub fresh : List ℕ → ℕ → ℕ → Body
+fresh vertices cell link = record { count = length vertices; vertices = vertices; owner = cell; other = 0; link = link }
+
+abbrev pub joined : Body → ℕ → Body
+joined b other = record { count = b .count; vertices = b .vertices; owner = b .owner; other = other; link = b .link }
+
+-- ---- a record stored
+
+-- the words of a face of one cell from a place on: its vertices behind their count, then its cell, no second cell, and its link
+unfoldable pub freshAt : List ℕ → ℕ → List ℕ → ℕ → ℕ → List ℕ
+freshAt w at vertices cell link = sets (sets w at (length vertices ∷ vertices)) (at + 9) (cell ∷ 0 ∷ link ∷ [])
+
+-- what was measured of a face, in the order of its floats
+abbrev pub floatsOf : Measured → List Float
+floatsOf m =
+    m .centre .x ∷ m .centre .y ∷ m .centre .z ∷ m .area ∷ m .normal .x ∷ m .normal .y ∷ m .normal .z
+    ∷ m .«area_vector» .x ∷ m .«area_vector» .y ∷ m .«area_vector» .z ∷ []

@@ -1,0 +1,45 @@
+-- The definitions on a few faces, computed. Assumes nothing.
+use mathlib.Core.Path.{_≡_, refl}
+use mathlib.Core.List.{List, [], _∷_}
+use Prim.Native.Nat.{ℕ}
+use Rattle.arith.specs.F64.{0·0}
+use Rattle.arith.specs.Vec.{origin}
+use Rattle.arith.specs.Lists.{foldl, insert, sort, sorted, same, firstFrom}
+use Rattle.mesh_area.specs.Tables.{Face, faceAt}
+use Rattle.reading.specs.Result.{refused}
+use Rattle.mesh_face_table.specs.declared.Measured.{Measured}
+use Rattle.mesh_faces.specs.Table.{hasKey, lookup, newFace, withNeighbour, joining, settled, adding, placed, addFace}
+use Rattle.mesh_faces.specs.declared.Added.the-variants.{New, Second}
+
+computing : ℕ
+unfolding foldl insert sort sorted same firstFrom faceAt hasKey lookup newFace withNeighbour joining settled adding placed addFace
+computing = 0
+
+flat : Measured
+flat = record { centre = origin; area = 0·0; normal = origin; «area_vector» = origin }
+
+one : List Face
+unfolding computing
+one = newFace 0 (3 ∷ 1 ∷ 2 ∷ []) flat ∷ []
+
+two : List Face
+unfolding computing
+two = withNeighbour 7 (newFace 0 (3 ∷ 1 ∷ 2 ∷ []) flat) ∷ []
+
+-- repeats are kept
+repeats : sorted (5 ∷ 2 ∷ 5 ∷ []) ≡ 2 ∷ 5 ∷ 5 ∷ []
+unfolding computing
+repeats = refl
+
+-- the same numbers in another order are the same face; other numbers are a new one; a third cell is refused
+joins : adding 7 (1 ∷ 2 ∷ 3 ∷ []) flat one ≡ record { faces = two; answer = Second 0 }
+unfolding computing one two
+joins = refl
+
+adds : adding 7 (1 ∷ 2 ∷ 2 ∷ []) flat one .answer ≡ New 1
+unfolding computing one
+adds = refl
+
+refuses : addFace 9 (2 ∷ 3 ∷ 1 ∷ []) flat two ≡ refused 14
+unfolding computing two
+refuses = refl

@@ -1,0 +1,82 @@
+-- The face table of `from_cells` as a list, and what the use of a face by a cell does to it.
+use Prim.Native.Nat.{ℕ}
+use mathlib.Core.Bool.{Bool}
+use mathlib.Core.List.{List, [], _∷_, _++_}
+use lib.ListN.{length, set}
+use Rattle.arith.specs.Lists.{firstFrom, same, sorted}
+use Rattle.arith.specs.declared.Found.{Found}
+use Rattle.arith.specs.declared.Found.the-variants.{At, Nothing}
+use Rattle.mesh_area.specs.Tables.{Face, faceAt}
+use Rattle.reading.specs.Result.{Result, refused, fine}
+use Rattle.mesh_face_table.specs.declared.Measured.{Measured}
+use Rattle.mesh_faces.specs.declared.Added.{Added}
+use Rattle.mesh_faces.specs.declared.Added.the-variants.{New, Second, Third}
+
+-- the face has these numbers in any order: they are its own, sorted
+unfoldable pub hasKey : List ℕ → Face → Bool
+hasKey key f = same (sorted (f .vertices)) key
+
+-- "Hash maps become scans over listed ranges and face keys": the face of the table that has this key
+unfoldable pub lookup : List ℕ → List Face → Found
+lookup key fs = firstFrom (hasKey key) 0 fs
+
+-- "A face has the first cell as owner, the second as neighbour": a face of one cell
+unfoldable pub newFace : ℕ → List ℕ → Measured → Face
+newFace cell vertices m =
+    record {
+      vertices = vertices;
+      owner = cell;
+      neighbour = Nothing;
+      centre = m .centre;
+      area = m .area;
+      normal = m .normal;
+      areaVector = m .«area_vector»;
+    }
+
+-- and the same face with its second cell
+unfoldable pub withNeighbour : ℕ → Face → Face
+withNeighbour cell f =
+    record {
+      vertices = f .vertices;
+      owner = f .owner;
+      neighbour = At cell;
+      centre = f .centre;
+      area = f .area;
+      normal = f .normal;
+      areaVector = f .areaVector;
+    }
+
+-- the table after a face was used, and the answer
+pub record Grown : Type 0 where
+  pub faces : List Face
+  pub answer : Added
+
+-- face i, which is there, by its neighbour: it gets its second cell, or has two already
+unfoldable pub joining : Found → ℕ → List Face → ℕ → Grown
+joining Nothing cell fs i = record { faces = set fs i (withNeighbour cell (faceAt fs i)); answer = Second i }
+joining (At n) cell fs i = record { faces = fs; answer = Third }
+
+-- by what the lookup found: a new face, or one that is there
+unfoldable pub settled : Found → ℕ → List ℕ → Measured → List Face → Grown
+settled Nothing cell vertices m fs = record { faces = fs ++ newFace cell vertices m ∷ []; answer = New (length fs) }
+settled (At i) cell vertices m fs = joining (faceAt fs i .neighbour) cell fs i
+
+-- a cell uses a face: its vertices, turned outward, and what was measured of it
+unfoldable pub adding : ℕ → List ℕ → Measured → List Face → Grown
+adding cell vertices m fs = settled (lookup (sorted vertices) fs) cell vertices m fs
+
+-- ---- the answer's cases, with 01's number
+
+-- the table, and the number of the face in it
+pub record Placed : Type 0 where
+  pub faces : List Face
+  pub number : ℕ
+
+-- refusal 14, "third user of a face"
+unfoldable pub placed : Added → List Face → Result Placed
+placed (New i) fs = fine (record { faces = fs; number = i })
+placed (Second i) fs = fine (record { faces = fs; number = i })
+placed Third fs = refused 14
+
+unfoldable pub addFace : ℕ → List ℕ → Measured → List Face → Result Placed
+addFace cell vertices m fs = let g = adding cell vertices m fs in placed (g .answer) (g .faces)

@@ -1,0 +1,150 @@
+-- Laws of the loops over points, faces of a record and faces of the table. Assumes nothing.
+use Prim.Native.Nat.{ℕ, _+_, _≤_, _<_}
+use native.Mathlib.Omega.{arith}
+use mathlib.Core.Path.{_≡_, refl, ap, sym, _∙_, subst}
+use borrow.Author.Tests.{eq-eqb, ne-eqb}
+use mathlib.Core.Bool.{Bool, true, false}
+use mathlib.Core.List.{List, [], _∷_}
+use lib.ListN.{length, getD, drop, length-map, drop-of-length-le}
+use lib.Ieee.{Float}
+use Rattle.arith.specs.Lists.{foldl, all, any, sides}
+use Rattle.arith.specs.Vec.{origin}
+use Rattle.arith.specs.declared.Vec3.{Vec3}
+use Rattle.arith.proofs.ListLaws.{foldl-next, all-here, all-next, any-here, any-next, length-sides}
+use Rattle.reading.specs.Result.{Result, refused, fine, _>>=_, steps}
+use Rattle.reading.proofs.ResultLaws.{steps-next, steps-refused}
+use Rattle.case_definitions.specs.Faces.{Definition, polygon, solid, polyhedron, facesOf, faceCount}
+use Rattle.case_definitions.specs.Walker.{definitionAt, readOf, faceAt, Headed, headOf}
+use Rattle.case_definitions.specs.declared.Head.{Head}
+use Rattle.case_definitions.specs.declared.FaceCursor.{FaceCursor}
+use Rattle.case_definitions.proofs.RecordLaws.{steps-to}
+use Rattle.mesh_area.specs.Tables.{pointAt, Face, faceAt as tableAt, noFace}
+use Rattle.mesh_area.specs.Layout.{pointsIn, facesIn}
+use Rattle.mesh_area.specs.declared.Sizes.{Sizes}
+use Rattle.mesh_area.proofs.LayoutLaws.{length-points, length-facesIn}
+use Rattle.mesh_volumes.specs.declared.Weight.{Weight}
+use Rattle.mesh_volumes.specs.Geometry.{addTriangle, addFace3D, weightless, centre2D, centre3D, geometryIn, cellGeometry}
+use Rattle.mesh_area.specs.Tables.{Cell, cellAt}
+use Rattle.arith.specs.declared.Found.the-variants.{At, Nothing}
+use Rattle.mesh_measure.specs.declared.Weighed.{Weighed}
+use Rattle.mesh_measure.specs.declared.Fanned.{Fanned}
+use Rattle.mesh_measure.specs.declared.Fanned.the-variants as Fan
+use Rattle.mesh_measure.specs.Records.{facesAt, NextFace, FanAdded, added, degenerate}
+use Rattle.mesh_measure.specs.Orientation.{behind, misplaced, neighbourBehind}
+
+-- ---- points: every one passes
+
+module _ (case : List ℕ) (n i : ℕ) (p : Vec3 → Bool) where
+  pub points-next : i < n → p (pointAt (pointsIn case n) i) ≡ true → all p (drop i (pointsIn case n)) ≡ all p (drop (i + 1) (pointsIn case n))
+  unfolding pointAt
+  points-next h e = all-next (pointsIn case n) i origin (rw (length-points case n) h) p e
+
+  pub points-bad : i < n → p (pointAt (pointsIn case n) i) ≡ false → all p (drop i (pointsIn case n)) ≡ false
+  unfolding pointAt
+  points-bad h e = all-here (pointsIn case n) i origin (rw (length-points case n) h) p e
+
+  pub points-end : n ≤ i → all p (drop i (pointsIn case n)) ≡ true
+  unfolding all
+  points-end h = rw (drop-of-length-le (pointsIn case n) {i = i} (rw (length-points case n) h))
+
+-- ---- faces of the table: none is misplaced
+
+module _ (s : Sizes) (words : List ℕ) (floats : List Float) (f : ℕ) (p : Face → Bool) where
+  pub faces-next : f < s .faces → p (tableAt (facesIn s words floats) f) ≡ false → any p (drop f (facesIn s words floats)) ≡ any p (drop (f + 1) (facesIn s words floats))
+  unfolding tableAt
+  faces-next h e = any-next (facesIn s words floats) f noFace (rw (length-facesIn s words floats) h) p e
+
+  pub faces-bad : f < s .faces → p (tableAt (facesIn s words floats) f) ≡ true → any p (drop f (facesIn s words floats)) ≡ true
+  unfolding tableAt
+  faces-bad h e = any-here (facesIn s words floats) f noFace (rw (length-facesIn s words floats) h) p e
+
+  pub faces-end : s .faces ≤ f → any p (drop f (facesIn s words floats)) ≡ false
+  unfolding any
+  faces-end h = rw (drop-of-length-le (facesIn s words floats) {i = f} (rw (length-facesIn s words floats) h))
+
+-- ---- faces of a record
+
+length-facesOf : (d : Definition) → length (facesOf d) ≡ faceCount d
+unfolding facesOf faceCount
+length-facesOf (polygon l) = length-map (sides l) _ ∙ length-sides l
+length-facesOf (solid places l) = length-map places _
+length-facesOf (polyhedron faces) = refl
+
+pub length-facesAt : (ws : List ℕ) (h : Head) → Headed ws h → length (facesAt ws h) ≡ h .faces
+unfolding facesAt definitionAt readOf headOf
+length-facesAt ws h g =
+    let t = steps-to ws (h .at) h (g .next) (sym (g .step)) in
+    rw (t .read, readOf) (length-facesOf (t .d) ∙ sym (ap (λ (x : Head). x .faces) (t .head)))
+
+module _ (ws : List ℕ) (h : Head) (g : Headed ws h) (k : ℕ) (more : k < h .faces) where
+  in-range : k < length (facesAt ws h)
+  in-range = rw (length-facesAt ws h g) more
+
+  -- a sum over the faces, one more
+  pub sum-next : {B : Type 0} (f : B → List ℕ → B) (w : B) → foldl f w (drop k (facesAt ws h)) ≡ foldl f (f w (faceAt ws (h .at) k)) (drop (k + 1) (facesAt ws h))
+  unfolding faceAt facesAt
+  sum-next f w = foldl-next (facesAt ws h) k [] in-range f w
+
+  -- the same where a face may be refused
+  pub steps-on : {B : Type 0} (f : B → List ℕ → Result B) (w t : B) → f w (faceAt ws (h .at) k) ≡ fine t → steps f w (drop k (facesAt ws h)) ≡ steps f t (drop (k + 1) (facesAt ws h))
+  unfolding faceAt facesAt
+  steps-on f w t e = steps-next (facesAt ws h) k [] in-range f w t e
+
+  pub steps-stop : {B : Type 0} (f : B → List ℕ → Result B) (w : B) (n : ℕ) → f w (faceAt ws (h .at) k) ≡ refused n → steps f w (drop k (facesAt ws h)) ≡ refused n
+  unfolding faceAt facesAt
+  steps-stop f w n e = steps-refused (facesAt ws h) k [] in-range f w n e
+
+-- no face is left
+pub facesAt-end : (ws : List ℕ) (h : Head) (k : ℕ) → Headed ws h → h .faces ≤ k → drop k (facesAt ws h) ≡ []
+facesAt-end ws h k g e = drop-of-length-le (facesAt ws h) {i = k} (rw (length-facesAt ws h g) e)
+
+-- a triangle looks only at the first two numbers
+pub first-two : (ps : List Vec3) (reference : Vec3) (w : Weight) (l : List ℕ) (a b : ℕ) → a ≡ getD l 0 0 → b ≡ getD l 1 0 → addTriangle ps reference w (a ∷ b ∷ []) ≡ addTriangle ps reference w l
+unfolding addTriangle
+first-two ps reference w l a b e g = rw (e, g)
+
+-- ---- a face between its cells
+
+module _ (cs : List Cell) (f : Face) (centre normal at : Vec3) (c : centre ≡ f .centre) (n : normal ≡ f .normal) (o : at ≡ cellAt cs (f .owner) .centre) where
+  pub owner-behind : behind centre at normal ≡ true → true ≡ misplaced cs f
+  unfolding misplaced
+  owner-behind e = rw (rw (c, n, o) at e)
+
+  pub alone : behind centre at normal ≡ false → f .neighbour ≡ Nothing → false ≡ misplaced cs f
+  unfolding misplaced neighbourBehind
+  alone e g = rw (rw (c, n, o) at e, g, neighbourBehind)
+
+  pub between : (r : Bool) (k : ℕ) → behind centre at normal ≡ false → f .neighbour ≡ At k → r ≡ behind (cellAt cs k .centre) centre normal → r ≡ misplaced cs f
+  unfolding misplaced neighbourBehind
+  between r k e g h = rw (rw (c, n, o) at e, g, neighbourBehind) (rw (c, n) at h)
+
+-- ---- what the answers in 3D stand for
+
+module _ {ps : List Vec3} {ws : List ℕ} {h : Head} {c : FaceCursor} {reference : Vec3} {w : Weight} where
+  pub fan-degenerate : {r : Fanned} → FanAdded ps ws h c reference w r → r ≡ Fan.Degenerate → addFace3D ps reference w (faceAt ws (h .at) (c .face)) ≡ refused 15
+  fan-degenerate (degenerate e) g = e
+  fan-degenerate (added e n) g = absurd (let z : _≡_ {A = ℕ} 0 1 = cc in omega arith)
+
+  pub fan-sum : {r : Fanned} (t : Weighed) → FanAdded ps ws h c reference w r → r ≡ Fan.Added t → addFace3D ps reference w (faceAt ws (h .at) (c .face)) ≡ fine (t .weight)
+  fan-sum t (added {t = u} e n) g = let k : u ≡ t = cc in e ∙ ap (λ (x : Weighed). fine (x .weight)) k
+  fan-sum t (degenerate e) g = absurd (let z : _≡_ {A = ℕ} 0 1 = cc in omega arith)
+
+  pub fan-next : {r : Fanned} (t : Weighed) → FanAdded ps ws h c reference w r → r ≡ Fan.Added t → NextFace ws h c (t .next)
+  fan-next t (added {t = u} e n) g = let k : u ≡ t = cc in subst (λ (x : Weighed). NextFace ws h c (x .next)) k n
+  fan-next t (degenerate e) g = absurd (let z : _≡_ {A = ℕ} 0 1 = cc in omega arith)
+
+-- ---- by dimension
+
+module _ (d : ℕ) (ps : List Vec3) (reference : Vec3) (faces : List (List ℕ)) where
+  pub flat-cell : d ≡ 2 → centre2D reference (foldl (addTriangle ps reference) weightless faces) ≡ cellGeometry d ps reference faces
+  unfolding cellGeometry geometryIn
+  flat-cell e = rw (eq-eqb d 2 e, geometryIn)
+
+  module _ (e : d ≡ 2 → ⊥) where
+    pub solid-cell : (w : Weight) → steps (addFace3D ps reference) weightless faces ≡ fine w → centre3D w ≡ cellGeometry d ps reference faces
+    unfolding cellGeometry geometryIn _>>=_
+    solid-cell w g = rw (ne-eqb d 2 e, geometryIn, g, _>>=_)
+
+    pub no-cell : steps (addFace3D ps reference) weightless faces ≡ refused 15 → refused 15 ≡ cellGeometry d ps reference faces
+    unfolding cellGeometry geometryIn _>>=_
+    no-cell g = rw (ne-eqb d 2 e, geometryIn, g, _>>=_)

@@ -1,0 +1,51 @@
+-- The words of the contracts.
+use Prim.Native.Nat.{ℕ, _+_, _*_, _≤_, _<_}
+use mathlib.Core.Path.{_≡_}
+use mathlib.Core.List.{List}
+use lib.ListN.{length}
+use Rattle.arith.specs.declared.Vec3.{Vec3}
+use Rattle.reading.specs.Result.{Result, refused, fine}
+use Rattle.case_definitions.specs.Faces.{facesOf}
+use Rattle.case_definitions.specs.Walker.{definitionAt, faceAt, AtFace}
+use Rattle.case_definitions.specs.declared.Head.{Head}
+use Rattle.case_definitions.specs.declared.FaceCursor.{FaceCursor}
+use Rattle.mesh_volumes.specs.declared.Weight.{Weight}
+use Rattle.mesh_volumes.specs.Geometry.{addTriangle, addFace3D}
+use Rattle.mesh_measure.specs.declared.Weighed.{Weighed}
+use Rattle.mesh_measure.specs.declared.Fanned.{Fanned}
+use Rattle.mesh_measure.specs.declared.Fanned.the-variants as Fan
+use Rattle.mesh_measure.specs.declared.Fans.{Fans}
+use Rattle.mesh_measure.specs.declared.Fans.the-variants as All
+
+-- the bytes hold so many points
+pub record Points (case : List ℕ) (points : ℕ) : Type 0 where
+  pub few : points ≤ 65536
+  pub long : 24 * points ≤ length case
+
+-- the faces of the record h
+unfoldable pub facesAt : List ℕ → Head → List (List ℕ)
+facesAt ws h = facesOf (definitionAt ws (h .at))
+
+-- c is at a face of h
+pub record FaceTaken (ws : List ℕ) (h : Head) (c : FaceCursor) : Type 0 where
+  pub at-face : AtFace ws h c
+  pub more : c .face < h .faces
+
+-- the next face
+pub record NextFace (ws : List ℕ) (h : Head) (c next : FaceCursor) : Type 0 where
+  pub face : next .face ≡ c .face + 1
+  pub at-face : AtFace ws h next
+
+pub record EdgeAdded (ps : List Vec3) (ws : List ℕ) (h : Head) (c : FaceCursor) (reference : Vec3) (w : Weight) (r : Weighed) : Type 0 where
+  pub sum : r .weight ≡ addTriangle ps reference w (faceAt ws (h .at) (c .face))
+  pub next : NextFace ws h c (r .next)
+
+-- what each answer in 3D stands for
+pub data FanAdded (ps : List Vec3) (ws : List ℕ) (h : Head) (c : FaceCursor) (reference : Vec3) (w : Weight) : Fanned → Type 0 where
+  added : {t : Weighed} → addFace3D ps reference w (faceAt ws (h .at) (c .face)) ≡ fine (t .weight) → NextFace ws h c (t .next) → FanAdded ps ws h c reference w (Fan.Added t)
+  degenerate : addFace3D ps reference w (faceAt ws (h .at) (c .face)) ≡ refused 15 → FanAdded ps ws h c reference w Fan.Degenerate
+
+-- 15 "zero volume"
+unfoldable pub fansOf : Fans → Result Weight
+fansOf (All.Sum w) = fine w
+fansOf All.Degenerate = refused 15

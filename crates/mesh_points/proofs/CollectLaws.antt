@@ -1,0 +1,255 @@
+-- Refusals 11 and 12, and the distinct point numbers of a record: one turn and the end of each loop. Assumes nothing.
+use Prim.Native.Nat.{ℕ, _+_, _-_, _*_, _≤_, _<_}
+use native.Mathlib.Omega.{arith}
+use mathlib.Core.Path.{_≡_, refl, ap, sym, _∙_}
+use mathlib.Core.Bool.{Bool, true, false, not, _||_}
+use mathlib.Core.List.{List, [], _∷_, _++_}
+use lib.Dec.{leb, ltb, eqb}
+use lib.ListN.{length, getD, take, drop, length-drop, drop-of-length-le}
+use lib.Seq.{length-take-le}
+use borrow.Author.Tests.{le-leb, lt-leb, eq-eqb, ne-eqb}
+use Rattle.arith.specs.Lists.{foldl, any, concat}
+use Rattle.arith.specs.declared.Vec3.{Vec3}
+use Rattle.arith.proofs.ListLaws.{left-at}
+use Rattle.reading.specs.Result.{Result, refused, fine, _>>=_, refuse, steps}
+use Rattle.reading.proofs.ResultLaws.{steps-next, steps-refused}
+use Rattle.case_definitions.specs.Faces.{Definition, facesOf}
+use Rattle.case_definitions.specs.Walker.{definitionAt, faceAt, Headed, AtFace, nextFace, FaceCopied}
+use Rattle.case_definitions.specs.declared.Head.{Head}
+use Rattle.case_definitions.specs.declared.FaceCursor.{FaceCursor}
+use Rattle.case_definitions.proofs.FaceLaws.{PolygonHead, HeadCase, polygon-head, solid-head, polyhedron-head, head-case, at-first}
+use Rattle.case_definitions.proofs.Walking.{head-faces}
+use Rattle.mesh_geometry.specs.Faces.{insertNew, rising, average}
+use Rattle.mesh_geometry.specs.Answers.{Inserted}
+use Rattle.mesh_points.specs.Collect.{wrongKind, missing, referenceOf, insertBelow, numbersIn, Collecting, checked, referenceCase}
+use Rattle.mesh_points.specs.declared.Collected.{Collected}
+use Rattle.mesh_points.specs.declared.Collected.the-variants.{Numbers, Missing}
+use Rattle.mesh_points.specs.declared.Reference.the-variants.{Point, Refused}
+
+-- ---- refusal 11
+
+module _ (d : ℕ) (ws : List ℕ) (h : Head) (g : Headed ws h) where
+  polygon-long : PolygonHead ws h → length (take (h .faces) (drop (h .first) ws)) ≡ h .faces
+  polygon-long p = length-take-le (h .faces) (drop (h .first) ws) (omega (arith, p .room, length-drop (h .first) ws))
+
+  is-polygon : h .kind ≡ 0 → wrongKind d (definitionAt ws (h .at)) ≡ (not (eqb d 2) || ltb (h .faces) 3)
+  unfolding wrongKind
+  is-polygon e = by (head-case ws h g)
+    where
+      by : HeadCase ws h → wrongKind d (definitionAt ws (h .at)) ≡ (not (eqb d 2) || ltb (h .faces) 3)
+      by (polygon-head k p) = rw (p .read, polygon-long p)
+      by (solid-head low high p) = absurd (omega arith)
+      by (polyhedron-head k p) = absurd (omega arith)
+
+  pub polygon-in-3d : h .kind ≡ 0 → (d ≡ 2 → ⊥) → not (eqb d 2) ≡ wrongKind d (definitionAt ws (h .at))
+  polygon-in-3d e n = rw (is-polygon e, ne-eqb d 2 n)
+
+  pub polygon-test : h .kind ≡ 0 → d ≡ 2 → ltb (h .faces) 3 ≡ wrongKind d (definitionAt ws (h .at))
+  polygon-test e n = sym (is-polygon e ∙ rw (eq-eqb d 2 n))
+
+  is-polyhedron : h .kind ≡ 5 → wrongKind d (definitionAt ws (h .at)) ≡ (not (eqb d 3) || ltb (h .faces) 4)
+  unfolding wrongKind facesOf
+  is-polyhedron e = by (head-case ws h g)
+    where
+      by : HeadCase ws h → wrongKind d (definitionAt ws (h .at)) ≡ (not (eqb d 3) || ltb (h .faces) 4)
+      by (polygon-head k p) = absurd (omega arith)
+      by (solid-head low high p) = absurd (omega arith)
+      by (polyhedron-head k p) = let f = head-faces ws h g .all in rw (f, p .read)
+
+  pub polyhedron-in-2d : h .kind ≡ 5 → (d ≡ 3 → ⊥) → not (eqb d 3) ≡ wrongKind d (definitionAt ws (h .at))
+  polyhedron-in-2d e n = rw (is-polyhedron e, ne-eqb d 3 n)
+
+  pub polyhedron-test : h .kind ≡ 5 → d ≡ 3 → ltb (h .faces) 4 ≡ wrongKind d (definitionAt ws (h .at))
+  polyhedron-test e n = sym (is-polyhedron e ∙ rw (eq-eqb d 3 n))
+
+  pub solid-test : 1 ≤ h .kind → h .kind ≤ 4 → not (eqb d 3) ≡ wrongKind d (definitionAt ws (h .at))
+  unfolding wrongKind
+  solid-test low high = by (head-case ws h g)
+    where
+      by : HeadCase ws h → not (eqb d 3) ≡ wrongKind d (definitionAt ws (h .at))
+      by (polygon-head k p) = absurd (omega arith)
+      by (solid-head l u p) = rw (p .read)
+      by (polyhedron-head k p) = absurd (omega arith)
+
+  -- every record's kind is known
+  pub known-kind : h .kind ≤ 5
+  known-kind = by (head-case ws h g)
+    where
+      by : HeadCase ws h → h .kind ≤ 5
+      by (polygon-head k p) = omega arith
+      by (solid-head low high p) = omega arith
+      by (polyhedron-head k p) = omega arith
+
+-- ---- the numbers of one face
+
+module _ (points : ℕ) where
+  insert-below : (l : List ℕ) (x : ℕ) → x < points → insertBelow points l x ≡ fine (insertNew l x)
+  unfolding insertBelow refuse _>>=_
+  insert-below l x h = rw (lt-leb points x h)
+
+  insert-missing : (l : List ℕ) (x : ℕ) → points ≤ x → insertBelow points l x ≡ refused 12
+  unfolding insertBelow refuse _>>=_
+  insert-missing l x h = rw (le-leb points x h)
+
+  pub collect-turn : (vertices out out′ : List ℕ) (m m′ i y : ℕ) (r : Result (List ℕ)) → steps (insertBelow points) (take m out) (drop i vertices) ≡ r
+      → i < length vertices → y ≡ getD vertices i 0 → y < points → Inserted out out′ m (getD vertices i 0) m′
+      → steps (insertBelow points) (take m′ out′) (drop (i + 1) vertices) ≡ r
+  collect-turn vertices out out′ m m′ i y r inv more e low ins =
+      let one : insertBelow points (take m out) (getD vertices i 0) ≡ fine (take m′ out′) =
+      insert-below (take m out) (getD vertices i 0) (omega arith) ∙ ap fine (sym (ins .held))
+      in
+      sym (steps-next vertices i 0 more (insertBelow points) (take m out) (take m′ out′) one) ∙ inv
+
+  pub collect-missing : (vertices l k out : List ℕ) (i y limit : ℕ) → steps (insertBelow points) k (drop i vertices) ≡ steps (insertBelow points) l vertices
+      → i < length vertices → y ≡ getD vertices i 0 → points ≤ y → Collecting points l vertices out limit Missing
+  unfolding numbersIn
+  collect-missing vertices l k out i y limit inv more e high =
+      let one : insertBelow points k (getD vertices i 0) ≡ refused 12 = insert-missing k (getD vertices i 0) (omega arith) in
+      record { same = sym (steps-refused vertices i 0 more (insertBelow points) k 12 one) ∙ inv; few = omega arith }
+
+  pub collect-done : (vertices l out : List ℕ) (m n i : ℕ) → steps (insertBelow points) (take m out) (drop i vertices) ≡ steps (insertBelow points) l vertices
+      → i ≤ length vertices → length vertices ≤ i → m ≤ n + i → Collecting points l vertices out (n + length vertices) (Numbers m)
+  unfolding numbersIn steps
+  collect-done vertices l out m n i inv low end few = record { same = rw (drop-of-length-le vertices {i = i} end, steps) at inv; few = omega arith }
+
+-- as many as were collected
+pub collect-few : (points : ℕ) (l k out : List ℕ) (limit : ℕ) (r : Collected) (n : ℕ) → Collecting points l k out limit r → r ≡ Numbers n → n ≤ limit
+collect-few points l k out limit r n g e = rw e at (g .few)
+
+pub ruleset collects = (collect-turn, collect-missing, collect-done)
+
+-- ---- the faces of a record, one after another
+
+steps-append : {A B : Type 0} (f : B → A → Result B) (s : B) (l k : List A) → steps f s (l ++ k) ≡ (steps f s l >>= λ t. steps f t k)
+unfolding steps _>>=_
+steps-append f s [] k = refl
+steps-append {A} {B} f s (a ∷ l) k = by (f s a) (λ t. steps-append f t l k)
+  where
+    by : (r : Result B) → ((t : B) → steps f t (l ++ k) ≡ (steps f t l >>= λ u. steps f u k)) → (r >>= λ t. steps f t (l ++ k)) ≡ ((r >>= λ t. steps f t l) >>= λ t. steps f t k)
+    by (refused n) next = refl
+    by (fine t) next = next t
+
+-- the numbers that were copied are all lent, and the next face follows
+module _ (ws : List ℕ) (h : Head) (c : FaceCursor) (vs₀ vs : List ℕ) (count : ℕ) (next : FaceCursor) (f : FaceCopied ws h c vs₀ vs count next) where
+  pub copied-count : count ≡ length (take count vs)
+  copied-count = f .counted ∙ sym (ap length (f .front))
+
+  pub copied-next : next .face ≡ c .face + 1
+  unfolding nextFace
+  copied-next = ap (λ (x : FaceCursor). x .face) (f .follows)
+
+  pub copied-less : c .face < h .faces → h .faces - next .face < h .faces - c .face
+  copied-less more = let goes = copied-next in omega arith
+
+-- what is left of the faces from c on, put into the numbers so far, gives the whole
+pub record Uniting (ws : List ℕ) (h : Head) (points : ℕ) (out₀ out : List ℕ) (n : ℕ) (c : FaceCursor) : Type 0 where
+  pub at-face : AtFace ws h c
+  pub face : c .face ≤ h .faces
+  pub long : length out ≡ length out₀
+  pub few : n ≤ 8 * c .face
+  pub rest : steps (insertBelow points) (take n out) (concat (drop (c .face) (facesOf (definitionAt ws (h .at)))))
+      ≡ steps (insertBelow points) [] (concat (facesOf (definitionAt ws (h .at))))
+
+pub unite-start : (ws : List ℕ) (h : Head) (points : ℕ) (out : List ℕ) (c : FaceCursor) → Headed ws h → (c .face ≡ 0) × (c .at ≡ h .first) → Uniting ws h points out out 0 c
+unite-start ws h points out c g e =
+    record {
+      at-face = at-first ws h c g (e .0) (e .1);
+      face = omega arith;
+      long = refl;
+      few = omega arith;
+      rest = rw (e .0);
+    }
+
+module _ (ws : List ℕ) (h : Head) (points : ℕ) (out₀ out : List ℕ) (n : ℕ) (c : FaceCursor) (u : Uniting ws h points out₀ out n c) (more : c .face < h .faces) where
+  abbrev faces : List (List ℕ)
+  faces = facesOf (definitionAt ws (h .at))
+
+  there : c .face < length faces
+  there = omega (arith, head-faces ws h (u .at-face .headed) .all)
+
+  pub unite-room : (vs₀ vs : List ℕ) (count : ℕ) (next : FaceCursor) → 192 ≤ length out₀ → FaceCopied ws h c vs₀ vs count next → n + length (take count vs) ≤ length out
+  unite-room vs₀ vs count next room f =
+      let l : length (take count vs) ≡ count = ap length (f .front) ∙ sym (f .counted) in
+      omega (arith, u .long, u .few, f .small, head-faces ws h (u .at-face .headed) .few)
+
+  module _ (vs₀ vs : List ℕ) (count : ℕ) (next : FaceCursor) (f : FaceCopied ws h c vs₀ vs count next) (out′ : List ℕ) (r : Collected)
+      (got : Collecting points (take n out) (take count vs) out′ (n + length (take count vs)) r) where
+    one-face : steps (insertBelow points) (take n out) (concat (drop (c .face) faces)) ≡ (numbersIn out′ r >>= λ t. steps (insertBelow points) t (concat (drop (c .face + 1) faces)))
+    unfolding concat faceAt
+    one-face =
+        rw (left-at faces (c .face) [] there)
+        (steps-append (insertBelow points) (take n out) (getD faces (c .face) []) (concat (drop (c .face + 1) faces))
+        ∙ rw (← f .front, ← got .same))
+
+    pub unite-turn : (m : ℕ) → r ≡ Numbers m → length out′ ≡ length out → Uniting ws h points out₀ out′ m next
+    unfolding numbersIn _>>=_
+    unite-turn m e long =
+        let l : length (take count vs) ≡ count = ap length (f .front) ∙ sym (f .counted) in
+        let few : m ≤ n + length (take count vs) = rw e at (got .few) in
+        let goes = copied-next ws h c vs₀ vs count next f in
+        record {
+          at-face = f .goes;
+          face = omega arith;
+          long = long ∙ u .long;
+          few = omega (arith, f .small, u .few);
+          rest = rw goes (sym (rw e at one-face) ∙ u .rest);
+        }
+
+    pub unite-missing : (out″ : List ℕ) → r ≡ Missing → Collecting points [] (concat faces) out″ 192 Missing
+    unfolding numbersIn _>>=_
+    unite-missing out″ e = record { same = sym (rw e at one-face) ∙ u .rest; few = omega arith }
+
+pub unite-done : (ws : List ℕ) (h : Head) (points : ℕ) (out₀ out : List ℕ) (n : ℕ) (c : FaceCursor) → Uniting ws h points out₀ out n c → h .faces ≤ c .face
+    → Collecting points [] (concat (facesOf (definitionAt ws (h .at)))) out 192 (Numbers n)
+unfolding numbersIn steps concat
+unite-done ws h points out₀ out n c u end =
+    let f = head-faces ws h (u .at-face .headed) in
+    record {
+      same = rw (drop-of-length-le (facesOf (definitionAt ws (h .at))) {i = c .face} (omega (arith, f .all)), concat, steps) at (u .rest);
+      few = omega (arith, f .few, u .few, u .face);
+    }
+
+-- ---- refusal 12, and the average
+
+below-all : (points : ℕ) (l xs : List ℕ) → steps (insertBelow points) l xs ≡ (refuse 12 (any (leb points) xs) >>= λ _. fine (foldl insertNew l xs))
+unfolding steps insertBelow any foldl _>>=_ refuse
+below-all points l [] = refl
+below-all points l (x ∷ xs) = by (leb points x) refl (below-all points (insertNew l x) xs)
+  where
+    by : (t : Bool) → leb points x ≡ t → steps (insertBelow points) (insertNew l x) xs ≡ (refuse 12 (any (leb points) xs) >>= λ _. fine (foldl insertNew (insertNew l x) xs))
+        → (insertBelow points l x >>= λ k. steps (insertBelow points) k xs) ≡ (refuse 12 (any (leb points) (x ∷ xs)) >>= λ _. fine (foldl insertNew (insertNew l x) xs))
+    by true e next = rw (e, any)
+    by false e next = rw (e, any) next
+
+module _ (d : ℕ) (ps : List Vec3) (def : Definition) (t : Bool) (et : t ≡ wrongKind d def) where
+  pub checked-kind : t ≡ true → referenceCase (Refused 11) ≡ checked d ps def
+  unfolding referenceCase checked refuse _>>=_
+  checked-kind e = rw (← et, e)
+
+  module _ (right : t ≡ false) (points : ℕ) (out : List ℕ) (r : Collected) (long : length ps ≡ points)
+      (got : Collecting points [] (concat (facesOf def)) out 192 r) where
+    all-of : numbersIn out r ≡ (refuse 12 (missing ps def) >>= λ _. fine (rising (concat (facesOf def))))
+    unfolding missing rising
+    all-of = got .same ∙ below-all points [] (concat (facesOf def)) ∙ rw long
+
+    by-missing : (m : Bool) → missing ps def ≡ m → numbersIn out r ≡ (refuse 12 m >>= λ _. fine (rising (concat (facesOf def))))
+    by-missing m e = all-of ∙ rw e
+
+    pub checked-missing : r ≡ Missing → referenceCase (Refused 12) ≡ checked d ps def
+    unfolding referenceCase checked numbersIn refuse _>>=_
+    checked-missing e = by (missing ps def) refl
+      where
+        by : (m : Bool) → missing ps def ≡ m → refused 12 ≡ (refuse 11 (wrongKind d def) >>= λ _. refuse 12 (missing ps def) >>= λ _. fine (referenceOf ps def))
+        by true q = rw (← et, right, q)
+        by false q = absurd (let h = rw (e, q) at all-of in let z : _≡_ {A = ℕ} 0 1 = cc in omega arith)
+
+    pub checked-point : (n : ℕ) (v : Vec3) → r ≡ Numbers n → v ≡ average ps (take n out) → referenceCase (Point v) ≡ checked d ps def
+    unfolding referenceCase checked numbersIn refuse _>>=_ referenceOf
+    checked-point n v e ev = by (missing ps def) refl
+      where
+        by : (m : Bool) → missing ps def ≡ m → fine v ≡ (refuse 11 (wrongKind d def) >>= λ _. refuse 12 (missing ps def) >>= λ _. fine (average ps (rising (concat (facesOf def)))))
+        by true q = absurd (let h = rw (e, q) at all-of in let z : _≡_ {A = ℕ} 0 1 = cc in omega arith)
+        by false q =
+            let h = rw (e, q) at all-of in
+            let w : take n out ≡ rising (concat (facesOf def)) = cc in
+            rw (← et, right, q, ev, w)

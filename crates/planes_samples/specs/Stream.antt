@@ -1,0 +1,59 @@
+-- The same, sample by sample: what is kept of the samples so far, the answer words and the marks. No list of samples is held.
+use Prim.Native.Nat.{ℕ, _+_, _≤_}
+use mathlib.Core.Path.{_≡_}
+use mathlib.Core.Bool.{true, false}
+use mathlib.Core.List.{List, [], _∷_}
+use lib.ListN.{length, set}
+use Rattle.reading.specs.declared.Values.{Values}
+use Rattle.case_file.specs.declared.Counts.{Counts}
+use Rattle.case_file.specs.declared.Opened.the-variants.{Case}
+use Rattle.case_file.specs.Trailer.{opened}
+use Rattle.mesh_area.specs.declared.Sizes.{Sizes}
+use Rattle.planes_cut.specs.declared.Cut.{Cut}
+use Rattle.planes_cut.specs.Work.{Lent, bare}
+use Rattle.planes_crossings.specs.Work.{Bounded}
+use Rattle.planes_sections.specs.Intersect.{PlaneCell}
+use Rattle.planes_sums.specs.declared.Tally.{Tally}
+use Rattle.planes_sums.specs.Sample.{Sample, sound}
+use Rattle.planes_sums.specs.Kept.{addTo, written, sizeOf}
+use Rattle.planes_samples.specs.declared.Tallied.{Tallied}
+use Rattle.planes_samples.specs.declared.Tallied.the-variants.{Done, Bad}
+
+-- how the reading leaves things
+pub record Stream : Type 0 where
+  pub outcome : Tallied
+  pub answers : List ℕ
+  pub marks : List ℕ
+
+-- sample after sample, up to and including the first bad one
+unfoldable pub stream : Cut → (ℕ → Values) → List PlaneCell → Tally → List ℕ → List ℕ → Stream
+stream c f [] t o m = record { outcome = Done t; answers = o; marks = m }
+stream c f (p ∷ ps) t o m =
+    let s : Sample = record { geometry = p; values = f (p .cell) } in
+    elim (sound (f (p .cell))) [
+      | true ↦ stream c f ps (addTo c t s) (written t o s) (set m (p .cell) 1)
+      | false ↦ record { outcome = Bad; answers = o; marks = set m (p .cell) 1 }
+    ]
+
+-- what a function that samples promises
+pub record Streamed (s : Stream) (r : Tallied) (o m : List ℕ) : Type 0 where
+  pub outcome : r ≡ s .outcome
+  pub answers : o ≡ s .answers
+  pub marks : m ≡ s .marks
+
+-- what the functions of this crate are lent
+pub record Ready (case : List ℕ) (n : Counts) (s : Sizes) (words marks : List ℕ) : Type 0 where
+  pub is-open : opened case ≡ Case n
+  pub lent : Lent case (n .points) s words
+  pub bounded : Bounded (bare case (n .points) s words)
+  pub room : s .cells ≤ length marks
+
+-- one sample adds at most 586 to the bound of the numbers that are kept
+abbrev pub Grown : Tally → Tallied → Type 0
+Grown t (Done t′) = sizeOf t′ ≤ sizeOf t + 586
+Grown t Bad = Unit
+
+-- what a function that samples one piece at most promises
+pub record Stepped (s : Stream) (t : Tally) (r : Tallied) (o m : List ℕ) : Type 0 where
+  pub streamed : Streamed s r o m
+  pub grown : Grown t r

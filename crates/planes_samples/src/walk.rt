@@ -1,0 +1,159 @@
+// The samples of the cells, one after another.
+use crate::Tallied;
+use arith::Vec3;
+use case_file::Counts;
+use case_file::Opened;
+use case_file::field;
+use mesh_area::Sizes;
+use planes_cut::Cut;
+use planes_cut::Plane;
+use planes_cut::axes;
+use planes_sections::Piece;
+use planes_sections::pieces;
+use planes_sums::Tally;
+use planes_sums::keep;
+use planes_sums::measures;
+use reading::Values;
+ghost use mathlib.Core.Path.{_≡_};
+ghost use mathlib.Core.List.{List, [], _∷_};
+ghost use Prim.Native.Nat.{_+_, _*_, _<_, _≤_};
+ghost use lib.Ieee.{Float};
+ghost use Rattle.mesh_area.specs.Tables.{cellAt};
+ghost use Rattle.mesh_area.specs.Layout.{pointsIn, meshIn};
+ghost use Rattle.planes_cut.specs.Cut.{cutOf};
+ghost use Rattle.planes_sections.specs.Intersect.{pieceOf, piecesFrom, intersect};
+ghost use Rattle.planes_crossings.specs.Work.{Holds};
+ghost use Rattle.planes_cut.specs.Work.{bare};
+ghost use Rattle.planes_samples.specs.Stream.{stream, Streamed, Stepped, Ready};
+ghost use Rattle.planes_sums.specs.Kept.{cellIn, sizeOf};
+ghost use lib.ListN.{length, set};
+ghost use Rattle.case_file.specs.Trailer.{opened};
+ghost use Rattle.case_file.specs.Field.{valuesOf};
+
+// The values of cell i, which is marked as read.
+fn read(case: &[u8], n: Counts, marks: &mut [u8], i: usize) -> Values
+    requires { ⌜ (opened (now case) ≡ Opened.Case n) × (i < length (now marks)) ⌝ }
+    ensures { λ r. ⌜ (r ≡ valuesOf (now (case .entry)) i) × (now (marks .exit) ≡ set (now (marks .entry)) i 1) ⌝ }
+{
+    marks[i] = 1;
+    field::values(case, n, i)
+}
+
+// One piece, whose polygon stands in three slices: what is kept with it, or that it is bad.
+fn take_sample(
+    case: &[u8],
+    n: Counts,
+    cut: Cut,
+    t: Tally,
+    cell: usize,
+    centre: Vec3,
+    k: usize,
+    x: &[f64],
+    y: &[f64],
+    z: &[f64],
+    answers: &mut [u64],
+    marks: &mut [u8],
+) -> Tallied
+    requires { ⌜ (opened (now case) ≡ Opened.Case n) × (cell < length (now marks)) ⌝ }
+    requires { ⌜ Holds (now x) (now y) (now z) k × (1 ≤ k) × (k ≤ 192) × (sizeOf t < 1073741824) ⌝ }
+    ensures { λ r. ⌜ Stepped (stream cut (valuesOf (now (case .entry))) (cellIn cell centre k (now (x .entry)) (now (y .entry)) (now (z .entry)) ∷ []) t (now (answers .entry)) (now (marks .entry))) t r (now (answers .exit)) (now (marks .exit)) ⌝ }
+{
+    let v = read(case, n, marks, cell);
+    if measures::sound(v) {
+        Tallied::Done(keep::add(cut, t, cell, centre, k, v, x, y, z, answers))
+    } else {
+        Tallied::Bad
+    }
+}
+
+// One cell: its piece, where it has one.
+fn step(
+    case: &[u8],
+    n: Counts,
+    words: &[u32],
+    s: Sizes,
+    cut: Cut,
+    t: Tally,
+    cell: usize,
+    x: &mut [f64],
+    y: &mut [f64],
+    z: &mut [f64],
+    answers: &mut [u64],
+    marks: &mut [u8],
+) -> Tallied
+    requires { ⌜ Ready (now case) n s (now words) (now marks) × (cell < s .cells) ⌝ }
+    requires { ⌜ Holds (now x) (now y) (now z) 192 × (sizeOf t < 1073741824) ⌝ }
+    ensures { λ r. ⌜ Stepped (stream cut (valuesOf (now (case .entry))) (pieceOf (bare (now (case .entry)) (n .points) s (now (words .entry))) cut cell (cellAt (bare (now (case .entry)) (n .points) s (now (words .entry)) .cells) cell)) t (now (answers .entry)) (now (marks .entry))) t r (now (answers .exit)) (now (marks .exit)) ⌝ }
+{
+    let piece = pieces::piece_of(case, n.points, words, s, cut, cell, x, y, z);
+    match piece {
+        Piece::Of(centre, k) => {
+            take_sample(case, n, cut, t, cell, centre, k, x, y, z, answers, marks)
+        }
+        Piece::Empty => Tallied::Done(t),
+    }
+}
+
+// All cells in turn, up to and including the first bad one.
+fn sample_each(
+    case: &[u8],
+    n: Counts,
+    words: &[u32],
+    s: Sizes,
+    cut: Cut,
+    t: Tally,
+    x: &mut [f64],
+    y: &mut [f64],
+    z: &mut [f64],
+    answers: &mut [u64],
+    marks: &mut [u8],
+) -> Tallied
+    requires { ⌜ Ready (now case) n s (now words) (now marks) × (s .cells ≤ 16384) ⌝ }
+    requires { ⌜ Holds (now x) (now y) (now z) 192 × (sizeOf t ≤ 1) ⌝ }
+    ensures { λ r. ⌜ Streamed (stream cut (valuesOf (now (case .entry))) (piecesFrom (bare (now (case .entry)) (n .points) s (now (words .entry))) cut 0 (bare (now (case .entry)) (n .points) s (now (words .entry)) .cells)) t (now (answers .entry)) (now (marks .entry))) r (now (answers .exit)) (now (marks .exit)) ⌝ }
+{
+    let mut tally = t;
+    let mut i = 0;
+    while i < s.cells {
+        let Tallied::Done(next) = step(case, n, words, s, cut, tally, i, x, y, z, answers, marks)
+        else {
+            return Tallied::Bad;
+        };
+        tally = next;
+        i += 1;
+    }
+    Tallied::Done(tally)
+}
+
+// The section's cells in turn.
+pub fn sample_all(
+    case: &[u8],
+    n: Counts,
+    words: &[u32],
+    s: Sizes,
+    plane: Plane,
+    t: Tally,
+    answers: &mut [u64],
+    marks: &mut [u8],
+) -> Tallied
+    requires { ⌜ Ready (now case) n s (now words) (now marks) × (sizeOf t ≤ 1) ⌝ }
+    ensures { λ r. ⌜ ((floats : List Float) → Streamed (stream (cutOf (pointsIn (now (case .entry)) (n .points)) plane) (valuesOf (now (case .entry))) (intersect (meshIn (pointsIn (now (case .entry)) (n .points)) s (now (words .entry)) floats) plane) t (now (answers .entry)) (now (marks .entry))) r (now (answers .exit)) (now (marks .exit))) ⌝ }
+{
+    let cut = axes::cut_of(case, n.points, plane);
+    let mut x = [0.0; 192];
+    let mut y = [0.0; 192];
+    let mut z = [0.0; 192];
+    sample_each(
+        case,
+        n,
+        words,
+        s,
+        cut,
+        t,
+        &mut x,
+        &mut y,
+        &mut z,
+        answers,
+        marks,
+    )
+}

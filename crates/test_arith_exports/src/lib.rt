@@ -1,0 +1,127 @@
+// The root and the leaves of arith for programs in other languages. Each function calls one of
+// root or arith and promises the same definition.
+mod directions;
+
+use arith::Vec2;
+use arith::angles;
+use arith::bytes;
+use arith::float;
+ghost use mathlib.Core.Path.{_≡_};
+ghost use mathlib.Core.Bool.{cond};
+ghost use Rattle.arith_root.specs.Root.{root, SquareRoot};
+ghost use Rattle.arith.specs.F64 as F64;
+ghost use Rattle.arith.specs.Vec.{pair};
+ghost use Rattle.arith.specs.Angle.{turnsBefore};
+ghost use Rattle.test_arith_exports.specs.Directions.{fitting, ordered};
+
+#[no_mangle]
+pub extern "C" fn hookyellow_sqrt(x: f64) -> f64
+    ensures { λ r. ⌜ r ≡ root x ⌝ }
+    ensures { λ r. ⌜ SquareRoot x r ⌝ }
+{
+    arith_root::sqrt(x)
+}
+
+#[no_mangle]
+pub extern "C" fn hookyellow_abs(x: f64) -> f64
+    ensures { λ r. ⌜ r ≡ F64.abs x ⌝ }
+{
+    float::abs(x)
+}
+
+#[no_mangle]
+pub extern "C" fn hookyellow_min(a: f64, b: f64) -> f64
+    ensures { λ r. ⌜ r ≡ F64.fmin a b ⌝ }
+{
+    float::min(a, b)
+}
+
+#[no_mangle]
+pub extern "C" fn hookyellow_max(a: f64, b: f64) -> f64
+    ensures { λ r. ⌜ r ≡ F64.fmax a b ⌝ }
+{
+    float::max(a, b)
+}
+
+// x.clamp(0.0, 1.0)
+#[no_mangle]
+pub extern "C" fn hookyellow_clamp(x: f64) -> f64
+    ensures { λ r. ⌜ r ≡ F64.clamp x ⌝ }
+{
+    float::clamp(x)
+}
+
+#[no_mangle]
+pub extern "C" fn hookyellow_is_finite(x: f64) -> bool
+    ensures { λ r. ⌜ r ≡ F64.finite x ⌝ }
+{
+    float::is_finite(x)
+}
+
+#[no_mangle]
+pub extern "C" fn hookyellow_is_sign_negative(x: f64) -> bool
+    ensures { λ r. ⌜ r ≡ F64.signed x ⌝ }
+{
+    float::is_sign_negative(x)
+}
+
+// The distance a comes before b.
+#[no_mangle]
+pub extern "C" fn hookyellow_nearer(a: f64, b: f64) -> bool
+    ensures { λ r. ⌜ r ≡ F64.nearer a b ⌝ }
+{
+    float::nearer(a, b)
+}
+
+#[no_mangle]
+pub extern "C" fn hookyellow_floor_usize(x: f64) -> usize
+    ensures { λ r. ⌜ r ≡ F64.floorℕ x ⌝ }
+{
+    float::floor_usize(x)
+}
+
+#[no_mangle]
+pub extern "C" fn hookyellow_ceil_usize(x: f64) -> usize
+    ensures { λ r. ⌜ r ≡ F64.ceilℕ x ⌝ }
+{
+    float::ceil_usize(x)
+}
+
+// The bits n as a float, and its bits again.
+#[no_mangle]
+pub extern "C" fn hookyellow_bits(n: u64) -> u64
+    ensures { λ r. ⌜ r ≡ F64.word (F64.float n) ⌝ }
+{
+    bytes::bits_of(bytes::float_of(n))
+}
+
+// The direction (dx, dy) stands before (ex, ey).
+#[no_mangle]
+pub extern "C" fn hookyellow_turns_before(dx: f64, dy: f64, ex: f64, ey: f64) -> bool
+    ensures { λ r. ⌜ r ≡ turnsBefore (pair dx dy) (pair ex ey) ⌝ }
+{
+    let d = angles::angle_of(Vec2 { x: dx, y: dy });
+    let e = angles::angle_of(Vec2 { x: ex, y: ey });
+    angles::precedes(d, e)
+}
+
+// Puts the places of the directions (dx[i], dy[i]) in angle order. Where the slices are not
+// equally long, or longer than 192, it answers false and leaves places.
+#[no_mangle]
+pub extern "C" fn hookyellow_sort(dx: &[f64], dy: &[f64], places: &mut [usize]) -> bool
+    ensures { λ r. ⌜ r ≡ fitting (now (dx .entry)) (now (dy .entry)) (now (places .entry)) ⌝ }
+    ensures { λ r. ⌜ now (places .exit) ≡ cond r (ordered (now (dx .entry)) (now (dy .entry))) (now (places .entry)) ⌝ }
+{
+    let n = dx.len();
+    if n > 192 {
+        return false;
+    }
+    if dy.len() != n {
+        return false;
+    }
+    if places.len() != n {
+        return false;
+    }
+    directions::sort(dx, dy, places);
+    true
+}

@@ -1,0 +1,34 @@
+-- Pair: infinite, NaN and huge heights, lines there, unused word -0.0, unknown code, code 5 in 2D
+use Prim.Native.Nat.{ℕ}
+use mathlib.Core.Path.{refl}
+use mathlib.Core.List.{List, [], _∷_, _++_}
+use Rattle.test_rooms.specs.Computing.{computing}
+use Rattle.reading.specs.Result.{Result, fine}
+use Rattle.test_rooms.specs.Printed.{Printed, Known, bytes, bytesFrom, lends}
+use Rattle.test_rooms.specs.OnePass.{Computes, ran, below, seen, onePass, due, by-computing}
+
+unfoldable pub file : List ℕ
+file =
+    bytes 8 (0 ∷ 0 ∷ 0 ∷ 0x3ff0000000000000 ∷ 0 ∷ 0 ∷ 0x4000000000000000 ∷ 0 ∷ 0 ∷ 0 ∷ 0x3ff0000000000000 ∷ 0 ∷ 0x3ff0000000000000 ∷ 0x3ff0000000000000 ∷ 0 ∷ 0x4000000000000000 ∷ 0x3ff0000000000000 ∷ 0 ∷ [])
+    ++ (bytes 4 (0 ∷ 4 ∷ 0 ∷ 1 ∷ 4 ∷ 3 ∷ 0 ∷ 4 ∷ 1 ∷ 2 ∷ 5 ∷ 4 ∷ [])
+    ++ (bytes 8 (0x3ff0000000000000 ∷ 0 ∷ 0 ∷ 0x4008000000000000 ∷ 0 ∷ 0 ∷ 0 ∷ 0 ∷ [])
+    ++ bytes 4 (2 ∷ 6 ∷ 0xc ∷ 2 ∷ 0 ∷ 0x90 ∷ 0xc0 ∷ 0xf0 ∷ [])))
+
+unfoldable pub requests : List ℕ
+requests =
+    bytes 8 (2 ∷ 0x3fd0000000000000 ∷ 0x3fe0000000000000 ∷ 0x7ff0000000000000 ∷ 0 ∷ 0 ∷ 0 ∷ 0 ∷ 0 ∷ 0 ∷ 0 ∷ 0 ∷ 0 ∷ 0 ∷ 0 ∷ 0 ∷ 2 ∷ 0x3fd0000000000000 ∷ 0x3fe0000000000000 ∷ 0xfff8000000000000 ∷ 0 ∷ 0 ∷ 0 ∷ 0 ∷ 0 ∷ 0 ∷ 0 ∷ 0 ∷ 0 ∷ 0 ∷ 0 ∷ 0 ∷ 2 ∷ 0x3fd0000000000000 ∷ 0x3fe0000000000000 ∷ 0x6974e718d7d7625a ∷ 0 ∷ 0 ∷ 0 ∷ 0 ∷ 0 ∷ 0 ∷ 0 ∷ 0 ∷ 0 ∷ 0 ∷ 0 ∷ 0 ∷ 3 ∷ 0x3fd0000000000000 ∷ 0x3fe0000000000000 ∷ 0x7ff0000000000000 ∷ 0 ∷ 0x3fd0000000000000 ∷ 0xa ∷ 0x3fe0000000000000 ∷ 0 ∷ 0 ∷ 0 ∷ 0 ∷ 0 ∷ 0 ∷ 0 ∷ 0 ∷ 3 ∷ 0x3fd0000000000000 ∷ 0x3fe0000000000000 ∷ 0x7ff8000000000000 ∷ 0 ∷ 0x3fd0000000000000 ∷ 0xa ∷ 0x3fe0000000000000 ∷ 0 ∷ 0 ∷ 0 ∷ 0 ∷ 0 ∷ 0 ∷ 0 ∷ 0 ∷ 3 ∷ 0x3fd0000000000000 ∷ 0x3fe0000000000000 ∷ 0x8000000000000000 ∷ 0 ∷ 0x3fd0000000000000 ∷ 0xa ∷ 0x3fe0000000000000 ∷ 0 ∷ 0 ∷ 0 ∷ 0 ∷ 0 ∷ 0 ∷ 0 ∷ 0 ∷ 1 ∷ 0x3fe0000000000000 ∷ 0x3fe0000000000000 ∷ 0 ∷ 0x8000000000000000 ∷ 0 ∷ 0 ∷ 0 ∷ 0 ∷ 0 ∷ 0 ∷ 0 ∷ 0 ∷ 0 ∷ 0 ∷ 0 ∷ 9 ∷ 0 ∷ 0 ∷ 0 ∷ 0 ∷ 0 ∷ 0 ∷ 0 ∷ 0 ∷ 0 ∷ 0 ∷ 0 ∷ 0 ∷ 0 ∷ 0 ∷ 0 ∷ 5 ∷ 0 ∷ 0 ∷ 0 ∷ 0 ∷ 0 ∷ 0 ∷ 0 ∷ 0 ∷ 0 ∷ 0 ∷ 0 ∷ 0 ∷ 0 ∷ 0 ∷ 0 ∷ 5 ∷ 0 ∷ 0 ∷ 0 ∷ 0 ∷ 0 ∷ 0 ∷ 0 ∷ 0 ∷ 0 ∷ 1 ∷ 0 ∷ 0 ∷ 0 ∷ 0 ∷ 0 ∷ [])
+
+unfoldable pub expected : Result Printed
+expected =
+    fine
+    (record {
+      words = 0 ∷ 4 ∷ 1 ∷ 0x7ff8000000000000 ∷ 0x7ff8000000000000 ∷ 0x7ff8000000000000 ∷ 0 ∷ 4 ∷ 1 ∷ 0x7ff8000000000000 ∷ 0x7ff8000000000000 ∷ 0x7ff8000000000000 ∷ 0 ∷ 4 ∷ 1 ∷ 0x3ff0000000000000 ∷ 0 ∷ 0 ∷ 0 ∷ 4 ∷ 1 ∷ 0x3fd0000000000000 ∷ 0x3fe0000000000000 ∷ 0x7ff0000000000000 ∷ 0 ∷ 4 ∷ 1 ∷ 0x3fd0000000000000 ∷ 0x3fe0000000000000 ∷ 0x7ff8000000000000 ∷ 0 ∷ 0xa ∷ 3 ∷ 0x3fd0000000000000 ∷ 0x3fe0000000000000 ∷ 0x8000000000000000 ∷ 0x3fe0000000000000 ∷ 0x3fe0000000000000 ∷ 0 ∷ 0x3fe8000000000000 ∷ 0x3fe0000000000000 ∷ 0 ∷ 0x1e ∷ 0 ∷ 0x1e ∷ 0 ∷ 0x1f ∷ 0 ∷ 0x1e ∷ 0 ∷ [];
+      cells = 0 ∷ 1 ∷ [];
+    })
+
+computed : Computes file requests (lends 16384 8192 16384 8192) expected
+unfolding computing file requests expected bytes bytesFrom lends ran below seen onePass due
+computed = record { pass = refl }
+
+pub same : Known file requests (lends 16384 8192 16384 8192) expected
+same = by-computing computed

@@ -1,0 +1,34 @@
+-- Two cubes, plane z = 1: the polygon is cell 0's, and cell 1 with its NaN is not read
+use Prim.Native.Nat.{ℕ}
+use mathlib.Core.Path.{refl}
+use mathlib.Core.List.{List, [], _∷_, _++_}
+use Rattle.test_rooms.specs.Computing.{computing}
+use Rattle.reading.specs.Result.{Result, fine}
+use Rattle.test_rooms.specs.Printed.{Printed, Known, bytes, bytesFrom, lends}
+use Rattle.test_rooms.specs.OnePass.{Computes, ran, below, seen, onePass, due, by-computing}
+
+unfoldable pub file : List ℕ
+file =
+    bytes 8 (0 ∷ 0 ∷ 0 ∷ 0x3ff0000000000000 ∷ 0 ∷ 0 ∷ 0 ∷ 0x3ff0000000000000 ∷ 0 ∷ 0x3ff0000000000000 ∷ 0x3ff0000000000000 ∷ 0 ∷ 0 ∷ 0 ∷ 0x3ff0000000000000 ∷ 0x3ff0000000000000 ∷ 0 ∷ 0x3ff0000000000000 ∷ 0 ∷ 0x3ff0000000000000 ∷ 0x3ff0000000000000 ∷ 0x3ff0000000000000 ∷ 0x3ff0000000000000 ∷ 0x3ff0000000000000 ∷ 0 ∷ 0 ∷ 0x4000000000000000 ∷ 0x3ff0000000000000 ∷ 0 ∷ 0x4000000000000000 ∷ 0 ∷ 0x3ff0000000000000 ∷ 0x4000000000000000 ∷ 0x3ff0000000000000 ∷ 0x3ff0000000000000 ∷ 0x4000000000000000 ∷ [])
+    ++ (bytes 4 (2 ∷ 0 ∷ 1 ∷ 3 ∷ 2 ∷ 4 ∷ 5 ∷ 7 ∷ 6 ∷ 2 ∷ 4 ∷ 5 ∷ 7 ∷ 6 ∷ 8 ∷ 9 ∷ 0xb ∷ 0xa ∷ [])
+    ++ (bytes 8 (0 ∷ 0 ∷ 0x4000000000000000 ∷ 0x7ff8000000000000 ∷ 0 ∷ 0 ∷ 0 ∷ 0 ∷ [])
+    ++ bytes 4 (3 ∷ 0xc ∷ 0x12 ∷ 2 ∷ 0 ∷ 0x120 ∷ 0x168 ∷ 0x198 ∷ [])))
+
+unfoldable pub requests : List ℕ
+requests =
+    bytes 8 (5 ∷ 0 ∷ 0 ∷ 0x3ff0000000000000 ∷ 0x3ff0000000000000 ∷ 0 ∷ 0 ∷ 0 ∷ 0x3ff0000000000000 ∷ 0 ∷ 0 ∷ 0 ∷ 0 ∷ 0 ∷ 0 ∷ 0 ∷ 6 ∷ 0 ∷ 0 ∷ 0x3ff0000000000000 ∷ 0x3ff0000000000000 ∷ 0 ∷ 0 ∷ 0 ∷ 0x3ff0000000000000 ∷ 0 ∷ 0 ∷ 0 ∷ 0 ∷ 0 ∷ 0 ∷ 0 ∷ 7 ∷ 0 ∷ 0 ∷ 0x3ff0000000000000 ∷ 0x3ff0000000000000 ∷ 0 ∷ 0 ∷ 0 ∷ 0x3ff0000000000000 ∷ 0 ∷ 0 ∷ 0 ∷ 0 ∷ 0 ∷ 0 ∷ 0 ∷ 8 ∷ 0 ∷ 0 ∷ 0x3ff0000000000000 ∷ 0x3ff0000000000000 ∷ 0 ∷ 0 ∷ 0 ∷ 0x3ff0000000000000 ∷ 0 ∷ 0x3fe0000000000000 ∷ 0x3fe0000000000000 ∷ 0x3ff0000000000000 ∷ 0 ∷ 0 ∷ 0 ∷ [])
+
+unfoldable pub expected : Result Printed
+expected =
+    fine
+    (record {
+      words = 0 ∷ 0x16 ∷ 1 ∷ 0 ∷ 4 ∷ 0x3fe0000000000000 ∷ 0x3fe0000000000000 ∷ 0x3ff0000000000000 ∷ 0 ∷ 0 ∷ 0x3ff0000000000000 ∷ 0x3ff0000000000000 ∷ 0 ∷ 0x3ff0000000000000 ∷ 0x3ff0000000000000 ∷ 0x3ff0000000000000 ∷ 0x3ff0000000000000 ∷ 0 ∷ 0x3ff0000000000000 ∷ 0x3ff0000000000000 ∷ 0 ∷ 0 ∷ 0x4000000000000000 ∷ 0 ∷ 0 ∷ 0xd ∷ 1 ∷ 0x3ff0000000000000 ∷ 0x4000000000000000 ∷ 0x4000000000000000 ∷ 0x4000000000000000 ∷ 0x4000000000000000 ∷ 0x4000000000000000 ∷ 0x4000000000000000 ∷ 0 ∷ 0x4000000000000000 ∷ 1 ∷ 0x4000000000000000 ∷ 0x8000000000000000 ∷ 0 ∷ 4 ∷ 0x3ff0000000000000 ∷ 0 ∷ 0x4000000000000000 ∷ 0x4000000000000000 ∷ 0 ∷ 5 ∷ 0 ∷ 0 ∷ 0 ∷ 0x4000000000000000 ∷ 0 ∷ [];
+      cells = 0 ∷ [];
+    })
+
+computed : Computes file requests (lends 16384 8192 16384 8192) expected
+unfolding computing file requests expected bytes bytesFrom lends ran below seen onePass due
+computed = record { pass = refl }
+
+pub same : Known file requests (lends 16384 8192 16384 8192) expected
+same = by-computing computed

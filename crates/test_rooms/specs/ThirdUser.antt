@@ -1,0 +1,29 @@
+-- The same square three times: 14
+use Prim.Native.Nat.{ℕ}
+use mathlib.Core.Path.{refl}
+use mathlib.Core.List.{List, [], _∷_, _++_}
+use Rattle.test_rooms.specs.Computing.{computing}
+use Rattle.reading.specs.Result.{Result, refused}
+use Rattle.test_rooms.specs.Printed.{Printed, Known, bytes, bytesFrom, lends}
+use Rattle.test_rooms.specs.OnePass.{Computes, ran, below, seen, onePass, due, by-computing}
+
+unfoldable pub file : List ℕ
+file =
+    bytes 8 (0 ∷ 0 ∷ 0 ∷ 0x3ff0000000000000 ∷ 0 ∷ 0 ∷ 0x3ff0000000000000 ∷ 0x3ff0000000000000 ∷ 0 ∷ 0 ∷ 0x3ff0000000000000 ∷ 0 ∷ 0x3fc999999999999a ∷ 0x3fe999999999999a ∷ 0 ∷ [])
+    ++ (bytes 4 (0 ∷ 4 ∷ 0 ∷ 1 ∷ 2 ∷ 3 ∷ 0 ∷ 4 ∷ 0 ∷ 1 ∷ 2 ∷ 3 ∷ 0 ∷ 4 ∷ 0 ∷ 1 ∷ 2 ∷ 3 ∷ [])
+    ++ (bytes 8 (0 ∷ 0 ∷ 0 ∷ 0 ∷ 0 ∷ 0 ∷ 0 ∷ 0 ∷ 0 ∷ 0 ∷ 0 ∷ 0 ∷ [])
+    ++ bytes 4 (2 ∷ 5 ∷ 0x12 ∷ 3 ∷ 0 ∷ 0x78 ∷ 0xc0 ∷ 0x108 ∷ [])))
+
+unfoldable pub requests : List ℕ
+requests =
+    bytes 8 ([])
+
+unfoldable pub expected : Result Printed
+expected = refused 14
+
+computed : Computes file requests (lends 16384 8192 16384 8192) expected
+unfolding computing file requests expected bytes bytesFrom lends ran below seen onePass due
+computed = record { pass = refl }
+
+pub same : Known file requests (lends 16384 8192 16384 8192) expected
+same = by-computing computed
