@@ -3,7 +3,7 @@ use Prim.Native.Nat.{ℕ, zero, suc}
 use mathlib.Core.Bool.{Bool, true, false, cond}
 use mathlib.Core.List.{List, [], _∷_, _++_}
 use lib.ListN.{getD, set}
-use Rattle.arith.specs.Lists.{foldl, any, addNew}
+use Rattle.arith.specs.Lists.{fold, anyOf, addNew}
 pub use Rattle.arith.specs.All.{All}
 
 module _ {A : Type 0} (P : A → Type 0) where
@@ -23,7 +23,7 @@ module _ {A : Type 0} (P : A → Type 0) where
 
   pub all-addNew : (like : A → A → Bool) (l : List A) (a : A) → All P l → P a → All P (addNew like l a)
   unfolding addNew
-  all-addNew like l a h p = by (any (like a) l)
+  all-addNew like l a h p = by (anyOf (like a) l)
     where
       by : (b : Bool) → All P (cond b l (l ++ a ∷ []))
       by true = h
@@ -35,7 +35,7 @@ all-more P Q f [] h = tt
 all-more P Q f (a ∷ l) h = (f a (h .0), all-more P Q f l (h .1))
 
 -- a property that each step keeps
-pub foldl-keeps : {A B : Type 0} (P : B → Type 0) (f : B → A → B) (s : B) (l : List A) → P s → ((b : B) (a : A) → P b → P (f b a)) → P (foldl f s l)
-unfolding foldl
+pub foldl-keeps : {A B : Type 0} (P : B → Type 0) (f : B → A → B) (s : B) (l : List A) → P s → ((b : B) (a : A) → P b → P (f b a)) → P (fold f s l)
+unfolding fold
 foldl-keeps P f s [] h k = h
 foldl-keeps P f s (a ∷ l) h k = foldl-keeps P f (f s a) l (k s a h) k

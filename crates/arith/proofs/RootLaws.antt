@@ -17,7 +17,7 @@ use Rattle.arith_root.proofs.Nearest.{root-nearest}
 use Rattle.arith.specs.F64.{_⊕_, _⊗_, _≺_, finite, signed, fmax}
 use Rattle.arith.specs.Vec.{dot, normSquared, norm}
 use Rattle.arith.specs.declared.Vec3.{Vec3}
-use Rattle.arith.specs.Lists.{foldl}
+use Rattle.arith.specs.Lists.{fold}
 use Rattle.arith.proofs.Counts.{ltb-scale}
 use Rattle.arith.proofs.Floats.{zero-exp, signed-odd}
 
@@ -436,9 +436,9 @@ fmax-fits a b f g = by (isNan a || a ≺ b)
 
 -- the largest of many roots is the root of the largest: of the lengths of the vectors v a
 pub largest-norm : {A : Type 0} (v : A → Vec3) (s : Float) (l : List A) → T (fits binary64 s) →
-    foldl (λ (r : Float) (a : A). fmax r (norm (v a))) (root s) l ≡ root (foldl (λ (r : Float) (a : A). fmax r (normSquared (v a))) s l)
-unfolding foldl norm
+    fold (λ (r : Float) (a : A). fmax r (norm (v a))) (root s) l ≡ root (fold (λ (r : Float) (a : A). fmax r (normSquared (v a))) s l)
+unfolding fold norm
 largest-norm v s [] f = refl
 largest-norm {A} v s (a ∷ l) f =
-    ap (λ (t : Float). foldl (λ (r : Float) (a : A). fmax r (norm (v a))) t l) (fmax-root s (normSquared (v a)) f (square-fits (v a)))
+    ap (λ (t : Float). fold (λ (r : Float) (a : A). fmax r (norm (v a))) t l) (fmax-root s (normSquared (v a)) f (square-fits (v a)))
     ∙ largest-norm v (fmax s (normSquared (v a))) l (fmax-fits s (normSquared (v a)) f (square-fits (v a)))

@@ -10,7 +10,7 @@ use lib.ListN.{length, getD, take, drop, set, length-drop, length-append}
 use lib.Seq.{length-take-le, take-all, take-suc, take-at, set-at}
 use borrow.Author.Tests.{ltb-true, eq-eqb, ne-eqb}
 use Rattle.arith.specs.Records.{part, puts}
-use Rattle.arith.specs.Lists.{all, Side, sides, after}
+use Rattle.arith.specs.Lists.{allOf, Side, sides, after}
 use Rattle.arith.proofs.All.{All, all-getD, all-more}
 use Rattle.arith.proofs.ListLaws.{left-at, length-sides, sides-at}
 use Rattle.arith.proofs.RoundLaws.{after-less}
@@ -162,31 +162,31 @@ pub record SolidFace (ws : List ℕ) (h : Head) (k : ℕ) : Type 0 where
 
 -- places of a solid of n points
 placed : ℕ → List ℕ → Bool
-placed n l = all (λ i. ltb i n) l
+placed n l = allOf (λ i. ltb i n) l
 
 -- a solid's table goes by its kind, and its places are those of its points
 record Tabled (kind : ℕ) (table : List (List ℕ)) (n : ℕ) : Type 0 where
   same : table ≡ tableOf kind
-  inside : all (placed n) table ≡ true
+  inside : allOf (placed n) table ≡ true
 
 tabled-kind : (kind : ℕ) (table : List (List ℕ)) (n : ℕ) → IsSolid kind table n → Tabled kind table n
-unfolding tableOf tetrahedron hexahedron prism pyramid placed all
+unfolding tableOf tetrahedron hexahedron prism pyramid placed allOf
 tabled-kind kind table n is-tetrahedron = record { same = refl; inside = refl }
 tabled-kind kind table n is-hexahedron = record { same = refl; inside = refl }
 tabled-kind kind table n is-prism = record { same = refl; inside = refl }
 tabled-kind kind table n is-pyramid = record { same = refl; inside = refl }
 
-all-pass : {A : Type 0} (p : A → Bool) (l : List A) → all p l ≡ true → All (λ a. p a ≡ true) l
-unfolding all
+all-pass : {A : Type 0} (p : A → Bool) (l : List A) → allOf p l ≡ true → All (λ a. p a ≡ true) l
+unfolding allOf
 all-pass p [] e = tt
 all-pass p (a ∷ l) e = by (p a) refl (all-pass p l) e
   where
-    by : (t : Bool) → p a ≡ t → (all p l ≡ true → All (λ a. p a ≡ true) l) → elim t [ true ↦ all p l | false ↦ false ] ≡ true → All (λ a. p a ≡ true) (a ∷ l)
+    by : (t : Bool) → p a ≡ t → (allOf p l ≡ true → All (λ a. p a ≡ true) l) → elim t [ true ↦ allOf p l | false ↦ false ] ≡ true → All (λ a. p a ≡ true) (a ∷ l)
     by true q r e = (q, r e)
     by false q r e = absurd (let z : _≡_ {A = ℕ} 0 1 = cc in omega arith)
 
-row-placed : (n : ℕ) (table : List (List ℕ)) (k : ℕ) → all (placed n) table ≡ true → All (λ i. i < n) (getD table k [])
-unfolding placed all
+row-placed : (n : ℕ) (table : List (List ℕ)) (k : ℕ) → allOf (placed n) table ≡ true → All (λ i. i < n) (getD table k [])
+unfolding placed allOf
 row-placed n table k e =
     all-more (λ i. ltb i n ≡ true) (λ i. i < n) (λ i t. ltb-true i n t) (getD table k [])
     (all-pass (λ i. ltb i n) (getD table k []) (all-getD (λ l. placed n l ≡ true) table k [] refl (all-pass (placed n) table e)))

@@ -6,7 +6,7 @@ use mathlib.Core.Path.{_≡_, refl, ap, sym, _∙_}
 use mathlib.Core.List.{List, _∷_}
 use lib.ListN.{length, getD, take, drop, length-drop, drop-of-length-le}
 use lib.Seq.{length-take-le}
-use Rattle.arith.specs.Lists.{foldl}
+use Rattle.arith.specs.Lists.{fold}
 use Rattle.arith.proofs.ListLaws.{left-at}
 use Rattle.arith.proofs.RecordLaws.{left-suc}
 use Rattle.reading.specs.Result.{Result, refused, fine, _>>=_}
@@ -201,7 +201,7 @@ steps-wrong ws at r e = by (definition (drop at ws)) refl
 -- F, of which k faces were counted before, or the refusal
 unfoldable pub walkedFrom : ℕ → Result (List Definition) → Walked
 walkedFrom k (refused r) = Refused r
-walkedFrom k (fine ds) = Faces (foldl addFaceCount k ds)
+walkedFrom k (fine ds) = Faces (fold addFaceCount k ds)
 
 pub walked-start : (r : Result (List Definition)) → walkedFrom 0 r ≡ walked r
 unfolding walkedFrom walked facesCounted
@@ -209,7 +209,7 @@ walked-start (refused n) = refl
 walked-start (fine ds) = refl
 
 walked-more : (k : ℕ) (d : Definition) (r : Result (List Definition)) → walkedFrom k (r >>= λ ds. fine (d ∷ ds)) ≡ walkedFrom (k + faceCount d) r
-unfolding _>>=_ walkedFrom foldl addFaceCount
+unfolding _>>=_ walkedFrom fold addFaceCount
 walked-more k d (refused n) = refl
 walked-more k d (fine ds) = refl
 
@@ -232,5 +232,5 @@ module _ (ws : List ℕ) (cells i at faces : ℕ) where
   walk-left h b = let z : cells - i ≡ 0 = omega arith in rw (z, left-at ws at 0 b)
 
   pub walk-end : cells ≤ i → length ws ≤ at → Faces faces ≡ walkedFrom faces (definitions (cells - i) (drop at ws))
-  unfolding definitions walkedFrom foldl
+  unfolding definitions walkedFrom fold
   walk-end h b = let z : cells - i ≡ 0 = omega arith in rw (z, drop-of-length-le ws b)

@@ -2,7 +2,7 @@
 use Prim.Native.Nat.{ℕ, _+_}
 use mathlib.Core.List.{List, [], _∷_, map}
 use lib.ListN.{length, getD}
-use Rattle.arith.specs.Lists.{foldl, Side, sides}
+use Rattle.arith.specs.Lists.{fold, Side, sides}
 
 -- `CellDefinition`: a solid of the kinds 1 to 4 has its table of faces beside its point numbers
 pub data Definition : Type 0 where
@@ -81,4 +81,4 @@ addFaceCount n d = n + faceCount d
 
 -- F
 unfoldable pub facesCounted : List Definition → ℕ
-facesCounted ds = foldl addFaceCount 0 ds
+facesCounted ds = fold addFaceCount 0 ds

@@ -5,7 +5,7 @@ use mathlib.Core.Path.{_≡_, refl, ap, sym, _∙_}
 use mathlib.Core.List.{List, [], _∷_, _++_, List·Memᴰ, map, append-nil}
 use lib.ListN.{length, getD, drop, replicate, length-replicate, length-drop}
 use lib.Seq.{ext-getD, getD-append-add, getD-drop}
-use Rattle.arith.specs.Lists.{concat}
+use Rattle.arith.specs.Lists.{flatten}
 use Rattle.reading.specs.declared.Values.{Values}
 use Rattle.reading.specs.Result.{fine, _>>=_}
 use Rattle.reading.specs.Asks.{Asks, reads}
@@ -36,8 +36,8 @@ all-within room h left [] = given
 all-within room h left (r ∷ rs) = within-bind (h _) (λ a. within-bind (all-within room h _ rs) (λ ws. given))
 
 -- and exactly what they read, one after another
-pub reads-each : (room : Room) (f : ℕ → Values) (left : ℕ) (rs : List (List ℕ)) → reads (serveAll room left rs) f ≡ concat (map (λ r. reads (replyTo room r) f) rs)
-unfolding serveAll concat
+pub reads-each : (room : Room) (f : ℕ → Values) (left : ℕ) (rs : List (List ℕ)) → reads (serveAll room left rs) f ≡ flatten (map (λ r. reads (replyTo room r) f) rs)
+unfolding serveAll flatten
 reads-each room f left [] = refl
 reads-each room f left (r ∷ rs) =
     reads-bind (replyTo room r) _ f

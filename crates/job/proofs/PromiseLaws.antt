@@ -9,7 +9,7 @@ use mathlib.Core.List.{List, [], _∷_, _++_, map, append-assoc, List·Memᴰ, L
 use lib.Dec.{leb}
 use lib.ListN.{length, getD, drop, replicate}
 use lib.Ieee.{Float}
-use Rattle.arith.specs.Lists.{concat}
+use Rattle.arith.specs.Lists.{flatten}
 use Rattle.reading.specs.declared.Values.{Values}
 use Rattle.reading.specs.Result.{Result, refused, fine, _>>=_}
 use Rattle.reading.specs.Asks.{give, run, reads}
@@ -64,16 +64,16 @@ all-answers room f left (r ∷ rs) k =
 -- ---- a cell among those of one list after another
 
 module _ {A : Type 0} (g : A → List ℕ) (d : A) (i : ℕ) where
-  found : (rs : List A) → List·Memᴰ i (concat (map g rs)) → (n : ℕ) × (n < length rs) × List·Memᴰ i (g (getD rs n d))
-  unfolding concat
+  found : (rs : List A) → List·Memᴰ i (flatten (map g rs)) → (n : ℕ) × (n < length rs) × List·Memᴰ i (g (getD rs n d))
+  unfolding flatten
   found [] w = absurd (List·Memᴰ·not-nil w)
   found (r ∷ rs) w =
       ⊎-elim (λ v. (0, omega arith, v)) (λ v. let f = found rs v in (suc (f .0), (let l = f .1 in omega arith), f .2)) (List·Memᴰ·append-cases (g r) w)
 
-  among : (rs : List A) (n : ℕ) → n < length rs → List·Memᴰ i (g (getD rs n d)) → List·Memᴰ i (concat (map g rs))
-  unfolding concat
+  among : (rs : List A) (n : ℕ) → n < length rs → List·Memᴰ i (g (getD rs n d)) → List·Memᴰ i (flatten (map g rs))
+  unfolding flatten
   among [] n h w = absurd (omega arith)
-  among (r ∷ rs) zero h w = Memᴰ·append-left (concat (map g rs)) w
+  among (r ∷ rs) zero h w = Memᴰ·append-left (flatten (map g rs)) w
   among (r ∷ rs) (suc n) h w = Memᴰ·append-right (g r) (among rs n (omega arith) w)
 
 -- ---- the outcome of a job

@@ -7,7 +7,7 @@ use mathlib.Core.List.{List, [], _∷_}
 use lib.ListN.{length}
 use lib.Ieee.{Float}
 use Rattle.arith.specs.F64.{_⊕_, 0·0, nearer}
-use Rattle.arith.specs.Lists.{foldl, firstFrom}
+use Rattle.arith.specs.Lists.{fold, firstFrom}
 use Rattle.arith.specs.declared.Vec2.{Vec2}
 use Rattle.arith.specs.declared.Vec3.{Vec3}
 use Rattle.arith.specs.declared.Found.{Found}
@@ -63,8 +63,8 @@ module _ (n : ℕ) (f : StreamlineField) (sound : Sound n f) where
       by true = b
       by false = a
 
-  nearest-below : (p : Vec3) (k : ℕ) (ks : List ℕ) → k < n → All (λ j. j < n) ks → foldl (nearerOf f p) k ks < n
-  unfolding foldl
+  nearest-below : (p : Vec3) (k : ℕ) (ks : List ℕ) → k < n → All (λ j. j < n) ks → fold (nearerOf f p) k ks < n
+  unfolding fold
   nearest-below p k [] h g = h
   nearest-below p k (j ∷ ks) h g = nearest-below p (nearerOf f p k j) ks (nearer-below p k j h (g .0)) (g .1)
 

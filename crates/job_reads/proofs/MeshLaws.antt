@@ -19,7 +19,7 @@ use Rattle.reading.proofs.ResultLaws.{bound, not-due, length-mapAll, steps-keep
 use Rattle.case_definitions.specs.Faces.{Definition}
 use Rattle.mesh_area.specs.Tables.{Face, Cell, Mesh, faceAt, noFace, cellAt, noCell}
 use Rattle.mesh_face_table.specs.declared.Measured.{Measured}
-use Rattle.mesh_faces.specs.Table.{lookup, newFace, withNeighbour, joining, settled, adding, Placed, placed, addFace}
+use Rattle.mesh_faces.specs.Table.{faceWithKey, newFace, withNeighbour, joining, settled, adding, Placed, placed, addFace}
 use Rattle.mesh_cells.specs.Cells.{Growing, addFaceOf, Drafts, addCell, drafts}
 use Rattle.mesh_connection.specs.Neighbours.{otherOf, beyond, addFound, addNeighbour, neighboursOf, linkedAt, linked}
 use Rattle.mesh_centres.specs.Finish.{finished}
@@ -69,7 +69,7 @@ module _ (n cell : ℕ) (below : cell < n) where
 
     add-numbered : addFace cell v m fs ≡ fine p → All (Numbered n) (p .faces)
     unfolding addFace adding
-    add-numbered e = settled-numbered (lookup (sorted v) fs) e
+    add-numbered e = settled-numbered (faceWithKey (sorted v) fs) e
 
   face-numbered : (d : ℕ) (ps : List Vec3) (reference : Vec3) (g : Growing) (l : List ℕ) (h : Growing) → All (Numbered n) (g .faces)
       → addFaceOf d ps cell reference g l ≡ fine h → All (Numbered n) (h .faces)

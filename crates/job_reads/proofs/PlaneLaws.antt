@@ -4,7 +4,7 @@ use native.Mathlib.Omega.{arith}
 use mathlib.Core.Bool.{Bool, true, false, cond}
 use mathlib.Core.List.{List, [], _∷_}
 use lib.ListN.{length}
-use Rattle.arith.specs.Lists.{only, any}
+use Rattle.arith.specs.Lists.{only, anyOf}
 use Rattle.arith.specs.declared.Vec3.{Vec3}
 use Rattle.arith.proofs.All.{All, all-append}
 use Rattle.reading.specs.Result.{Result}
@@ -41,7 +41,7 @@ module _ (n : ℕ) where
   unfolding pieceOf
   piece-below m c i k h =
       let l : List Vec3 = meetings m c (k .faces) in
-      all-unless Below (any (foreign m c i) (k .faces)) (pieceAbout c i l (middle l)) (about-below c i l (middle l) h)
+      all-unless Below (anyOf (foreign m c i) (k .faces)) (pieceAbout c i l (middle l)) (about-below c i l (middle l) h)
 
   pieces-below : (m : Mesh) (c : Cut) (i : ℕ) (ks : List Cell) → i + length ks ≤ n → All Below (piecesFrom m c i ks)
   unfolding piecesFrom

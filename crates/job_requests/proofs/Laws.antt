@@ -9,7 +9,7 @@ use lib.Dec.{ltb, eqb}
 use lib.ListN.{length, getD, drop}
 use borrow.Author.Tests.{ltb-false, lt-ltb, le-ltb}
 use Rattle.arith.specs.Bytes.{le64}
-use Rattle.arith.specs.Lists.{any}
+use Rattle.arith.specs.Lists.{anyOf}
 use Rattle.arith.proofs.ListLaws.{any-here, any-next}
 use Rattle.arith.proofs.RecordLaws.{drop-end}
 use Rattle.case_file.proofs.ReadLaws.{length-readAll, getD-readAll}
@@ -41,7 +41,7 @@ module _ (bytes : List ℕ) (at : ℕ) where
 
   -- ---- a word from some place on is not zero
 
-  module _ (i n : ℕ) {w : Bool} (e : n ≡ number (wordsAt bytes at) i) (h : i < 16) (left : any (ltb 0) (drop i (wordsAt bytes at)) ≡ w) where
+  module _ (i n : ℕ) {w : Bool} (e : n ≡ number (wordsAt bytes at) i) (h : i < 16) (left : anyOf (ltb 0) (drop i (wordsAt bytes at)) ≡ w) where
     more : i < length (wordsAt bytes at)
     more = omega (arith, length-words)
 
@@ -49,12 +49,12 @@ module _ (bytes : List ℕ) (at : ℕ) where
     unfolding number
     set-here p = sym (any-here (wordsAt bytes at) i 0 more (ltb 0) (rw (sym e) (lt-ltb 0 n p))) ∙ left
 
-    pub set-later : n ≤ 0 → any (ltb 0) (drop (i + 1) (wordsAt bytes at)) ≡ w
+    pub set-later : n ≤ 0 → anyOf (ltb 0) (drop (i + 1) (wordsAt bytes at)) ≡ w
     unfolding number
     set-later p = sym (any-next (wordsAt bytes at) i 0 more (ltb 0) (rw (sym e) (le-ltb 0 n p))) ∙ left
 
-  pub none-set : (i : ℕ) {w : Bool} → 16 ≤ i → any (ltb 0) (drop i (wordsAt bytes at)) ≡ w → false ≡ w
-  unfolding any
+  pub none-set : (i : ℕ) {w : Bool} → 16 ≤ i → anyOf (ltb 0) (drop i (wordsAt bytes at)) ≡ w → false ≡ w
+  unfolding anyOf
   none-set i h left = rw (drop-end (wordsAt bytes at) i (omega (arith, length-words))) at left
 
 -- ---- refusals 36 and 37

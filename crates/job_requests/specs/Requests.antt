@@ -7,7 +7,7 @@ use lib.ListN.{length, getD, drop}
 use lib.Ieee.{Float}
 use Rattle.arith.specs.F64.{float}
 use Rattle.arith.specs.Bytes.{le64, readAll}
-use Rattle.arith.specs.Lists.{any}
+use Rattle.arith.specs.Lists.{anyOf}
 use Rattle.arith.specs.Vec.{vec}
 use Rattle.arith.specs.declared.Vec3.{Vec3}
 use Rattle.lines_step.specs.declared.StreamlineOptions.{StreamlineOptions}
@@ -56,7 +56,7 @@ astray r code = cond (eqb code 3) (ltb 1 (number r 4)) (cond (eqb code 4) (ltb 1
 unfoldable pub illFormed : List ℕ → Bool
 illFormed r =
     let code = number r 0 in
-    ltb code 1 || (ltb 8 code || (any (ltb 0) (drop (usedWords code) r) || astray r code))
+    ltb code 1 || (ltb 8 code || (anyOf (ltb 0) (drop (usedWords code) r) || astray r code))
 
 -- refusal 31: "codes 1 to 4 need 2D, 5 to 8 need 3D"
 unfoldable pub against : Bool → ℕ → Bool

@@ -12,7 +12,7 @@ ghost use mathlib.Core.Bool.{true, false};
 ghost use Prim.Native.Nat.{_+_, _*_, _≤_, _<_};
 ghost use lib.ListN.{length, drop};
 ghost use lib.Dec.{ltb};
-ghost use Rattle.arith.specs.Lists.{any};
+ghost use Rattle.arith.specs.Lists.{anyOf};
 ghost use Rattle.job_requests.specs.Requests as Requests;
 ghost use Rattle.job_requests.specs.Requests.{wordsAt};
 ghost use Rattle.job_requests.specs.Bounds.{Allowed};
@@ -68,7 +68,7 @@ fn used_words(code: u64) -> usize
 // A word from k on is not zero.
 fn any_set(bytes: &[u8], at: usize, k: usize) -> bool
     requires { ⌜ at + 128 ≤ length (now bytes) ⌝ }
-    ensures { λ r. ⌜ r ≡ any (ltb 0) (drop k (wordsAt (now (bytes .entry)) at)) ⌝ }
+    ensures { λ r. ⌜ r ≡ anyOf (ltb 0) (drop k (wordsAt (now (bytes .entry)) at)) ⌝ }
 {
     let mut i = k;
     while i < 16 {

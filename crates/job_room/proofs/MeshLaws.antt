@@ -8,7 +8,7 @@ use mathlib.Core.Logic.{_⊎_, inl, inr}
 use lib.ListN.{length, getD, List·getD-eq-default}
 use borrow.Author.Tests.{not-false}
 use Rattle.arith.specs.F64.{finite}
-use Rattle.arith.specs.Lists.{all}
+use Rattle.arith.specs.Lists.{allOf}
 use Rattle.arith.specs.Vec.{each3, origin}
 use Rattle.arith.specs.declared.Vec3.{Vec3}
 use Rattle.arith.proofs.RecordLaws.{length-tab, getD-tab, lt-or-ge}
@@ -70,10 +70,10 @@ past cs i h = List·getD-eq-default cs noCell h
 pub record FromDrafts (d : ℕ) (ps : List Vec3) (defs : List Definition) (m : Mesh) : Type 0 where
   pub t : Drafts
   pub drafted : drafts d ps defs ≡ fine t
-  pub whole : all (each3 finite) ps ≡ true
+  pub whole : allOf (each3 finite) ps ≡ true
   pub over : (none : Draft) → Over ps t none m
 
-all-finite : (ps : List Vec3) (defs : List Definition) (u : Unit {0}) → acceptable ps defs ≡ fine u → all (each3 finite) ps ≡ true
+all-finite : (ps : List Vec3) (defs : List Definition) (u : Unit {0}) → acceptable ps defs ≡ fine u → allOf (each3 finite) ps ≡ true
 unfolding acceptable
 all-finite ps defs u e =
     let b8 = bound _ _ _ e in

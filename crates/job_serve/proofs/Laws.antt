@@ -7,7 +7,7 @@ use mathlib.Core.List.{List, [], _∷_, map, append-nil}
 use lib.ListN.{length}
 use lib.Seq.{sets, length-sets}
 use lib.Ieee.{Float}
-use Rattle.arith.specs.Lists.{concat}
+use Rattle.arith.specs.Lists.{flatten}
 use Rattle.arith.specs.declared.Vec3.{Vec3}
 use Rattle.arith.specs.declared.Found.{Found}
 use Rattle.arith.specs.declared.Found.the-variants.{At, Nothing}
@@ -259,7 +259,7 @@ left-long (solid m) (Locate p) v o = refl
 left-long (solid m) (Velocity p) v o = refl
 left-long (solid m) (Streamline p d x) v o = refl
 left-long (solid m) (Rake a b n d x) v o = refl
-left-long (solid m) (Section s) v o = length-sets o 1 (concat (map sampleWords (goods v (intersect m s))))
+left-long (solid m) (Section s) v o = length-sets o 1 (flatten (map sampleWords (goods v (intersect m s))))
 left-long (solid m) (Statistics s field) v o = refl
 left-long (solid m) (Integrals s) v o = refl
 left-long (solid m) (Probe s p) v o = refl

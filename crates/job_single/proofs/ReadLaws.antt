@@ -6,7 +6,7 @@ use lib.Dec.{ltb, eqb}
 use lib.Ieee.{Float, binary64}
 use lib.Ieee.Bits.{ofBits-toBits}
 use Rattle.arith.specs.F64.{float, word}
-use Rattle.arith.specs.Lists.{any}
+use Rattle.arith.specs.Lists.{anyOf}
 use Rattle.arith.specs.Vec.{vec}
 use Rattle.arith.specs.declared.Vec3.{Vec3}
 use Rattle.lines_step.specs.declared.StreamlineOptions.{StreamlineOptions}
@@ -46,23 +46,23 @@ options-back o h = rw (float-back _ (h .step), float-back _ (h .length), float-b
 -- ---- codes 1 and 2
 
 pub locate-read : (p : Vec3) → F64s p → requestOf true (locateWords p) ≡ Locate p
-unfolding requestOf barring illFormed usedWords astray against byCode number point real any locateWords padded vecWords
+unfolding requestOf barring illFormed usedWords astray against byCode number point real anyOf locateWords padded vecWords
 locate-read p h = ap Locate (vec-back p h)
 
 pub velocity-read : (p : Vec3) → F64s p → requestOf true (velocityWords p) ≡ Velocity p
-unfolding requestOf barring illFormed usedWords astray against byCode number point real any velocityWords padded vecWords
+unfolding requestOf barring illFormed usedWords astray against byCode number point real anyOf velocityWords padded vecWords
 velocity-read p h = ap Velocity (vec-back p h)
 
 -- ---- codes 3 and 4: refusals 32 and 33 are by the arguments
 
 module _ (d : StreamlineDirection) (o : StreamlineOptions) (l : OptionsHeld o) where
   pub streamline-read : (seed : Vec3) → F64s seed → requestOf true (streamlineWords seed d o) ≡ barring 33 (ltb 65536 (o .«max_steps»)) (Streamline seed d o)
-  unfolding requestOf barring illFormed usedWords astray against byCode streamline direction options number point real any streamlineWords padded vecWords lineWords
+  unfolding requestOf barring illFormed usedWords astray against byCode streamline direction options number point real anyOf streamlineWords padded vecWords lineWords
   streamline-read seed h = rw (not-astray d, direction-back d, vec-back seed h, options-back o l)
 
   pub rake-read : (start end : Vec3) (count : ℕ) → F64s start → F64s end
       → requestOf true (rakeWords start end count d o) ≡ barring 32 (ltb count 2) (barring 33 (ltb 64 count) (barring 33 (ltb 65536 (o .«max_steps»)) (Rake start end count d o)))
-  unfolding requestOf barring illFormed usedWords astray against byCode rake rakeOf direction options number point real any rakeWords padded vecWords lineWords
+  unfolding requestOf barring illFormed usedWords astray against byCode rake rakeOf direction options number point real anyOf rakeWords padded vecWords lineWords
   rake-read start end count h k = rw (not-astray d, direction-back d, vec-back start h, vec-back end k, options-back o l)
 
 -- ---- codes 5 to 8: refusals 36 to 38 are by the arguments
@@ -74,17 +74,17 @@ module _ (s : Plane) where
 
   module _ (h : PlaneHeld s) where
     pub section-read : requestOf false (sectionWords s) ≡ over (Section s)
-    unfolding requestOf barring illFormed usedWords astray against byCode planar overPlane planeOf number point real any sectionWords padded planeWords vecWords
+    unfolding requestOf barring illFormed usedWords astray against byCode planar overPlane planeOf number point real anyOf sectionWords padded planeWords vecWords
     section-read = rw (vec-back (s .origin) (h .origin), vec-back (s .u) (h .u), vec-back (s .v) (h .v))
 
     pub statistics-read : (field : ℕ) → requestOf false (statisticsWords s field) ≡ over (barring 38 (ltb 5 field) (Statistics s field))
-    unfolding requestOf barring illFormed usedWords astray against byCode planar overPlane planeOf statistics number point real any statisticsWords padded planeWords vecWords
+    unfolding requestOf barring illFormed usedWords astray against byCode planar overPlane planeOf statistics number point real anyOf statisticsWords padded planeWords vecWords
     statistics-read field = rw (vec-back (s .origin) (h .origin), vec-back (s .u) (h .u), vec-back (s .v) (h .v))
 
     pub integrals-read : requestOf false (integralsWords s) ≡ over (Integrals s)
-    unfolding requestOf barring illFormed usedWords astray against byCode planar overPlane planeOf number point real any integralsWords padded planeWords vecWords
+    unfolding requestOf barring illFormed usedWords astray against byCode planar overPlane planeOf number point real anyOf integralsWords padded planeWords vecWords
     integrals-read = rw (vec-back (s .origin) (h .origin), vec-back (s .u) (h .u), vec-back (s .v) (h .v))
 
     pub probe-read : (p : Vec3) → F64s p → requestOf false (probeWords s p) ≡ over (Probe s p)
-    unfolding requestOf barring illFormed usedWords astray against byCode planar overPlane planeOf number point real any probeWords padded planeWords vecWords
+    unfolding requestOf barring illFormed usedWords astray against byCode planar overPlane planeOf number point real anyOf probeWords padded planeWords vecWords
     probe-read p k = rw (vec-back (s .origin) (h .origin), vec-back (s .u) (h .u), vec-back (s .v) (h .v), vec-back p k)

@@ -8,7 +8,7 @@ use mathlib.Core.List.{List, [], _∷_, _++_, append-assoc, append-nil}
 use lib.ListN.{length, set, getD, drop}
 use lib.Seq.{sets}
 use lib.Ieee.{Float}
-use Rattle.arith.specs.Lists.{any}
+use Rattle.arith.specs.Lists.{anyOf}
 use Rattle.arith.proofs.RecordLaws.{length-tab, getD-tab, drop-tab, drop-end}
 use Rattle.arith.proofs.ListLaws.{any-here, any-next}
 use Rattle.arith.specs.declared.Vec3.{Vec3}
@@ -93,19 +93,19 @@ module _ (start end : Vec3) (count : ℕ) where
   unfolding seeds
   seed-here i h = getD-tab (seedAt start end count) count i start h
 
-  module _ (F : StreamlineField) (i : ℕ) (r : Bool) (inv : any (nowhere F) (drop i (seeds start end count)) ≡ r) where
+  module _ (F : StreamlineField) (i : ℕ) (r : Bool) (inv : anyOf (nowhere F) (drop i (seeds start end count)) ≡ r) where
     pub seed-lost : (t : Bool) (p : Vec3) → i < count → p ≡ seedAt start end count i → t ≡ nowhere F p → t ≡ true → true ≡ r
     seed-lost t p h ep e w =
         let in-range : i < length (seeds start end count) = rw length-seeds h in
         sym (any-here (seeds start end count) i start in-range (nowhere F) (rw (seed-here i h, ← ep) (sym e ∙ w))) ∙ inv
 
-    pub seed-found : (t : Bool) (p : Vec3) → i < count → p ≡ seedAt start end count i → t ≡ nowhere F p → t ≡ false → any (nowhere F) (drop (i + 1) (seeds start end count)) ≡ r
+    pub seed-found : (t : Bool) (p : Vec3) → i < count → p ≡ seedAt start end count i → t ≡ nowhere F p → t ≡ false → anyOf (nowhere F) (drop (i + 1) (seeds start end count)) ≡ r
     seed-found t p h ep e w =
         let in-range : i < length (seeds start end count) = rw length-seeds h in
         sym (any-next (seeds start end count) i start in-range (nowhere F) (rw (seed-here i h, ← ep) (sym e ∙ w))) ∙ inv
 
     pub all-found : count ≤ i → false ≡ r
-    unfolding any
+    unfolding anyOf
     all-found h = rw (seeds-end i h) at inv
 
 -- ---- line after line

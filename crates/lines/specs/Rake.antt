@@ -4,7 +4,7 @@ use mathlib.Core.Bool.{not}
 use mathlib.Core.List.{List, [], _∷_, _++_}
 use lib.ListN.{length}
 use Rattle.arith.specs.F64.{_⊘_, ofℕ}
-use Rattle.arith.specs.Lists.{any}
+use Rattle.arith.specs.Lists.{anyOf}
 use Rattle.arith.specs.Records.{tab}
 use Rattle.arith.specs.Vec.{plus, minus, times}
 use Rattle.arith.specs.declared.Vec3.{Vec3}
@@ -32,5 +32,5 @@ linesWords f o d (p ∷ ps) = lineAnswer f o d p >>= λ l. linesWords f o d ps >
 unfoldable pub integrateRake : StreamlineField → Vec3 → Vec3 → ℕ → StreamlineDirection → StreamlineOptions → Result (Asks (List ℕ))
 integrateRake f start end count d o =
     result._>>=_ (refuse 34 (not (areGood o))) (λ _.
-    result._>>=_ (refuse 35 (any (nowhere f) (seeds start end count))) (λ _.
+    result._>>=_ (refuse 35 (anyOf (nowhere f) (seeds start end count))) (λ _.
     fine (linesWords f o d (seeds start end count) >>= λ ws. give (count ∷ ws))))

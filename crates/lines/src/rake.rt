@@ -10,7 +10,7 @@ use lines_step::StreamlineOptions;
 use mesh_area::Sizes;
 ghost use mathlib.Core.Path.{_≡_};
 ghost use Prim.Native.Nat.{_≤_, _<_, _*_, _+_};
-ghost use Rattle.arith.specs.Lists.{any};
+ghost use Rattle.arith.specs.Lists.{anyOf};
 ghost use Rattle.case_file.specs.Field.{valuesOf};
 ghost use Rattle.mesh_area.specs.Layout.{LentWords, LentFloats};
 ghost use Rattle.lines_locate.specs.Layout.{fieldIn, Searchable};
@@ -41,7 +41,7 @@ fn any_nowhere(
 ) -> bool
     requires { ⌜ LentWords s (now words) × LentFloats s (now floats) × Searchable g s (now words) (now floats) ⌝ }
     requires { ⌜ (2 ≤ count) × (count ≤ 64) ⌝ }
-    ensures { λ r. ⌜ r ≡ any (nowhere (fieldIn g s (now (words .entry)) (now (floats .entry)))) (Rake.seeds start end count) ⌝ }
+    ensures { λ r. ⌜ r ≡ anyOf (nowhere (fieldIn g s (now (words .entry)) (now (floats .entry)))) (Rake.seeds start end count) ⌝ }
 {
     let mut i = 0;
     while i < count {

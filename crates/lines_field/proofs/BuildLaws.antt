@@ -7,7 +7,7 @@ use mathlib.Core.List.{List, [], _∷_, _++_, map}
 use lib.ListN.{length, getD, take, set}
 use lib.Seq.{getD-set-same, take-set-le, take-take}
 use lib.Ieee.{Float, nan}
-use Rattle.arith.specs.Lists.{sort, concat}
+use Rattle.arith.specs.Lists.{sort, flatten}
 use Rattle.arith.specs.Records.{tab}
 use Rattle.arith.specs.declared.Vec2.{Vec2}
 use Rattle.arith.specs.declared.Vec3.{Vec3}
@@ -150,7 +150,7 @@ pub lent-floats : (s : Sizes) (f f′ : List Float) → LentFloats s f → lengt
 lent-floats s f f′ l e = record { few-slots = l .few-slots; few-faces = l .few-faces; few-cells = l .few-cells; long = rw e (l .long) }
 
 module _ (ps : List Vec3) (s : Sizes) (w₀ w : List ℕ) (f₀ f : List Float) (b : Box) (n : Bin) (r : Built)
-    (polygons : polygonsIn s w f ≡ polygonsOf (meshIn ps s w₀ f₀)) (kept : Kept s w₀ w f₀ f) (eb : b ≡ boundsOf (concat (polygonsIn s w f))) (en : n ≡ binCounts (s .cells) b)
+    (polygons : polygonsIn s w f ≡ polygonsOf (meshIn ps s w₀ f₀)) (kept : Kept s w₀ w f₀ f) (eb : b ≡ boundsOf (flatten (polygonsIn s w f))) (en : n ≡ binCounts (s .cells) b)
     (grid : builtGrid r ≡ gridFor b n) where
   result : builtGrid r ≡ gridOf (s .cells) (polygonsOf (meshIn ps s w₀ f₀))
   unfolding gridOf

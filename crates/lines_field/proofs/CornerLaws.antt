@@ -8,7 +8,7 @@ use mathlib.Core.List.{List, [], _∷_, _++_}
 use lib.ListN.{length, getD, drop, set, length-append}
 use lib.Seq.{getD-set-same, getD-set-other, drop-set-lt, drop-drop}
 use lib.Ieee.{Float, nan}
-use Rattle.arith.specs.Lists.{foldl, any, addNew}
+use Rattle.arith.specs.Lists.{fold, anyOf, addNew}
 use Rattle.arith.specs.Records.{tab}
 use Rattle.arith.specs.Vec.{pair}
 use Rattle.arith.specs.declared.Vec2.{Vec2}
@@ -33,7 +33,7 @@ pub corner-at : (xs ys : List Float) (n k : ℕ) (d : Vec2) → k < n → getD (
 unfolding cornersIn
 corner-at xs ys n k d h = getD-tab (λ k. pair (getD xs k nan) (getD ys k nan)) n k d h
 
-module _ (xs ys : List Float) (n k : ℕ) (p : Vec2) (r : Bool) (inv : any (alike p) (drop k (cornersIn xs ys n)) ≡ r) where
+module _ (xs ys : List Float) (n k : ℕ) (p : Vec2) (r : Bool) (inv : anyOf (alike p) (drop k (cornersIn xs ys n)) ≡ r) where
   abbrev here : Vec2
   here = pair (getD xs k nan) (getD ys k nan)
 
@@ -44,19 +44,19 @@ module _ (xs ys : List Float) (n k : ℕ) (p : Vec2) (r : Bool) (inv : any (alik
   contains-here t h e w =
       sym (any-here (cornersIn xs ys n) k here (in-range h) (alike p) (rw (corner-at xs ys n k here h) (sym e ∙ w))) ∙ inv
 
-  pub contains-next : (t : Bool) → k < n → t ≡ alike p (pair (getD xs k nan) (getD ys k nan)) → t ≡ false → any (alike p) (drop (k + 1) (cornersIn xs ys n)) ≡ r
+  pub contains-next : (t : Bool) → k < n → t ≡ alike p (pair (getD xs k nan) (getD ys k nan)) → t ≡ false → anyOf (alike p) (drop (k + 1) (cornersIn xs ys n)) ≡ r
   contains-next t h e w =
       sym (any-next (cornersIn xs ys n) k here (in-range h) (alike p) (rw (corner-at xs ys n k here h) (sym e ∙ w))) ∙ inv
 
   pub contains-end : n ≤ k → false ≡ r
-  unfolding any
+  unfolding anyOf
   contains-end h =
       let none : drop k (cornersIn xs ys n) ≡ [] = drop-end (cornersIn xs ys n) k (rw (length-corners xs ys n) h) in
       rw none at inv
 
 -- ---- one more point
 
-module _ (xs ys : List Float) (n : ℕ) (p : Vec2) (t : Bool) (e : t ≡ any (alike p) (cornersIn xs ys n)) where
+module _ (xs ys : List Float) (n : ℕ) (p : Vec2) (t : Bool) (e : t ≡ anyOf (alike p) (cornersIn xs ys n)) where
   pub push-had : t ≡ true → cornersIn xs ys n ≡ addNew alike (cornersIn xs ys n) p
   unfolding addNew
   push-had w = rw (sym e ∙ w)
@@ -101,19 +101,19 @@ behind-more l₀ l l′ n n′ h e e′ =
 
 grows : (l : List Vec2) (p : Vec2) → length l ≤ length (addNew alike l p)
 unfolding addNew
-grows l p = by (any (alike p) l)
+grows l p = by (anyOf (alike p) l)
   where
     by : (t : Bool) → length l ≤ length (cond t l (l ++ p ∷ []))
     by true = omega arith
     by false = omega (arith, length-append l (p ∷ []))
 
-foldl-grows : (g : List Vec2 → ℕ → List Vec2) → ((l : List Vec2) (i : ℕ) → length l ≤ length (g l i)) → (s : List Vec2) (l : List ℕ) → length s ≤ length (foldl g s l)
-unfolding foldl
+foldl-grows : (g : List Vec2 → ℕ → List Vec2) → ((l : List Vec2) (i : ℕ) → length l ≤ length (g l i)) → (s : List Vec2) (l : List ℕ) → length s ≤ length (fold g s l)
+unfolding fold
 foldl-grows g h s [] = omega arith
 foldl-grows g h s (i ∷ l) = omega (arith, h s i, foldl-grows g h (g s i) l)
 
-module _ (g : List Vec2 → ℕ → List Vec2) (l : List ℕ) (k : ℕ) (s r : List Vec2) (inv : foldl g s (drop k l) ≡ r) where
-  fold-turn : k < length l → foldl g (g s (getD l k 0)) (drop (k + 1) l) ≡ r
+module _ (g : List Vec2 → ℕ → List Vec2) (l : List ℕ) (k : ℕ) (s r : List Vec2) (inv : fold g s (drop k l) ≡ r) where
+  fold-turn : k < length l → fold g (g s (getD l k 0)) (drop (k + 1) l) ≡ r
   fold-turn h = sym (foldl-next l k 0 h g s) ∙ inv
 
   fold-fits : ((l : List Vec2) (i : ℕ) → length l ≤ length (g l i)) → k < length l → length r ≤ 24 → length (g s (getD l k 0)) ≤ 24
@@ -121,7 +121,7 @@ module _ (g : List Vec2 → ℕ → List Vec2) (l : List ℕ) (k : ℕ) (s r : L
       omega (arith, rw (fold-turn h) at (foldl-grows g grow (g s (getD l k 0)) (drop (k + 1) l)))
 
   fold-end : length l ≤ k → s ≡ r
-  unfolding foldl
+  unfolding fold
   fold-end h = let none : drop k l ≡ [] = drop-end l k h in rw none at inv
 
 -- ---- the points of a face, and of a cell
@@ -139,7 +139,7 @@ module _ (ps : List Vec3) (s : Sizes) (w : List ℕ) where
   face-grows l f = foldl-grows (addCorner m) point-grows l (faceAt (m .faces) f .vertices)
 
   module _ (f k count : ℕ) (l r : List Vec2) (long : count ≡ length (faceAt (facesIn s w []) f .vertices))
-      (inv : foldl (addCorner m) l (drop k (faceAt (facesIn s w []) f .vertices)) ≡ r) where
+      (inv : fold (addCorner m) l (drop k (faceAt (facesIn s w []) f .vertices)) ≡ r) where
     module _ (v : ℕ) (p : Vec2) (more : k < count) (ev : v ≡ getD (faceAt (facesIn s w []) f .vertices) k 0) (ep : p ≡ flat (pointAt ps v)) where
       same-point : addCorner m l (getD (faceAt (facesIn s w []) f .vertices) k 0) ≡ addNew alike l p
       unfolding addCorner meshIn
@@ -148,29 +148,29 @@ module _ (ps : List Vec3) (s : Sizes) (w : List ℕ) where
       pub face-fits : length r ≤ 24 → length (addNew alike l p) ≤ 24
       face-fits few = rw same-point at (fold-fits (addCorner m) (faceAt (facesIn s w []) f .vertices) k l r inv point-grows (rw (← long) more) few)
 
-      pub face-turn : (l′ : List Vec2) → l′ ≡ addNew alike l p → foldl (addCorner m) l′ (drop (k + 1) (faceAt (facesIn s w []) f .vertices)) ≡ r
+      pub face-turn : (l′ : List Vec2) → l′ ≡ addNew alike l p → fold (addCorner m) l′ (drop (k + 1) (faceAt (facesIn s w []) f .vertices)) ≡ r
       face-turn l′ e = rw (e, ← same-point) (fold-turn (addCorner m) (faceAt (facesIn s w []) f .vertices) k l r inv (rw (← long) more))
 
     pub face-end : count ≤ k → l ≡ r
     face-end h = fold-end (addCorner m) (faceAt (facesIn s w []) f .vertices) k l r inv (rw (← long) h)
 
-  pub face-start : (l : List Vec2) (f : ℕ) → foldl (addCorner m) l (faceAt (facesIn s w []) f .vertices) ≡ addCorners m l f
+  pub face-start : (l : List Vec2) (f : ℕ) → fold (addCorner m) l (faceAt (facesIn s w []) f .vertices) ≡ addCorners m l f
   unfolding addCorners meshIn
   face-start l f = refl
 
   module _ (i k count : ℕ) (l r : List Vec2) (long : count ≡ length (cellAt (cellsIn s w []) i .faces))
-      (inv : foldl (addCorners m) l (drop k (cellAt (cellsIn s w []) i .faces)) ≡ r) where
+      (inv : fold (addCorners m) l (drop k (cellAt (cellsIn s w []) i .faces)) ≡ r) where
     module _ (f : ℕ) (more : k < count) (ef : f ≡ getD (cellAt (cellsIn s w []) i .faces) k 0) where
       pub cell-fits : length r ≤ 24 → length (addCorners m l f) ≤ 24
       cell-fits few = rw ef (fold-fits (addCorners m) (cellAt (cellsIn s w []) i .faces) k l r inv face-grows (rw (← long) more) few)
 
-      pub cell-turn : (l′ : List Vec2) → l′ ≡ addCorners m l f → foldl (addCorners m) l′ (drop (k + 1) (cellAt (cellsIn s w []) i .faces)) ≡ r
+      pub cell-turn : (l′ : List Vec2) → l′ ≡ addCorners m l f → fold (addCorners m) l′ (drop (k + 1) (cellAt (cellsIn s w []) i .faces)) ≡ r
       cell-turn l′ e = rw (e, ef) (fold-turn (addCorners m) (cellAt (cellsIn s w []) i .faces) k l r inv (rw (← long) more))
 
     pub cell-end : count ≤ k → l ≡ r
     cell-end h = fold-end (addCorners m) (cellAt (cellsIn s w []) i .faces) k l r inv (rw (← long) h)
 
-  pub cell-start : (xs ys : List Float) (i : ℕ) → foldl (addCorners m) (cornersIn xs ys 0) (cellAt (cellsIn s w []) i .faces) ≡ cornersOf m (cellAt (cellsIn s w []) i)
+  pub cell-start : (xs ys : List Float) (i : ℕ) → fold (addCorners m) (cornersIn xs ys 0) (cellAt (cellsIn s w []) i .faces) ≡ cornersOf m (cellAt (cellsIn s w []) i)
   unfolding cornersOf cornersIn tab
   cell-start xs ys i = refl
 
@@ -193,7 +193,7 @@ module _ (ps : List Vec3) (s : Sizes) (w : List ℕ) (f : List Float) where
 
   corners-any : addCorners (meshIn ps s w f) ≡ addCorners (meshIn ps s w [])
   unfolding addCorners addCorner meshIn
-  corners-any = fun-ext (λ l. fun-ext (λ k. ap (foldl (λ a i. addNew alike a (flat (pointAt ps i))) l) (vertices-any k)))
+  corners-any = fun-ext (λ l. fun-ext (λ k. ap (fold (λ a i. addNew alike a (flat (pointAt ps i))) l) (vertices-any k)))
 
   pub cell-corners-any : (i : ℕ) → cornersOf (meshIn ps s w f) (cellAt (cellsIn s w f) i) ≡ cornersOf (meshIn ps s w []) (cellAt (cellsIn s w []) i)
   unfolding cornersOf

@@ -10,7 +10,7 @@ use lib.ListN.{length, getD, take, drop}
 use lib.Seq.{take-take}
 use lib.Ieee.{Float}
 use borrow.Author.Tests.{lt-ltb, le-ltb}
-use Rattle.arith.specs.Lists.{foldl, concat}
+use Rattle.arith.specs.Lists.{fold, flatten}
 use Rattle.arith.specs.Records.{tab, puts}
 use Rattle.arith.specs.declared.Vec2.{Vec2}
 use Rattle.arith.proofs.ListLaws.{foldl-next}
@@ -65,29 +65,29 @@ module _ (b : Box) (n : Bin) where
 
 -- ---- bounds
 
-module _ (floats : List Float) (at n k : ℕ) (b r : Box) (inv : foldl widened b (drop k (pairsFrom floats at n)) ≡ r) where
-  pub widen-turn : k < n → (p : Vec2) (b′ : Box) → p ≡ pairFrom floats (at + 2 * k) → b′ ≡ widened b p → foldl widened b′ (drop (k + 1) (pairsFrom floats at n)) ≡ r
+module _ (floats : List Float) (at n k : ℕ) (b r : Box) (inv : fold widened b (drop k (pairsFrom floats at n)) ≡ r) where
+  pub widen-turn : k < n → (p : Vec2) (b′ : Box) → p ≡ pairFrom floats (at + 2 * k) → b′ ≡ widened b p → fold widened b′ (drop (k + 1) (pairsFrom floats at n)) ≡ r
   widen-turn h p b′ e w =
       let in-range : k < length (pairsFrom floats at n) = rw (length-pairs floats at n) h in
       rw (w, e, ← (pairs-at floats at n k (pairFrom floats 0) h)) (sym (foldl-next (pairsFrom floats at n) k (pairFrom floats 0) in-range widened b) ∙ inv)
 
   pub widen-end : n ≤ k → b ≡ r
-  unfolding foldl
+  unfolding fold
   widen-end h =
       let none : drop k (pairsFrom floats at n) ≡ [] = drop-end (pairsFrom floats at n) k (rw (length-pairs floats at n) h) in
       rw none at inv
 
-module _ (s : Sizes) (words : List ℕ) (floats : List Float) (i : ℕ) (b r : Box) (inv : foldl widened b (concat (drop i (polygonsIn s words floats))) ≡ r) where
-  pub bound-turn : i < s .cells → (b′ : Box) (at n : ℕ) → at ≡ floatsAt s i → n ≡ countIn s words i → b′ ≡ foldl widened b (pairsFrom floats at n)
-      → foldl widened b′ (concat (drop (i + 1) (polygonsIn s words floats))) ≡ r
-  unfolding polygonsIn concat polygonIn
+module _ (s : Sizes) (words : List ℕ) (floats : List Float) (i : ℕ) (b r : Box) (inv : fold widened b (flatten (drop i (polygonsIn s words floats))) ≡ r) where
+  pub bound-turn : i < s .cells → (b′ : Box) (at n : ℕ) → at ≡ floatsAt s i → n ≡ countIn s words i → b′ ≡ fold widened b (pairsFrom floats at n)
+      → fold widened b′ (flatten (drop (i + 1) (polygonsIn s words floats))) ≡ r
+  unfolding polygonsIn flatten polygonIn
   bound-turn h b′ at n ea en w =
       rw (w, ea, en)
-      (sym (foldl-append widened b (polygonIn s words floats i) (concat (drop (i + 1) (tab (polygonIn s words floats) (s .cells)))))
+      (sym (foldl-append widened b (polygonIn s words floats i) (flatten (drop (i + 1) (tab (polygonIn s words floats) (s .cells)))))
       ∙ rw (drop-tab (polygonIn s words floats) (s .cells) i h) at inv)
 
   pub bound-end : s .cells ≤ i → b ≡ r
-  unfolding polygonsIn concat foldl
+  unfolding polygonsIn flatten fold
   bound-end h =
       let none : drop i (tab (polygonIn s words floats) (s .cells)) ≡ [] = drop-end _ i (rw (length-tab (polygonIn s words floats) (s .cells)) h) in
       rw none at inv
@@ -150,7 +150,7 @@ module _ (g : Grid) (s : Sizes) (w : List ℕ) (f : List Float) (i : ℕ) (first
       }
 
 pub listed-by : (g : Grid) (s : Sizes) (w w′ : List ℕ) (f : List Float) (i : ℕ) (own b : Box) (at n wat : ℕ) (first last : Bin) → b ≡ boundless → at ≡ floatsAt s i
-    → n ≡ countIn s w i → own ≡ foldl widened b (pairsFrom f at n) → first ≡ binFor g (lowCorner own) → last ≡ binFor g (highCorner own) → wat ≡ wordsAt s i
+    → n ≡ countIn s w i → own ≡ fold widened b (pairsFrom f at n) → first ≡ binFor g (lowCorner own) → last ≡ binFor g (highCorner own) → wat ≡ wordsAt s i
     → w′ ≡ puts w wat (first .x ∷ first .y ∷ last .x ∷ last .y ∷ []) → wordsAt s i + 4 ≤ length w → Listed g s w w′ f i
 listed-by g s w w′ f i own b at n wat first last eb ea en eo ef el ew e room =
     let o : own ≡ boundsOf (polygonIn s w f i) = unfold boundsOf polygonIn in eo ∙ rw (eb, ea, en) in

@@ -11,7 +11,7 @@ use lib.ListN.{length, getD, take, drop, set, length-set}
 use lib.Seq.{getD-set-same, getD-set-other, getD-take, take-suc, take-set-le, take-at}
 use lib.Ieee.{Float, nan}
 use Rattle.arith.specs.F64.{_⊖_}
-use Rattle.arith.specs.Lists.{insert, sort}
+use Rattle.arith.specs.Lists.{insertBefore, sort}
 use Rattle.arith.specs.Records.{tab, upTo}
 use Rattle.arith.specs.Angle.{angleOf, turnsBefore}
 use Rattle.arith.specs.Sort.{angleAt, earlier, sortedPlaces}
@@ -45,26 +45,26 @@ angles-turn c xs ys q s k a inv e lq ls = record { each = λ j h. by j h (ℕ-di
 -- ---- two orders that agree below n sort alike
 
 module _ (r r′ : ℕ → ℕ → Bool) (n : ℕ) (same : (i j : ℕ) → i < n → j < n → r i j ≡ r′ i j) where
-  insert-same : (l : List ℕ) (a : ℕ) → a < n → All (λ i. i < n) l → insert r l a ≡ insert r′ l a
-  unfolding insert
+  insert-same : (l : List ℕ) (a : ℕ) → a < n → All (λ i. i < n) l → insertBefore r l a ≡ insertBefore r′ l a
+  unfolding insertBefore
   insert-same [] a h p = refl
   insert-same (b ∷ l) a h p = by (r′ a b) refl (insert-same l a h (p .1))
     where
-      by : (t : Bool) → r′ a b ≡ t → insert r l a ≡ insert r′ l a → insert r (b ∷ l) a ≡ insert r′ (b ∷ l) a
-      by true e ih = rw (same a b h (p .0), e, insert)
-      by false e ih = rw (same a b h (p .0), e, insert) (ap {B = List ℕ} (λ k. b ∷ k) ih)
+      by : (t : Bool) → r′ a b ≡ t → insertBefore r l a ≡ insertBefore r′ l a → insertBefore r (b ∷ l) a ≡ insertBefore r′ (b ∷ l) a
+      by true e ih = rw (same a b h (p .0), e, insertBefore)
+      by false e ih = rw (same a b h (p .0), e, insertBefore) (ap {B = List ℕ} (λ k. b ∷ k) ih)
 
   below : (k : ℕ) → k ≤ n → All (λ i. i < n) (sort r′ (upTo k))
   unfolding upTo tab
-  below zero h = unfold sort in unfold Rattle.arith.specs.Lists.foldl in tt
+  below zero h = unfold sort in unfold Rattle.arith.specs.Lists.fold in tt
   below (suc k) h = rw (sort-snoc r′ (tab (λ i. i) k) k) (all-insert (λ i. i < n) r′ _ k h (below k (omega arith)))
 
   pub sort-same : (k : ℕ) → k ≤ n → sort r (upTo k) ≡ sort r′ (upTo k)
   unfolding upTo tab
-  sort-same zero h = unfold sort in unfold Rattle.arith.specs.Lists.foldl in refl
+  sort-same zero h = unfold sort in unfold Rattle.arith.specs.Lists.fold in refl
   sort-same (suc k) h =
       sort-snoc r (tab (λ i. i) k) k
-      ∙ ap (λ (l : List ℕ). insert r l k) (sort-same k (omega arith))
+      ∙ ap (λ (l : List ℕ). insertBefore r l k) (sort-same k (omega arith))
       ∙ insert-same (sort r′ (tab (λ i. i) k)) k h (below k (omega arith))
       ∙ sym (sort-snoc r′ (tab (λ i. i) k) k)
 

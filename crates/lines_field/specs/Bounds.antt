@@ -1,7 +1,7 @@
 -- The smallest box about some points.
 use mathlib.Core.List.{List}
 use Rattle.arith.specs.F64.{+∞, -∞, fmin, fmax}
-use Rattle.arith.specs.Lists.{foldl}
+use Rattle.arith.specs.Lists.{fold}
 use Rattle.arith.specs.Vec.{pair}
 use Rattle.arith.specs.declared.Vec2.{Vec2}
 use Rattle.lines_locate.specs.declared.Box.{Box}
@@ -17,7 +17,7 @@ widened b p =
 
 -- `bounds`, and `cell_bounds`
 unfoldable pub boundsOf : List Vec2 → Box
-boundsOf l = foldl widened boundless l
+boundsOf l = fold widened boundless l
 
 -- its low corner, and its high corner
 abbrev pub lowCorner : Box → Vec2

@@ -3,7 +3,7 @@ use Prim.Native.Nat.{ℕ}
 use mathlib.Core.Bool.{Bool, _&&_}
 use mathlib.Core.List.{List, []}
 use Rattle.arith.specs.F64.{_⊖_, _≈_}
-use Rattle.arith.specs.Lists.{foldl, addNew, sort}
+use Rattle.arith.specs.Lists.{fold, addNew, sort}
 use Rattle.arith.specs.Vec.{pair}
 use Rattle.arith.specs.Angle.{turnsBefore}
 use Rattle.arith.specs.declared.Vec3.{Vec3}
@@ -21,11 +21,11 @@ addCorner m l i = addNew alike l (flat (pointAt (m .points) i))
 
 -- the points of a face, in its order
 unfoldable pub addCorners : Mesh → List Vec2 → ℕ → List Vec2
-addCorners m l f = foldl (addCorner m) l (faceAt (m .faces) f .vertices)
+addCorners m l f = fold (addCorner m) l (faceAt (m .faces) f .vertices)
 
 -- the distinct points of a cell, in face order
 unfoldable pub cornersOf : Mesh → Cell → List Vec2
-cornersOf m c = foldl (addCorners m) [] (c .faces)
+cornersOf m c = fold (addCorners m) [] (c .faces)
 
 -- from the centre c to p, without its height
 unfoldable pub about : Vec3 → Vec2 → Vec2

@@ -2,7 +2,7 @@
 use Prim.Native.Nat.{ℕ, _≤_}
 use mathlib.Core.List.{List, map}
 use lib.ListN.{length}
-use Rattle.arith.specs.Lists.{concat}
+use Rattle.arith.specs.Lists.{flatten}
 use Rattle.arith.specs.declared.Vec2.{Vec2}
 use Rattle.reading.specs.Result.{Result, refused, fine, refuse, _>>=_}
 use Rattle.mesh_area.specs.Tables.{Mesh, cellAt}
@@ -26,7 +26,7 @@ gridFor b n = refuse 18 (areFlat b) >>= λ _. refuse 19 (areMany n) >>= λ _. fi
 
 -- over all polygons
 unfoldable pub gridOf : ℕ → List (List Vec2) → Result Grid
-gridOf cells ls = gridFor (boundsOf (concat ls)) (binCounts cells (boundsOf (concat ls)))
+gridOf cells ls = gridFor (boundsOf (flatten ls)) (binCounts cells (boundsOf (flatten ls)))
 
 -- "In 2D only, 18 flat bounds, 19 a bin count above 65,536 (added)"
 unfoldable pub fieldOf : Mesh → Result StreamlineField

@@ -6,7 +6,7 @@ use mesh_area::Sizes;
 ghost use mathlib.Core.Path.{_≡_};
 ghost use Prim.Native.Nat.{_+_, _*_, _<_, _≤_};
 ghost use lib.ListN.{length};
-ghost use Rattle.arith.specs.Lists.{foldl, concat};
+ghost use Rattle.arith.specs.Lists.{fold, flatten};
 ghost use Rattle.mesh_area.specs.Layout.{LentWords, LentFloats};
 ghost use Rattle.lines_field.specs.Bounds as Bounds;
 ghost use Rattle.lines_field.specs.Bounds.{boundsOf};
@@ -41,7 +41,7 @@ fn widened(b: Box, p: Vec2) -> Box
 // The box with n more points, which stand from `at` on.
 pub fn widened_by(from: Box, floats: &[f64], at: usize, n: usize) -> Box
     requires { ⌜ (at + 2 * n ≤ length (now floats)) × (n ≤ 24) ⌝ }
-    ensures { λ r. ⌜ r ≡ foldl Bounds.widened from (pairsFrom (now (floats .entry)) at n) ⌝ }
+    ensures { λ r. ⌜ r ≡ fold Bounds.widened from (pairsFrom (now (floats .entry)) at n) ⌝ }
 {
     let mut b = from;
     let mut k = 0;
@@ -55,7 +55,7 @@ pub fn widened_by(from: Box, floats: &[f64], at: usize, n: usize) -> Box
 // The bounds of all polygons.
 pub fn all_bounds(words: &[u32], floats: &[f64], s: Sizes) -> Box
     requires { ⌜ LentWords s (now words) × LentFloats s (now floats) ⌝ }
-    ensures { λ r. ⌜ r ≡ boundsOf (concat (polygonsIn s (now (words .entry)) (now (floats .entry)))) ⌝ }
+    ensures { λ r. ⌜ r ≡ boundsOf (flatten (polygonsIn s (now (words .entry)) (now (floats .entry)))) ⌝ }
 {
     let mut b = boundless();
     let mut i = 0;

@@ -5,7 +5,7 @@ ghost use mathlib.Core.Path.{_≡_};
 ghost use mathlib.Core.List.{[]};
 ghost use Prim.Native.Nat.{_+_, _*_, _<_, _≤_};
 ghost use lib.ListN.{length};
-ghost use Rattle.arith.specs.Lists.{any, addNew};
+ghost use Rattle.arith.specs.Lists.{anyOf, addNew};
 ghost use Rattle.arith.specs.Vec.{pair};
 ghost use Rattle.mesh_area.specs.Tables.{cellAt};
 ghost use Rattle.mesh_area.specs.Layout.{LentWords, pointsIn, cellsIn, meshIn};
@@ -25,7 +25,7 @@ fn alike(p: Vec2, x: f64, y: f64) -> bool
 // Some of the first n points is p.
 fn contains(xs: &[f64], ys: &[f64], n: usize, p: Vec2) -> bool
     requires { ⌜ (n ≤ 24) × (length (now xs) ≡ 24) × (length (now ys) ≡ 24) ⌝ }
-    ensures { λ r. ⌜ r ≡ any (Corners.alike p) (cornersIn (now (xs .entry)) (now (ys .entry)) n) ⌝ }
+    ensures { λ r. ⌜ r ≡ anyOf (Corners.alike p) (cornersIn (now (xs .entry)) (now (ys .entry)) n) ⌝ }
 {
     let mut k = 0;
     while k < n {

@@ -10,7 +10,7 @@ use lib.ListN.{length, getD, drop}
 use lib.Ieee.{Float}
 use borrow.Author.Tests.{lt-leb, le-leb}
 use Rattle.arith.specs.declared.Vec2.{Vec2}
-use Rattle.arith.specs.Lists.{Side, sides, after, count, any}
+use Rattle.arith.specs.Lists.{Side, sides, after, countWhere, anyOf}
 use Rattle.arith.specs.Polygon.{crosses, evenOdd}
 use Rattle.arith.proofs.ListLaws.{count-next, any-here, any-next, length-sides, sides-at}
 use Rattle.arith.proofs.RoundLaws.{after-less, odd, odd-here, odd-past}
@@ -31,7 +31,7 @@ pairs-at floats at n k d h = getD-tab (λ k. pairFrom floats (at + 2 * k)) n k d
 -- ---- on a side among those to come, or an odd number of crossings, those so far and those to come
 
 unfoldable pub rest : Vec2 → List (Side Vec2) → Bool → ℕ → Bool
-rest q l inside i = any (onEdge q) (drop i l) || odd inside (count (crosses q) (drop i l))
+rest q l inside i = anyOf (onEdge q) (drop i l) || odd inside (countWhere (crosses q) (drop i l))
 
 -- ---- the sides of a polygon in the area
 
@@ -64,10 +64,10 @@ module _ (q : Vec2) (floats : List Float) (at n : ℕ) where
 
   pub rest-start : 3 ≤ n → rest q (sidesIn floats at n) false 0 ≡ contains q (pairsFrom floats at n)
   unfolding rest contains odd evenOdd
-  rest-start h = rw (length-pairs floats at n, le-leb 3 n h, zero-add (count (crosses q) (sidesIn floats at n)))
+  rest-start h = rw (length-pairs floats at n, le-leb 3 n h, zero-add (countWhere (crosses q) (sidesIn floats at n)))
 
   pub rest-end : (i : ℕ) (inside r : Bool) → n ≤ i → rest q (sidesIn floats at n) inside i ≡ r → inside ≡ r
-  unfolding rest odd count any
+  unfolding rest odd countWhere anyOf
   rest-end i inside r h e =
       let none = sides-past floats at n i h in
       by inside ∙ (rw none at e)
@@ -86,7 +86,7 @@ module _ (q : Vec2) (floats : List Float) (at n : ℕ) where
       rest-here e h t = rw (any-here (sidesIn floats at n) i (sideFrom floats at n 0) (in-range floats at n i more) (onEdge q) (rw side-now (sym h ∙ t))) at inv
 
       next : (e : Bool) → e ≡ onEdge q (record { from = a; to = b }) → e ≡ false → (c : Bool) → c ≡ crosses q (record { from = a; to = b })
-          → any (onEdge q) (drop (i + 1) (sidesIn floats at n)) || odd inside (cond c 1 0 + count (crosses q) (drop (i + 1) (sidesIn floats at n))) ≡ r
+          → anyOf (onEdge q) (drop (i + 1) (sidesIn floats at n)) || odd inside (cond c 1 0 + countWhere (crosses q) (drop (i + 1) (sidesIn floats at n))) ≡ r
       unfolding rest
       next e h t c hc =
           rw (hc, ← side-now)
@@ -96,10 +96,10 @@ module _ (q : Vec2) (floats : List Float) (at n : ℕ) where
           → c ≡ true → inside′ ≡ not inside → rest q (sidesIn floats at n) inside′ (i + 1) ≡ r
       unfolding rest
       rest-toggled e h t c inside′ hc tc ei =
-          rw (ei, ← (odd-here inside (count (crosses q) (drop (i + 1) (sidesIn floats at n))))) (rw tc at (next e h t c hc))
+          rw (ei, ← (odd-here inside (countWhere (crosses q) (drop (i + 1) (sidesIn floats at n))))) (rw tc at (next e h t c hc))
 
       pub rest-kept : (e : Bool) → e ≡ onEdge q (record { from = a; to = b }) → e ≡ false → (c inside′ : Bool) → c ≡ crosses q (record { from = a; to = b })
           → c ≡ false → inside′ ≡ inside → rest q (sidesIn floats at n) inside′ (i + 1) ≡ r
       unfolding rest
       rest-kept e h t c inside′ hc tc ei =
-          rw (ei, ← (odd-past inside (count (crosses q) (drop (i + 1) (sidesIn floats at n))))) (rw tc at (next e h t c hc))
+          rw (ei, ← (odd-past inside (countWhere (crosses q) (drop (i + 1) (sidesIn floats at n))))) (rw tc at (next e h t c hc))

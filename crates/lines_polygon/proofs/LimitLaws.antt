@@ -7,7 +7,7 @@ use lib.Dec.{leb}
 use lib.ListN.{length, getD, drop}
 use lib.Ieee.{Float, nan, inf, fin, lt, isNan}
 use Rattle.arith.specs.F64.{_⊕_, _⊖_, _≺_, _≼_, 0·0, 1e-12, finite, fmin, fmax}
-use Rattle.arith.specs.Lists.{Side, sides, any, all, count, foldl}
+use Rattle.arith.specs.Lists.{Side, sides, anyOf, allOf, countWhere, fold}
 use Rattle.arith.specs.Polygon.{crosses, evenOdd}
 use Rattle.arith.specs.declared.Vec2.{Vec2}
 use Rattle.arith.proofs.ListLaws.{all-here, all-next, foldl-next}
@@ -151,32 +151,32 @@ module _ (l : Limits) (a b : Vec2) (w : sideWithin l (record { from = a; to = b 
 -- ---- all sides
 
 module _ {A : Type 0} (p r : A → Bool) (h : (a : A) → p a ≡ true → r a ≡ false) where
-  all-first : (a : A) (l : List A) → all p (a ∷ l) ≡ true → (p a ≡ true) × (all p l ≡ true)
-  unfolding all
+  all-first : (a : A) (l : List A) → allOf p (a ∷ l) ≡ true → (p a ≡ true) × (allOf p l ≡ true)
+  unfolding allOf
   all-first a l e = by (p a) refl e
     where
-      by : (t : Bool) → p a ≡ t → elim t [ true ↦ all p l | false ↦ false ] ≡ true → (p a ≡ true) × (all p l ≡ true)
+      by : (t : Bool) → p a ≡ t → elim t [ true ↦ allOf p l | false ↦ false ] ≡ true → (p a ≡ true) × (allOf p l ≡ true)
       by true g f = (g, f)
       by false g f = absurd (false≢true f)
 
-  none-any : (l : List A) → all p l ≡ true → any r l ≡ false
-  unfolding any
+  none-any : (l : List A) → allOf p l ≡ true → anyOf r l ≡ false
+  unfolding anyOf
   none-any [] e = refl
-  none-any (a ∷ l) e = let k = all-first a l e in rw (any, h a (k .0), any) (none-any l (k .1))
+  none-any (a ∷ l) e = let k = all-first a l e in rw (anyOf, h a (k .0), anyOf) (none-any l (k .1))
 
-  none-count : (l : List A) → all p l ≡ true → count r l ≡ 0
-  unfolding count
+  none-count : (l : List A) → allOf p l ≡ true → countWhere r l ≡ 0
+  unfolding countWhere
   none-count [] e = refl
   none-count (a ∷ l) e = let k = all-first a l e in rw (h a (k .0), none-count l (k .1))
 
-module _ (polygon : List Vec2) (l : Limits) (w : all (sideWithin l) (sides polygon) ≡ true) (q : Vec2) where
+module _ (polygon : List Vec2) (l : Limits) (w : allOf (sideWithin l) (sides polygon) ≡ true) (q : Vec2) where
   none : ((s : Side Vec2) → sideWithin l s ≡ true → onEdge q s ≡ false) → ((s : Side Vec2) → sideWithin l s ≡ true → crosses q s ≡ false) → contains q polygon ≡ false
   unfolding contains evenOdd
   none a b =
       rw (none-any (sideWithin l) (onEdge q) a (sides polygon) w, none-count (sideWithin l) (crosses q) b (sides polygon) w)
       (not-second (leb 3 (length polygon)) false refl)
 
-within-outside : (polygon : List Vec2) (l : Limits) → all (sideWithin l) (sides polygon) ≡ true → Outside polygon l
+within-outside : (polygon : List Vec2) (l : Limits) → allOf (sideWithin l) (sides polygon) ≡ true → Outside polygon l
 within-outside polygon l w =
     record {
       below = λ q k. none polygon l w q (λ s i. edge-below l (s .from) (s .to) i q k) (λ s i. crosses-below l (s .from) (s .to) i q k);
@@ -212,16 +212,16 @@ unlimited-outside polygon =
 
 pub limits-outside : (polygon : List Vec2) → Outside polygon (limitsOf polygon)
 unfolding limitsOf
-limits-outside polygon = by (all (sideWithin l) (sides polygon)) refl
+limits-outside polygon = by (allOf (sideWithin l) (sides polygon)) refl
   where
     l : Limits
     l = narrowest (sides polygon)
 
-    by : (t : Bool) → all (sideWithin l) (sides polygon) ≡ t → Outside polygon (cond t l unlimited)
+    by : (t : Bool) → allOf (sideWithin l) (sides polygon) ≡ t → Outside polygon (cond t l unlimited)
     by true e = within-outside polygon l e
     by false e = unlimited-outside polygon
 
-module _ (polygon : List Vec2) (l : Limits) (t : Bool) (el : l ≡ narrowest (sides polygon)) (et : t ≡ all (sideWithin l) (sides polygon)) where
+module _ (polygon : List Vec2) (l : Limits) (t : Bool) (el : l ≡ narrowest (sides polygon)) (et : t ≡ allOf (sideWithin l) (sides polygon)) where
   pub limits-kept : t ≡ true → l ≡ limitsOf polygon
   unfolding limitsOf
   limits-kept h = rw (← el, sym et ∙ h)
@@ -245,26 +245,26 @@ missed polygon l q o t e h = by (l .high ≺ q .y) (l .right ≺ q .x) (q .y ≺
 -- ---- one turn of the loops over the sides
 
 module _ (floats : List Float) (at n i : ℕ) where
-  pub narrowed : (l l₀ : Limits) → n ≤ i → foldl widened l (drop i (sidesIn floats at n)) ≡ foldl widened l₀ (sidesIn floats at n) → l₀ ≡ sideless → l ≡ narrowest (sidesIn floats at n)
-  unfolding foldl narrowest
+  pub narrowed : (l l₀ : Limits) → n ≤ i → fold widened l (drop i (sidesIn floats at n)) ≡ fold widened l₀ (sidesIn floats at n) → l₀ ≡ sideless → l ≡ narrowest (sidesIn floats at n)
+  unfolding fold narrowest
   narrowed l l₀ h inv e = rw (sides-past floats at n i h, e) at inv
 
-  pub widened-turn : (l l₀ l′ : Limits) → i < n → (a b : Vec2) → sideFrom floats at n i ≡ record { from = a; to = b } → foldl widened l (drop i (sidesIn floats at n)) ≡ foldl widened l₀ (sidesIn floats at n)
-      → l′ ≡ widened l (record { from = a; to = b }) → foldl widened l′ (drop (i + 1) (sidesIn floats at n)) ≡ foldl widened l₀ (sidesIn floats at n)
+  pub widened-turn : (l l₀ l′ : Limits) → i < n → (a b : Vec2) → sideFrom floats at n i ≡ record { from = a; to = b } → fold widened l (drop i (sidesIn floats at n)) ≡ fold widened l₀ (sidesIn floats at n)
+      → l′ ≡ widened l (record { from = a; to = b }) → fold widened l′ (drop (i + 1) (sidesIn floats at n)) ≡ fold widened l₀ (sidesIn floats at n)
   widened-turn l l₀ l′ more a b es inv e =
       rw (e, ← es, ← (side-at floats at n i more), ← (foldl-next (sidesIn floats at n) i (sideFrom floats at n 0) (in-range floats at n i more) widened l)) inv
 
   module _ (l : Limits) where
-    pub within-end : (r : Bool) → n ≤ i → all (sideWithin l) (drop i (sidesIn floats at n)) ≡ r → true ≡ r
-    unfolding all
+    pub within-end : (r : Bool) → n ≤ i → allOf (sideWithin l) (drop i (sidesIn floats at n)) ≡ r → true ≡ r
+    unfolding allOf
     within-end r h e = rw (sides-past floats at n i h) at e
 
     module _ (more : i < n) (a b : Vec2) (es : sideFrom floats at n i ≡ record { from = a; to = b }) (r t : Bool) (et : t ≡ sideWithin l (record { from = a; to = b }))
-        (inv : all (sideWithin l) (drop i (sidesIn floats at n)) ≡ r) where
+        (inv : allOf (sideWithin l) (drop i (sidesIn floats at n)) ≡ r) where
       test : sideWithin l (getD (sidesIn floats at n) i (sideFrom floats at n 0)) ≡ t
       test = ap (sideWithin l) (side-at floats at n i more ∙ es) ∙ sym et
 
-      pub within-next : t ≡ true → all (sideWithin l) (drop (i + 1) (sidesIn floats at n)) ≡ r
+      pub within-next : t ≡ true → allOf (sideWithin l) (drop (i + 1) (sidesIn floats at n)) ≡ r
       within-next e = sym (all-next (sidesIn floats at n) i (sideFrom floats at n 0) (in-range floats at n i more) (sideWithin l) (test ∙ e)) ∙ inv
 
       pub within-not : t ≡ false → false ≡ r

@@ -5,7 +5,7 @@ use lib.Dec.{leb}
 use lib.ListN.{length}
 use lib.Ieee.{Float}
 use Rattle.arith.specs.F64.{_⊕_, _⊖_, _⊗_, _≼_, 1e-12, abs, fmin, fmax}
-use Rattle.arith.specs.Lists.{Side, sides, any}
+use Rattle.arith.specs.Lists.{Side, sides, anyOf}
 use Rattle.arith.specs.Polygon.{evenOdd}
 use Rattle.arith.specs.declared.Vec2.{Vec2}
 
@@ -26,4 +26,4 @@ onEdge q s = onLine q s && (between (q .x) (s .from .x) (s .to .x) && between (q
 
 -- on an edge, or inside by the even-odd rule
 unfoldable pub contains : Vec2 → List Vec2 → Bool
-contains q polygon = leb 3 (length polygon) && (any (onEdge q) (sides polygon) || evenOdd q polygon)
+contains q polygon = leb 3 (length polygon) && (anyOf (onEdge q) (sides polygon) || evenOdd q polygon)

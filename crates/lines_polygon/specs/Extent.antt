@@ -6,7 +6,7 @@ use mathlib.Core.List.{List}
 use lib.ListN.{getD}
 use lib.Ieee.{Float, nan}
 use Rattle.arith.specs.F64.{_⊕_, _⊖_, _⊗_, _⊘_, _≺_, _≼_, 0·0, 1e-12, +∞, -∞, finite, fmin, fmax}
-use Rattle.arith.specs.Lists.{Side, sides, all, foldl}
+use Rattle.arith.specs.Lists.{Side, sides, allOf, fold}
 use Rattle.arith.specs.declared.Vec2.{Vec2}
 use Rattle.lines_polygon.specs.declared.Limits.{Limits}
 use Rattle.lines_polygon.specs.Contains.{contains}
@@ -68,7 +68,7 @@ widened l s =
 
 -- the narrowest about sides that have no NaN
 unfoldable pub narrowest : List (Side Vec2) → Limits
-narrowest l = foldl widened sideless l
+narrowest l = fold widened sideless l
 
 -- no limits
 unfoldable pub unlimited : Limits
@@ -77,4 +77,4 @@ unlimited = record { low = -∞; high = +∞; right = +∞ }
 -- the narrowest where every side is within them, else none
 unfoldable pub limitsOf : List Vec2 → Limits
 limitsOf polygon =
-    cond (all (sideWithin (narrowest (sides polygon))) (sides polygon)) (narrowest (sides polygon)) unlimited
+    cond (allOf (sideWithin (narrowest (sides polygon))) (sides polygon)) (narrowest (sides polygon)) unlimited

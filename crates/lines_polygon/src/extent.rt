@@ -6,7 +6,7 @@ use arith::float;
 ghost use mathlib.Core.Path.{_≡_};
 ghost use Prim.Native.Nat.{_+_, _*_, _<_, _≤_};
 ghost use lib.ListN.{length};
-ghost use Rattle.arith.specs.Lists.{all, sides};
+ghost use Rattle.arith.specs.Lists.{allOf, sides};
 ghost use Rattle.lines_polygon.specs.Vertices.{pairsFrom};
 ghost use Rattle.lines_polygon.specs.Extent as Extent;
 
@@ -93,7 +93,7 @@ fn has_side(l: Limits, a: Vec2, b: Vec2) -> bool
 // Every side of the polygon lies within the limits.
 fn has_sides(l: Limits, floats: &[f64], at: usize, n: usize) -> bool
     requires { ⌜ (at + 2 * n ≤ length (now floats)) × (n ≤ 24) ⌝ }
-    ensures { λ r. ⌜ r ≡ all (Extent.sideWithin l) (sides (pairsFrom (now (floats .entry)) at n)) ⌝ }
+    ensures { λ r. ⌜ r ≡ allOf (Extent.sideWithin l) (sides (pairsFrom (now (floats .entry)) at n)) ⌝ }
 {
     let mut i = 0;
     while i < n {

@@ -8,7 +8,7 @@ use lib.ListN.{length, getD, drop, set}
 use lib.Seq.{set-out}
 use lib.Ieee.{Float}
 use Rattle.arith.specs.F64.{_≺_, finite, nearer}
-use Rattle.arith.specs.Lists.{foldl}
+use Rattle.arith.specs.Lists.{fold}
 use Rattle.arith.specs.Vec.{minus, over, norm}
 use Rattle.arith.specs.declared.Vec3.{Vec3}
 use Rattle.arith.specs.declared.Found.{Found}
@@ -74,15 +74,15 @@ module _ (g : Grid) (s : Sizes) (w : List ℕ) (f : List Float) where
     nearer-left h = rw (← ed, ← ee, ← et, h)
 
   module _ (p : Vec3) (i k count best : ℕ) (r : ℕ) (long : count ≡ length (cellAt (cellsIn s w f) i .neighbours))
-      (inv : foldl (nearerOf field p) best (drop k (neighboursOf field i)) ≡ r) where
+      (inv : fold (nearerOf field p) best (drop k (neighboursOf field i)) ≡ r) where
     pub nearest-turn : (v best′ : ℕ) → k < count → v ≡ getD (cellAt (cellsIn s w f) i .neighbours) k 0 → best′ ≡ nearerOf field p best v
-        → foldl (nearerOf field p) best′ (drop (k + 1) (neighboursOf field i)) ≡ r
+        → fold (nearerOf field p) best′ (drop (k + 1) (neighboursOf field i)) ≡ r
     nearest-turn v best′ h ev eb =
         rw (eb, ev, neighbours-in i)
         (sym (foldl-next (cellAt (cellsIn s w f) i .neighbours) k 0 (rw (← long) h) (nearerOf field p) best) ∙ (rw (neighbours-in i) at inv))
 
     pub nearest-end : count ≤ k → best ≡ r
-    unfolding foldl
+    unfolding fold
     nearest-end h =
         let none : drop k (neighboursOf field i) ≡ [] = rw (neighbours-in i) (drop-end (cellAt (cellsIn s w f) i .neighbours) k (rw (← long) h)) in
         rw none at inv
@@ -115,12 +115,12 @@ module _ (g : Grid) (s : Sizes) (w : List ℕ) (f : List Float) where
         by (x ∷ l) q = absurd (omega arith)
 
     pub toward-some : {m′ : List ℕ} {r : Vec3} (count k : ℕ) → count ≡ length (cellAt (cellsIn s w f) i .neighbours) → (count ≡ 0 → ⊥)
-        → k ≡ foldl (nearerOf field p) (getD (neighboursOf field i) 0 0) (drop 1 (neighboursOf field i))
+        → k ≡ fold (nearerOf field p) (getD (neighboursOf field i) 0 0) (drop 1 (neighboursOf field i))
         → Served (beside (apart (minus (centreOf field k) (centreOf field i))) field p i base k) v m m′ r → Served (toward field p i base (neighboursOf field i)) v m m′ r
     toward-some {m′} {r} count k e z ek d = by (neighboursOf field i) (λ q. z (e ∙ sym (ap length (neighbours-in i)) ∙ q)) (rw ek at d)
       where
         by : (l : List ℕ) → (length l ≡ 0 → ⊥)
-            → Served (beside (apart (minus (centreOf field (foldl (nearerOf field p) (getD l 0 0) (drop 1 l))) (centreOf field i))) field p i base (foldl (nearerOf field p) (getD l 0 0) (drop 1 l))) v m m′ r
+            → Served (beside (apart (minus (centreOf field (fold (nearerOf field p) (getD l 0 0) (drop 1 l))) (centreOf field i))) field p i base (fold (nearerOf field p) (getD l 0 0) (drop 1 l))) v m m′ r
             → Served (toward field p i base l) v m m′ r
         by [] q x = absurd (q refl)
         by (n ∷ l) q x = unfold toward in x

@@ -5,7 +5,7 @@ use mathlib.Core.Bool.{Bool, true, false, not, cond, _&&_}
 use mathlib.Core.List.{List, [], _∷_}
 use lib.Ieee.{Float}
 use Rattle.arith.specs.F64.{_⊘_, _≺_, _≼_, 2^-52, finite, clamp, nearer}
-use Rattle.arith.specs.Lists.{foldl}
+use Rattle.arith.specs.Lists.{fold}
 use Rattle.arith.specs.Vec.{plus, minus, times, over, dot, normSquared, norm}
 use Rattle.arith.specs.declared.Vec3.{Vec3}
 use Rattle.arith.specs.declared.Found.{Found}
@@ -54,7 +54,7 @@ beside true f p cell base k = ask k give >>= λ v. give (blended p (centreOf f c
 unfoldable pub toward : StreamlineField → Vec3 → ℕ → Vec3 → List ℕ → Asks Vec3
 toward f p cell base [] = give base
 toward f p cell base (n ∷ ns) =
-    let k = foldl (nearerOf f p) n ns in beside (apart (minus (centreOf f k) (centreOf f cell))) f p cell base k
+    let k = fold (nearerOf f p) n ns in beside (apart (minus (centreOf f k) (centreOf f cell))) f p cell base k
 
 -- "Velocity reads the located cell"
 unfoldable pub velocityIn : StreamlineField → Vec3 → ℕ → Asks Vec3

@@ -12,7 +12,7 @@ ghost use mathlib.Core.Path.{_≡_};
 ghost use mathlib.Core.List.{List};
 ghost use Prim.Native.Nat.{ℕ, _+_, _*_, _<_, _≤_};
 ghost use lib.ListN.{length, getD, drop, set};
-ghost use Rattle.arith.specs.Lists.{foldl};
+ghost use Rattle.arith.specs.Lists.{fold};
 ghost use Rattle.arith.specs.Vec.{minus};
 ghost use Rattle.reading.specs.Asks.{ask, give};
 ghost use Rattle.reading.specs.Served.{Served};
@@ -70,7 +70,7 @@ fn nearer_of(floats: &[f64], s: Sizes, p: Vec3, best: Near, i: usize) -> Near
 // The nearest neighbour of cell i, which has one.
 fn nearest(words: &[u32], floats: &[f64], s: Sizes, p: Vec3, i: usize) -> usize
     requires { ⌜ LentWords s (now words) × LentFloats s (now floats) ⌝ }
-    ensures { λ r. ⌜ ((g : Grid) → r ≡ foldl (Velocity.nearerOf (fieldIn g s (now (words .entry)) (now (floats .entry))) p)
+    ensures { λ r. ⌜ ((g : Grid) → r ≡ fold (Velocity.nearerOf (fieldIn g s (now (words .entry)) (now (floats .entry))) p)
         (getD (Velocity.neighboursOf (fieldIn g s (now (words .entry)) (now (floats .entry))) i) 0 0)
         (drop 1 (Velocity.neighboursOf (fieldIn g s (now (words .entry)) (now (floats .entry))) i))) ⌝ }
 {

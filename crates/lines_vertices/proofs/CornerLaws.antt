@@ -11,7 +11,7 @@ use lib.Dec.{ltb}
 use lib.Ieee.{Float, nan, inf, fin, eq, up, down, ofBits}
 use lib.ListN.{length, getD, length-map, length-append, List·getD-eq-default}
 use Rattle.arith.specs.F64.{finite}
-use Rattle.arith.specs.Lists.{foldl, any, all, addNew, insert, sort, sorted, Side, sidesWith, sides}
+use Rattle.arith.specs.Lists.{fold, anyOf, allOf, addNew, insertBefore, sort, sorted, Side, sidesWith, sides}
 use Rattle.arith.specs.Vec.{origin, each3}
 use Rattle.arith.specs.declared.Vec3.{Vec3}
 use Rattle.arith.specs.declared.Vec2.{Vec2}
@@ -32,52 +32,52 @@ use Rattle.lines_vertices.proofs.CellLaws.{cells-named, all-two}
 
 -- ---- a list that grows only by what is new
 
-any-append : {A : Type 0} (p : A → Bool) (l k : List A) → any p l ≡ true → any p (l ++ k) ≡ true
-unfolding any
+any-append : {A : Type 0} (p : A → Bool) (l k : List A) → anyOf p l ≡ true → anyOf p (l ++ k) ≡ true
+unfolding anyOf
 any-append p [] k e = absurd (let z : _≡_ {A = ℕ} 0 1 = cc in omega arith)
 any-append p (a ∷ l) k e = by (p a) (any-append p l k) e
   where
-    by : (t : Bool) → (any p l ≡ true → any p (l ++ k) ≡ true) → elim t [ true ↦ true | false ↦ any p l ] ≡ true → elim t [ true ↦ true | false ↦ any p (l ++ k) ] ≡ true
+    by : (t : Bool) → (anyOf p l ≡ true → anyOf p (l ++ k) ≡ true) → elim t [ true ↦ true | false ↦ anyOf p l ] ≡ true → elim t [ true ↦ true | false ↦ anyOf p (l ++ k) ] ≡ true
     by true r e = refl
     by false r e = r e
 
-any-last : {A : Type 0} (p : A → Bool) (l : List A) (a : A) → p a ≡ true → any p (l ++ a ∷ []) ≡ true
-unfolding any
-any-last p [] a e = rw (e, any)
+any-last : {A : Type 0} (p : A → Bool) (l : List A) (a : A) → p a ≡ true → anyOf p (l ++ a ∷ []) ≡ true
+unfolding anyOf
+any-last p [] a e = rw (e, anyOf)
 any-last p (b ∷ l) a e = by (p b) (any-last p l a e)
   where
-    by : (t : Bool) → any p (l ++ a ∷ []) ≡ true → elim t [ true ↦ true | false ↦ any p (l ++ a ∷ []) ] ≡ true
+    by : (t : Bool) → anyOf p (l ++ a ∷ []) ≡ true → elim t [ true ↦ true | false ↦ anyOf p (l ++ a ∷ []) ] ≡ true
     by true r = refl
     by false r = r
 
 module _ {A : Type 0} (like : A → A → Bool) where
   -- what is there is not added
-  new-there : (l : List A) (a : A) → any (like a) l ≡ true → addNew like l a ≡ l
+  new-there : (l : List A) (a : A) → anyOf (like a) l ≡ true → addNew like l a ≡ l
   unfolding addNew
   new-there l a e = rw e
 
   -- what was added is there
-  new-here : (l : List A) (a : A) → like a a ≡ true → any (like a) (addNew like l a) ≡ true
+  new-here : (l : List A) (a : A) → like a a ≡ true → anyOf (like a) (addNew like l a) ≡ true
   unfolding addNew
-  new-here l a e = by (any (like a) l) refl
+  new-here l a e = by (anyOf (like a) l) refl
     where
-      by : (t : Bool) → any (like a) l ≡ t → any (like a) (cond t l (l ++ a ∷ [])) ≡ true
+      by : (t : Bool) → anyOf (like a) l ≡ t → anyOf (like a) (cond t l (l ++ a ∷ [])) ≡ true
       by true q = q
       by false q = any-last (like a) l a e
 
   -- what was there stays
-  new-stays : (p : A → Bool) (l : List A) (a : A) → any p l ≡ true → any p (addNew like l a) ≡ true
+  new-stays : (p : A → Bool) (l : List A) (a : A) → anyOf p l ≡ true → anyOf p (addNew like l a) ≡ true
   unfolding addNew
-  new-stays p l a e = by (any (like a) l)
+  new-stays p l a e = by (anyOf (like a) l)
     where
-      by : (t : Bool) → any p (cond t l (l ++ a ∷ [])) ≡ true
+      by : (t : Bool) → anyOf p (cond t l (l ++ a ∷ [])) ≡ true
       by true = e
       by false = any-append p l (a ∷ []) e
 
   -- at most one more
   new-one : (l : List A) (a : A) → length (addNew like l a) ≤ length l + 1
   unfolding addNew
-  new-one l a = by (any (like a) l)
+  new-one l a = by (anyOf (like a) l)
     where
       by : (t : Bool) → length (cond t l (l ++ a ∷ [])) ≤ length l + 1
       by true = omega arith
@@ -104,12 +104,12 @@ alike-self p e =
     let b = both _ _ (a .1) in
     rw (equals-self (p .x) (a .0), equals-self (p .y) (b .0))
 
-all-finite : (p : Vec3 → Bool) (l : List Vec3) (i : ℕ) (d : Vec3) → p d ≡ true → all p l ≡ true → p (getD l i d) ≡ true
-unfolding all
+all-finite : (p : Vec3 → Bool) (l : List Vec3) (i : ℕ) (d : Vec3) → p d ≡ true → allOf p l ≡ true → p (getD l i d) ≡ true
+unfolding allOf
 all-finite p [] i d h e = h
 all-finite p (a ∷ l) i d h e = by (p a) refl i (λ j r. all-finite p l j d h r) e
   where
-    by : (t : Bool) → p a ≡ t → (i : ℕ) → ((j : ℕ) → all p l ≡ true → p (getD l j d) ≡ true) → elim t [ true ↦ all p l | false ↦ false ] ≡ true
+    by : (t : Bool) → p a ≡ t → (i : ℕ) → ((j : ℕ) → allOf p l ≡ true → p (getD l j d) ≡ true) → elim t [ true ↦ allOf p l | false ↦ false ] ≡ true
         → p (getD (a ∷ l) i d) ≡ true
     by true q zero r e = q
     by true q (suc i) r e = r i e
@@ -119,7 +119,7 @@ origin-finite : each3 finite origin ≡ true
 unfolding each3 finite ofBits
 origin-finite = refl
 
-pub points-alike : (ps : List Vec3) (i : ℕ) → all (each3 finite) ps ≡ true → alike (flat (pointAt ps i)) (flat (pointAt ps i)) ≡ true
+pub points-alike : (ps : List Vec3) (i : ℕ) → allOf (each3 finite) ps ≡ true → alike (flat (pointAt ps i)) (flat (pointAt ps i)) ≡ true
 unfolding pointAt
 points-alike ps i e = alike-self (getD ps i origin) (all-finite (each3 finite) ps i origin origin-finite e)
 
@@ -129,7 +129,7 @@ Either : List ℕ → ℕ → ℕ → Type 0
 Either v a b = (v ≡ a ∷ b ∷ []) ⊎ (v ≡ b ∷ a ∷ [])
 
 sorted-two : (a b : ℕ) → Either (sorted (a ∷ b ∷ [])) a b
-unfolding sorted sort foldl insert Either
+unfolding sorted sort fold insertBefore Either
 sorted-two a b = by (ltb b a)
   where
     by : (t : Bool) → Either (elim t [ true ↦ b ∷ a ∷ [] | false ↦ a ∷ b ∷ [] ]) a b
@@ -153,7 +153,7 @@ either-two (x ∷ y ∷ z ∷ v) a b n e = absurd (omega arith)
 
 -- the point of this number is among the corners
 abbrev Has : Mesh → List Vec2 → ℕ → Type 0
-Has m l p = any (alike (flat (pointAt (m .points) p))) l ≡ true
+Has m l p = anyOf (alike (flat (pointAt (m .points) p))) l ≡ true
 
 -- what a face that is the side from a to b does to the corners
 record Adds (m : Mesh) (f a b : ℕ) : Type 0 where
@@ -164,7 +164,7 @@ record Adds (m : Mesh) (f a b : ℕ) : Type 0 where
   one : (l : List Vec2) → Has m l a → length (addCorners m l f) ≤ length l + 1
   none : (l : List Vec2) → Has m l a → Has m l b → length (addCorners m l f) ≤ length l
 
-module _ (m : Mesh) (whole : all (each3 finite) (m .points) ≡ true) where
+module _ (m : Mesh) (whole : allOf (each3 finite) (m .points) ≡ true) where
   corner-here : (l : List Vec2) (p : ℕ) → Has m (addCorner m l p) p
   unfolding addCorner
   corner-here l p = new-here alike l (flat (pointAt (m .points) p)) (points-alike (m .points) p whole)
@@ -183,7 +183,7 @@ module _ (m : Mesh) (whole : all (each3 finite) (m .points) ≡ true) where
 
   -- in either order
   corners-two : (f x y : ℕ) → faceAt (m .faces) f .vertices ≡ x ∷ y ∷ [] → (l : List Vec2) → addCorners m l f ≡ addCorner m (addCorner m l x) y
-  unfolding addCorners foldl
+  unfolding addCorners fold
   corners-two f x y e l = rw e
 
   adds : (f a b : ℕ) → Either (faceAt (m .faces) f .vertices) a b → Adds m f a b
@@ -220,8 +220,8 @@ AddsAll m (f ∷ fs) (s ∷ ss) = Adds m f (s .from) (s .to) × AddsAll m fs ss
 
 -- from a number that is there, through k, to one that is there
 chain : (m : Mesh) (k : List ℕ) (a z : ℕ) (fs : List ℕ) (l : List Vec2) → AddsAll m fs (sidesWith (a ∷ k) (k ++ z ∷ [])) → Has m l a → Has m l z
-    → length (foldl (addCorners m) l fs) ≤ length l + length k
-unfolding sidesWith foldl
+    → length (fold (addCorners m) l fs) ≤ length l + length k
+unfolding sidesWith fold
 chain m [] a z [] l r h g = absurd r
 chain m [] a z (f ∷ []) l r h g = omega (arith, r .0 .none l h g)
 chain m [] a z (f ∷ e ∷ fs) l r h g = absurd (r .1)
@@ -232,8 +232,8 @@ chain m (b ∷ k) a z (f ∷ fs) l r h g =
     omega (arith, s .one l h)
 
 -- all round
-round : (m : Mesh) (l fs : List ℕ) → 2 ≤ length l → AddsAll m fs (sides l) → length (foldl (addCorners m) [] fs) ≤ length l
-unfolding sides sidesWith foldl
+round : (m : Mesh) (l fs : List ℕ) → 2 ≤ length l → AddsAll m fs (sides l) → length (fold (addCorners m) [] fs) ≤ length l
+unfolding sides sidesWith fold
 round m [] fs n r = absurd (omega arith)
 round m (a ∷ []) fs n r = absurd (omega arith)
 round m (a ∷ b ∷ k) [] n r = absurd r
@@ -244,7 +244,7 @@ round m (a ∷ b ∷ k) (f ∷ fs) n r =
 
 -- ---- the polygon of a cell
 
-adds-all : (m : Mesh) → all (each3 finite) (m .points) ≡ true → AllFaces (λ v. length v ≡ 2) (m .faces) → (fs : List ℕ) (ss : List (Side ℕ))
+adds-all : (m : Mesh) → allOf (each3 finite) (m .points) ≡ true → AllFaces (λ v. length v ≡ 2) (m .faces) → (fs : List ℕ) (ss : List (Side ℕ))
     → All (λ n. n < length (m .faces)) fs → map (keyIn (m .faces)) fs ≡ map sorted (map ends ss) → AddsAll m fs ss
 unfolding ends keyIn faceAt
 adds-all m whole two [] [] b e = tt
@@ -257,8 +257,8 @@ adds-all m whole two (f ∷ fs) (s ∷ ss) b e =
     (adds m whole f (s .from) (s .to) (either-two (getD (m .faces) f noFace .vertices) (s .from) (s .to) n key), adds-all m whole two fs ss (b .1) rest)
 
 -- at most as many corners as sides
-cell-corners : (m : Mesh) → all (each3 finite) (m .points) ≡ true → AllFaces (λ v. length v ≡ 2) (m .faces) → (def : Definition) (fs : List ℕ) → wrongKind 2 def ≡ false
-    → Naming (m .faces) fs (facesOf def) → length (foldl (addCorners m) [] fs) ≤ length (facesOf def)
+cell-corners : (m : Mesh) → allOf (each3 finite) (m .points) ≡ true → AllFaces (λ v. length v ≡ 2) (m .faces) → (def : Definition) (fs : List ℕ) → wrongKind 2 def ≡ false
+    → Naming (m .faces) fs (facesOf def) → length (fold (addCorners m) [] fs) ≤ length (facesOf def)
 unfolding wrongKind facesOf
 cell-corners m whole two (polygon l) fs k n =
     let long : 3 ≤ length l = ltb-false (length l) 3 k in
@@ -273,25 +273,25 @@ past cells i b = List·getD-eq-default cells noCell b
 
 -- the corners of one cell
 pub corners-of-cell : (d : ℕ) (ps : List Vec3) (defs : List Definition) (t : Drafts) (m : Mesh) (c : Cell) (i : ℕ) (none : Draft) → d ≡ 2 → drafts d ps defs ≡ fine t
-    → all (each3 finite) ps ≡ true → m .points ≡ ps → m .faces ≡ t .faces → i < length (t .cells) → c .faces ≡ getD (t .cells) i none .faces
+    → allOf (each3 finite) ps ≡ true → m .points ≡ ps → m .faces ≡ t .faces → i < length (t .cells) → c .faces ≡ getD (t .cells) i none .faces
     → length (cornersOf m c) ≤ length (facesOf (getD (t .cells) i none .definition))
 unfolding cornersOf
 corners-of-cell d ps defs t m c i none two e whole points faces b own =
     let n = all-at (Named d (t .faces)) (t .cells) i none b (cells-named d ps defs t e) in
     let pairs : AllFaces (λ v. length v ≡ 2) (m .faces) = rw faces (all-two d ps defs t two e) in
-    let right : all (each3 finite) (m .points) ≡ true = rw points whole in
+    let right : allOf (each3 finite) (m .points) ≡ true = rw points whole in
     let kind : wrongKind 2 (getD (t .cells) i none .definition) ≡ false = rw two at (n .kind) in
     let naming : Naming (m .faces) (getD (t .cells) i none .faces) (facesOf (getD (t .cells) i none .definition)) = rw faces (n .faces) in
     rw own (cell-corners m right pairs (getD (t .cells) i none .definition) (getD (t .cells) i none .faces) kind naming)
 
 -- a cell that is not there has no corner
 no-corners : (m : Mesh) → length (cornersOf m noCell) ≡ 0
-unfolding cornersOf foldl
+unfolding cornersOf fold
 no-corners m = refl
 
 -- "0 has a count (at most 24)": so has its polygon
 pub few-corners : (d : ℕ) (ps : List Vec3) (defs : List Definition) (t : Drafts) (m : Mesh) (none : Draft) → d ≡ 2 → drafts d ps defs ≡ fine t
-    → all (each3 finite) ps ≡ true → ((i : ℕ) → i < length (t .cells) → length (facesOf (getD (t .cells) i none .definition)) ≤ 24) → Over ps t none m → Few m
+    → allOf (each3 finite) ps ≡ true → ((i : ℕ) → i < length (t .cells) → length (facesOf (getD (t .cells) i none .definition)) ≤ 24) → Over ps t none m → Few m
 few-corners d ps defs t m none two e whole few o = record { corners = λ i. by i (lt-or-ge i (length (t .cells))) }
   where
     by : (i : ℕ) → (i < length (t .cells)) ⊎ (length (t .cells) ≤ i) → length (cornersOf m (cellAt (m .cells) i)) ≤ 24

@@ -19,7 +19,7 @@ use Rattle.mesh_geometry.specs.Faces.{enough, faceAreaVector, Oriented, faceWit
 use Rattle.mesh_keys.proofs.OrderLaws.{sorted-reverse}
 use Rattle.mesh_keys.proofs.KeyLaws.{same-true}
 use Rattle.mesh_face_table.specs.declared.Measured.{Measured}
-use Rattle.mesh_faces.specs.Table.{hasKey, lookup, newFace, withNeighbour, joining, settled, adding, Placed, placed, addFace}
+use Rattle.mesh_faces.specs.Table.{hasKey, faceWithKey, newFace, withNeighbour, joining, settled, adding, Placed, placed, addFace}
 use Rattle.mesh_faces.proofs.AnswerLaws.{first-below}
 use Rattle.lines_vertices.specs.Shapes.{keyIn, Turned, Later, Placing}
 
@@ -133,8 +133,8 @@ record Finds (key : List ℕ) (fs : List Face) (i : ℕ) : Type 0 where
   below : i < length fs
   same : keyIn fs i ≡ key
 
-finds : (key : List ℕ) (fs : List Face) (i : ℕ) → lookup key fs ≡ At i → Finds key fs i
-unfolding lookup hasKey keyIn faceAt
+finds : (key : List ℕ) (fs : List Face) (i : ℕ) → faceWithKey key fs ≡ At i → Finds key fs i
+unfolding faceWithKey hasKey keyIn faceAt
 finds key fs i e =
     let b = first-below (hasKey key) 0 fs i e in
     let z : i - 0 ≡ i = omega arith in
@@ -155,7 +155,7 @@ module _ (cell : ℕ) (v : List ℕ) (m : Measured) (fs : List Face) (p : Placed
       rw (← w) (placing-joined cell fs i v (f .below) (f .same))
   joins (At n) i f e = absurd (let z : _≡_ {A = ℕ} 0 1 = cc in omega arith)
 
-  settles : (r : Found) → lookup (sorted v) fs ≡ r → Places (placed (settled r cell v m fs .answer) (settled r cell v m fs .faces))
+  settles : (r : Found) → faceWithKey (sorted v) fs ≡ r → Places (placed (settled r cell v m fs .answer) (settled r cell v m fs .faces))
   unfolding settled placed Places newFace
   settles Nothing q e =
       let w : record { faces = fs ++ newFace cell v m ∷ []; number = length fs } ≡ p = cc in
@@ -164,7 +164,7 @@ module _ (cell : ℕ) (v : List ℕ) (m : Measured) (fs : List Face) (p : Placed
 
   pub placing : addFace cell v m fs ≡ fine p → Placing fs (p .faces) v (p .number)
   unfolding addFace adding Places
-  placing e = settles (lookup (sorted v) fs) refl e
+  placing e = settles (faceWithKey (sorted v) fs) refl e
 
   module _ (P : List ℕ → Type 0) (new : P v) (old : AllFaces P fs) where
     Passing : Result Placed → Type 0
@@ -177,7 +177,7 @@ module _ (cell : ℕ) (v : List ℕ) (m : Measured) (fs : List Face) (p : Placed
         rw (← w) (all-set (λ f. P (f .vertices)) fs i (withNeighbour cell (faceAt fs i)) (all-at (λ f. P (f .vertices)) fs i noFace b old) old)
     joins-all (At n) i b e = absurd (let z : _≡_ {A = ℕ} 0 1 = cc in omega arith)
 
-    settles-all : (r : Found) → lookup (sorted v) fs ≡ r → Passing (placed (settled r cell v m fs .answer) (settled r cell v m fs .faces))
+    settles-all : (r : Found) → faceWithKey (sorted v) fs ≡ r → Passing (placed (settled r cell v m fs .answer) (settled r cell v m fs .faces))
     unfolding settled placed Passing newFace
     settles-all Nothing q e =
         let w : record { faces = fs ++ newFace cell v m ∷ []; number = length fs } ≡ p = cc in
@@ -186,4 +186,4 @@ module _ (cell : ℕ) (v : List ℕ) (m : Measured) (fs : List Face) (p : Placed
 
     pub placing-all : addFace cell v m fs ≡ fine p → AllFaces P (p .faces)
     unfolding addFace adding Passing
-    placing-all e = settles-all (lookup (sorted v) fs) refl e
+    placing-all e = settles-all (faceWithKey (sorted v) fs) refl e

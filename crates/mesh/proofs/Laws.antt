@@ -7,7 +7,7 @@ use mathlib.Core.List.{List, [], _∷_}
 use lib.ListN.{length, getD, length-drop}
 use lib.Ieee.{Float}
 use borrow.Author.Tests.{eq-eqb, ne-eqb, lt-ltb, le-ltb}
-use Rattle.arith.specs.Lists.{any, all, foldl}
+use Rattle.arith.specs.Lists.{anyOf, allOf, fold}
 use Rattle.arith.specs.declared.Vec3.{Vec3}
 use Rattle.reading.specs.Result.{Result, refused, fine, _>>=_, refuse, mapAll}
 use Rattle.case_definitions.specs.Faces.{Definition, faceCount, addFaceCount, facesCounted}
@@ -98,15 +98,15 @@ built-as {ps} {w} {f} {r} e k b = rw (← e, ← k) b
 -- ---- 16 and 17
 
 module _ (ps : List Vec3) (fs : List Face) (cs : List Cell) where
-  pub join-16 : any (misplaced cs) fs ≡ true → joined ps fs cs ≡ refused 16
+  pub join-16 : anyOf (misplaced cs) fs ≡ true → joined ps fs cs ≡ refused 16
   unfolding joined refuse _>>=_
   join-16 e = rw (e, refuse, _>>=_)
 
-  pub join-17 : any (misplaced cs) fs ≡ false → connectedCells (linked fs cs) ≡ false → joined ps fs cs ≡ refused 17
+  pub join-17 : anyOf (misplaced cs) fs ≡ false → connectedCells (linked fs cs) ≡ false → joined ps fs cs ≡ refused 17
   unfolding joined refuse _>>=_
   join-17 e g = rw (e, g, refuse, _>>=_)
 
-  pub join-fine : any (misplaced cs) fs ≡ false → connectedCells (linked fs cs) ≡ true → joined ps fs cs ≡ fine (record { points = ps; faces = fs; cells = linked fs cs })
+  pub join-fine : anyOf (misplaced cs) fs ≡ false → connectedCells (linked fs cs) ≡ true → joined ps fs cs ≡ fine (record { points = ps; faces = fs; cells = linked fs cs })
   unfolding joined refuse _>>=_
   join-fine e g = rw (e, g, refuse, _>>=_)
 
@@ -119,10 +119,10 @@ module _ (ps : List Vec3) (s : Sizes) (w w′ w″ : List ℕ) (floats : List Fl
   unfolding meshIn
   mesh-joined = mesh-same ps s w′ w″ floats floats (k .kept) refl ∙ rw (l .faces floats, l .cells floats)
 
-  pub joined-17 : any (misplaced (cellsIn s w floats)) (facesIn s w floats) ≡ false → r ≡ false → Building (joined ps (facesIn s w floats) (cellsIn s w floats)) (s .slots) ps w″ floats (Built.Refused 17)
+  pub joined-17 : anyOf (misplaced (cellsIn s w floats)) (facesIn s w floats) ≡ false → r ≡ false → Building (joined ps (facesIn s w floats) (cellsIn s w floats)) (s .slots) ps w″ floats (Built.Refused 17)
   joined-17 e g = barred (join-17 ps (facesIn s w floats) (cellsIn s w floats) e (sym reached ∙ g))
 
-  pub joined-mesh : any (misplaced (cellsIn s w floats)) (facesIn s w floats) ≡ false → r ≡ true → LentWords s w → LentFloats s floats → length w″ ≡ length w → Building (joined ps (facesIn s w floats) (cellsIn s w floats)) (s .slots) ps w″ floats (Built.Mesh s)
+  pub joined-mesh : anyOf (misplaced (cellsIn s w floats)) (facesIn s w floats) ≡ false → r ≡ true → LentWords s w → LentFloats s floats → length w″ ≡ length w → Building (joined ps (facesIn s w floats) (cellsIn s w floats)) (s .slots) ps w″ floats (Built.Mesh s)
   joined-mesh e g lw lf n =
       built (join-fine ps (facesIn s w floats) (cellsIn s w floats) e (sym reached ∙ g) ∙ ap fine (sym mesh-joined)) refl
       (record { few-slots = lw .few-slots; few-faces = lw .few-faces; few-cells = lw .few-cells; long = rw n (lw .long) }) lf
@@ -178,8 +178,8 @@ survey-case {file} n f (surveyed {n = m} {ds = ds} {f = h} o d e) g =
 
 -- ---- every face takes a word
 
-counted-few : (n : ℕ) (ws : List ℕ) (ds : List Definition) (k : ℕ) → definitions n ws ≡ fine ds → foldl addFaceCount k ds ≤ k + length ws
-unfolding definitions foldl addFaceCount
+counted-few : (n : ℕ) (ws : List ℕ) (ds : List Definition) (k : ℕ) → definitions n ws ≡ fine ds → fold addFaceCount k ds ≤ k + length ws
+unfolding definitions fold addFaceCount
 counted-few zero [] ds k e = let w : [] ≡ ds = cc in rw (← w) (omega arith)
 counted-few zero (x ∷ ws) ds k e = absurd (let z : _≡_ {A = ℕ} 0 1 = cc in omega arith)
 counted-few (suc n) ws ds k e =
@@ -210,16 +210,16 @@ module _ (ps : List Vec3) (defs : List Definition) where
   accept-8 e = rw (eq-eqb (length defs) 0 e, refuse, _>>=_)
 
   module _ (some : length defs ≡ 0 → ⊥) where
-    pub accept-9 : all (each3 finite) ps ≡ false → acceptedAs 9 ≡ acceptable ps defs
+    pub accept-9 : allOf (each3 finite) ps ≡ false → acceptedAs 9 ≡ acceptable ps defs
     unfolding acceptedAs acceptable refuse _>>=_
     accept-9 e = rw (ne-eqb (length defs) 0 some, e, refuse, _>>=_)
 
-    module _ (fin : all (each3 finite) ps ≡ true) where
-      pub accept-10 : all (each3 within) ps ≡ false → acceptedAs 10 ≡ acceptable ps defs
+    module _ (fin : allOf (each3 finite) ps ≡ true) where
+      pub accept-10 : allOf (each3 within) ps ≡ false → acceptedAs 10 ≡ acceptable ps defs
       unfolding acceptedAs acceptable refuse _>>=_
       accept-10 e = rw (ne-eqb (length defs) 0 some, fin, e, refuse, _>>=_)
 
-      pub accept-all : all (each3 within) ps ≡ true → acceptedAs 0 ≡ acceptable ps defs
+      pub accept-all : allOf (each3 within) ps ≡ true → acceptedAs 0 ≡ acceptable ps defs
       unfolding acceptedAs acceptable refuse _>>=_
       accept-all e = rw (ne-eqb (length defs) 0 some, fin, e, refuse, _>>=_)
 

@@ -5,7 +5,7 @@ use mathlib.Core.List.{List}
 use lib.Dec.{eqb}
 use lib.ListN.{length}
 use Rattle.arith.specs.F64.{finite, within}
-use Rattle.arith.specs.Lists.{any, all}
+use Rattle.arith.specs.Lists.{anyOf, allOf}
 use Rattle.arith.specs.Vec.{each3}
 use Rattle.arith.specs.declared.Vec3.{Vec3}
 use Rattle.reading.specs.Result.{Result, fine, _>>=_, refuse, mapAll}
@@ -20,7 +20,7 @@ use Rattle.mesh_centres.specs.Finish.{finished}
 -- 16 "orientation"; the neighbours of each cell "in face order"; 17 "not connected"
 unfoldable pub joined : List Vec3 → List Face → List Cell → Result Mesh
 joined ps fs cs =
-    refuse 16 (any (misplaced cs) fs) >>= λ _.
+    refuse 16 (anyOf (misplaced cs) fs) >>= λ _.
     refuse 17 (not (connectedCells (linked fs cs))) >>= λ _.
     fine (record { points = ps; faces = fs; cells = linked fs cs })
 
@@ -28,8 +28,8 @@ joined ps fs cs =
 unfoldable pub acceptable : List Vec3 → List Definition → Result (Unit {0})
 acceptable ps defs =
     refuse 8 (eqb (length defs) 0) >>= λ _.
-    refuse 9 (not (all (each3 finite) ps)) >>= λ _.
-    refuse 10 (not (all (each3 within) ps))
+    refuse 9 (not (allOf (each3 finite) ps)) >>= λ _.
+    refuse 10 (not (allOf (each3 within) ps))
 
 -- 15 for all cells, 16 for all faces, 17
 unfoldable pub completed : ℕ → List Vec3 → Drafts → Result Mesh

@@ -10,7 +10,7 @@ use mathlib.Core.Logic.{inl}
 use lib.ListN.{length, getD, take, drop, drop-of-length-le}
 use lib.Seq.{getD-take, take-take}
 use lib.Ieee.{Float, nan}
-use Rattle.arith.specs.Lists.{foldl}
+use Rattle.arith.specs.Lists.{fold}
 use Rattle.arith.specs.Records.{tab, puts}
 use Rattle.arith.specs.declared.Vec3.{Vec3}
 use Rattle.arith.proofs.ListLaws.{foldl-next}
@@ -223,8 +223,8 @@ module _ (ws : List ℕ) (s : Sizes) (words words′ : List ℕ) (floats floats�
 -- ---- `add_cell`
 
 -- what was counted is counted
-counted-least : (n : ℕ) (l : List Definition) → n ≤ foldl addFaceCount n l
-unfolding foldl addFaceCount
+counted-least : (n : ℕ) (l : List Definition) → n ≤ fold addFaceCount n l
+unfolding fold addFaceCount
 counted-least n [] = omega arith
 counted-least n (d ∷ l) = let w = counted-least (n + faceCount d) l in omega arith
 
@@ -279,7 +279,7 @@ module _ (d : ℕ) (ps : List Vec3) (case : List ℕ) (points : ℕ) (ws words :
     same-def : getD (definedIn s ws) i (polygon []) ≡ definitionAt ws (h .at)
     same-def = cell .same ∙ ap (definitionAt ws) (sym position)
 
-    counted : foldl addFaceCount (p .first + h .faces) (drop (i + 1) (definedIn s ws)) ≡ s .slots
+    counted : fold addFaceCount (p .first + h .faces) (drop (i + 1) (definedIn s ws)) ≡ s .slots
     unfolding addFaceCount
     counted = rw count (sym (foldl-next (definedIn s ws) i (polygon []) there addFaceCount (p .first)) ∙ t .filled .counted)
 
@@ -429,8 +429,8 @@ module _ (d : ℕ) (ps : List Vec3) (case : List ℕ) (points : ℕ) (ws words�
       all-cells = omega arith
 
       all-slots : p .first ≡ s .slots
-      unfolding foldl
-      all-slots = rw (none-left, foldl) at (g .counted)
+      unfolding fold
+      all-slots = rw (none-left, fold) at (g .counted)
 
       corner : (f : ℕ) → f < p .faces → getD words (12 * f + 0) 0 ≤ 8
       unfolding meshWords

@@ -4,7 +4,7 @@ use mathlib.Core.Path.{_≡_}
 use mathlib.Core.List.{List, [], _∷_, _++_}
 use lib.ListN.{length, getD, drop}
 use lib.Ieee.{Float}
-use Rattle.arith.specs.Lists.{foldl}
+use Rattle.arith.specs.Lists.{fold}
 use Rattle.arith.specs.Records.{puts}
 use Rattle.arith.specs.declared.Vec3.{Vec3}
 use Rattle.reading.specs.Result.{Result, refused, fine, steps}
@@ -158,7 +158,7 @@ pub data CellFilling (d : ℕ) (ps : List Vec3) (ws : List ℕ) (reference : Vec
 pub record Filled (d : ℕ) (ps : List Vec3) (ws : List ℕ) (defs : List Definition) (s : Sizes) (words : List ℕ) (floats : List Float) (i : ℕ) (p : Progress) : Type 0 where
   pub chained : Chained (sized s (p .faces)) words
   pub behind : p .faces ≤ p .first
-  pub counted : foldl addFaceCount (p .first) (drop i defs) ≡ s .slots
+  pub counted : fold addFaceCount (p .first) (drop i defs) ≡ s .slots
   pub left : Words.definitions (s .cells - i) (drop (p .at) ws) ≡ fine (drop i defs)
   pub lists : Lists ws s words i (p .first)
   pub rest : steps (addCell d ps) (record { faces = facesIn (sized s (p .faces)) words floats; cells = draftsIn ws s words floats i }) (drop i defs) ≡ drafts d ps defs

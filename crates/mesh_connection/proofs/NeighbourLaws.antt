@@ -14,7 +14,7 @@ use lib.Dec.{eqb}
 use lib.Ieee.{Float}
 use lib.ListN.{length, getD, set, drop}
 use lib.Seq.{getD-set-same, getD-set-other, getD-take}
-use Rattle.arith.specs.Lists.{any, foldl, addNew}
+use Rattle.arith.specs.Lists.{anyOf, fold, addNew}
 use Rattle.arith.specs.Records.{tab}
 use Rattle.arith.specs.declared.Found.{Found}
 use Rattle.arith.specs.declared.Found.the-variants.{At, Nothing}
@@ -31,7 +31,7 @@ use Rattle.mesh_connection.specs.Search.{Beyond, Added, Crossed, neighbo
 -- ---- is it listed
 
 abbrev pub LeftListed : List ℕ → ℕ → ℕ → ℕ → ℕ → Type 0
-LeftListed w at n d k = any (eqb d) (drop k (listAt w at n)) ≡ any (eqb d) (listAt w at n)
+LeftListed w at n d k = anyOf (eqb d) (drop k (listAt w at n)) ≡ anyOf (eqb d) (listAt w at n)
 
 module _ (w : List ℕ) (at n d k : ℕ) (left : LeftListed w at n d k) where
   here : k < n → getD (listAt w at n) k 0 ≡ getD w (at + k) 0
@@ -40,14 +40,14 @@ module _ (w : List ℕ) (at n d k : ℕ) (left : LeftListed w at n d k) where
   low : k < n → k < length (listAt w at n)
   low h = rw (length-listAt w at n) h
 
-  pub listed-here : (x : ℕ) → k < n → x ≡ getD w (at + k) 0 → d ≡ x → true ≡ any (eqb d) (listAt w at n)
+  pub listed-here : (x : ℕ) → k < n → x ≡ getD w (at + k) 0 → d ≡ x → true ≡ anyOf (eqb d) (listAt w at n)
   listed-here x h ex e = sym (sym left ∙ any-here (listAt w at n) k 0 (low h) (eqb d) (eq-eqb _ _ (e ∙ ex ∙ sym (here h))))
 
   pub listed-next : (x : ℕ) → k < n → x ≡ getD w (at + k) 0 → (d ≡ x → ⊥) → LeftListed w at n d (k + 1)
   listed-next x h ex ne = sym (any-next (listAt w at n) k 0 (low h) (eqb d) (ne-eqb _ _ (λ e. ne (e ∙ here h ∙ sym ex)))) ∙ left
 
-  pub listed-done : n ≤ k → false ≡ any (eqb d) (listAt w at n)
-  unfolding any
+  pub listed-done : n ≤ k → false ≡ anyOf (eqb d) (listAt w at n)
+  unfolding anyOf
   listed-done h = rw (drop-end (listAt w at n) k (rw (length-listAt w at n) h)) at left
 
 pub listed-start : (w : List ℕ) (at n d : ℕ) → LeftListed w at n d 0
@@ -61,11 +61,11 @@ pub same-list : (w w′ : List ℕ) (at n : ℕ) → ((k : ℕ) → k < n → ge
 unfolding listAt
 same-list w w′ at n h = tab-same _ _ n h
 
-pub added-was : (w : List ℕ) (at n d : ℕ) (t : Bool) → t ≡ any (eqb d) (listAt w at n) → t ≡ true → Added w w at n d n
+pub added-was : (w : List ℕ) (at n d : ℕ) (t : Bool) → t ≡ anyOf (eqb d) (listAt w at n) → t ≡ true → Added w w at n d n
 unfolding addNew
 added-was w at n d t et e = record { list = rw (sym et ∙ e); more = omega arith; grows = omega arith; kept = λ j h. refl }
 
-pub added-new : (w : List ℕ) (at n d x : ℕ) (t : Bool) → t ≡ any (eqb d) (listAt w at n) → t ≡ false → x ≡ d → at + n < length w
+pub added-new : (w : List ℕ) (at n d x : ℕ) (t : Bool) → t ≡ anyOf (eqb d) (listAt w at n) → t ≡ false → x ≡ d → at + n < length w
     → Added w (set w (at + n) x) at n d (n + 1)
 unfolding addNew listAt
 added-new w at n d x t et e ex room =
@@ -231,7 +231,7 @@ module _ (s : Sizes) (w w′ : List ℕ) (lent : LentWords s w) (laid : Laid s w
 -- ---- the list of one cell: what is left of its faces gives the rest of its neighbours
 
 pub record Listing (s : Sizes) (w₀ w : List ℕ) (i at end n k : ℕ) : Type 0 where
-  pub left : (floats : List Float) → foldl (addNeighbour (facesIn s w₀ floats) i) (listAt w at n) (drop k (cellAt (cellsIn s w₀ floats) i .faces)) ≡ neighboursIn s w₀ floats i
+  pub left : (floats : List Float) → fold (addNeighbour (facesIn s w₀ floats) i) (listAt w at n) (drop k (cellAt (cellsIn s w₀ floats) i .faces)) ≡ neighboursIn s w₀ floats i
   pub all : (floats : List Float) → end ≡ length (cellAt (cellsIn s w₀ floats) i .faces)
   pub at-end : end ≡ countIn s w₀ i
   pub few : n ≤ k
@@ -295,7 +295,7 @@ module _ (s : Sizes) (w₀ w : List ℕ) (i at end n k : ℕ) (t : Listing s w�
       behind : (j : ℕ) → at + r ≤ j → at + n ≤ j
       behind j g = let a = cr .grows in omega arith
 
-      left : (floats : List Float) → foldl (addNeighbour (facesIn s w₀ floats) i) (listAt w′ at r) (drop (k + 1) (cellAt (cellsIn s w₀ floats) i .faces)) ≡ neighboursIn s w₀ floats i
+      left : (floats : List Float) → fold (addNeighbour (facesIn s w₀ floats) i) (listAt w′ at r) (drop (k + 1) (cellAt (cellsIn s w₀ floats) i .faces)) ≡ neighboursIn s w₀ floats i
       left floats =
           let fl = cellAt (cellsIn s w₀ floats) i .faces in
           let e : f ≡ getD fl k 0 = rw (same-cell s w₀ w lent laid same i h floats) at (ef floats) in
@@ -305,7 +305,7 @@ module _ (s : Sizes) (w₀ w : List ℕ) (i at end n k : ℕ) (t : Listing s w�
           rw c (sym (foldl-next fl k 0 l (addNeighbour (facesIn s w₀ floats) i) (listAt w at n)) ∙ t .left floats)
 
   pub listing-done : k ≤ end → end ≤ k → Written s w₀ w i at n
-  unfolding foldl
+  unfolding fold
   listing-done le ge =
       record {
         list = λ floats. (rw (drop-end (cellAt (cellsIn s w₀ floats) i .faces) k (rw (← t .all floats) ge)) at (t .left floats));

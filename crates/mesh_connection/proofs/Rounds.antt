@@ -9,9 +9,9 @@ use native.Mathlib.Omega.{arith}
 use borrow.Author.Tests.{eqb-true}
 use lib.Dec.{eqb}
 use lib.ListN.{length, getD}
-use Rattle.arith.specs.Lists.{any}
+use Rattle.arith.specs.Lists.{anyOf}
 use Rattle.arith.proofs.RecordLaws.{getD-tab, tab-same}
-use Rattle.mesh_connection.specs.Connection.{someBelow, everyBelow, round, rounds, connectedBy}
+use Rattle.mesh_connection.specs.Connection.{someBelow, everyBelow, oneRound, rounds, connectedBy}
 use Rattle.mesh_connection.proofs.Counting.{some-in, some-out, some-same, every-same, true-or, true-and, or-left, or-right, same-test, clash}
 
 module _ (touch : ℕ → ℕ → Bool) (n : ℕ) where
@@ -23,7 +23,7 @@ module _ (touch : ℕ → ℕ → Bool) (n : ℕ) where
   reached-start h = getD-tab (λ j. eqb j 0) n 0 false h
 
   pub reached-suc : (k j : ℕ) → j < n → reached (suc k) j ≡ reached k j || someBelow (λ i. reached k i && touch i j) n
-  unfolding rounds round
+  unfolding rounds oneRound
   reached-suc k j h = getD-tab (λ m. reached k m || someBelow (λ i. reached k i && touch i m) n) n j false h
 
   pub reached-step : (k i j : ℕ) → i < n → j < n → reached k i ≡ true → touch i j ≡ true → reached (suc k) j ≡ true
@@ -61,7 +61,7 @@ module _ (touch : ℕ → ℕ → Bool) (n : ℕ) where
 -- two relations that are the same among n cells connect the same
 module _ (touch touch′ : ℕ → ℕ → Bool) (n : ℕ) (same : (i j : ℕ) → i < n → j < n → touch i j ≡ touch′ i j) where
   pub rounds-same : (k : ℕ) → rounds touch n k ≡ rounds touch′ n k
-  unfolding rounds round
+  unfolding rounds oneRound
   rounds-same zero = refl
   rounds-same (suc k) =
       rw (rounds-same k)
@@ -84,13 +84,13 @@ connected-few touch (suc (suc n)) h = absurd (omega arith)
 -- ---- an element of a list that passes
 
 module _ {A : Type 0} (p : A → Bool) (d : A) where
-  pub any-at : (l : List A) (k : ℕ) → k < length l → p (getD l k d) ≡ true → any p l ≡ true
-  unfolding any
+  pub any-at : (l : List A) (k : ℕ) → k < length l → p (getD l k d) ≡ true → anyOf p l ≡ true
+  unfolding anyOf
   any-at [] k h e = absurd (not-suc-le-zero h)
-  any-at (a ∷ l) zero h e = rw (e, any)
+  any-at (a ∷ l) zero h e = rw (e, anyOf)
   any-at (a ∷ l) (suc k) h e = by (p a) (any-at l k (omega arith) e)
     where
-      by : (t : Bool) → any p l ≡ true → elim t [ true ↦ true | false ↦ any p l ] ≡ true
+      by : (t : Bool) → anyOf p l ≡ true → elim t [ true ↦ true | false ↦ anyOf p l ] ≡ true
       by true r = refl
       by false r = r
 
@@ -99,11 +99,11 @@ module _ {A : Type 0} (p : A → Bool) (d : A) where
     pub low : at < length l
     pub here : p (getD l at d) ≡ true
 
-  pub any-some : (l : List A) → any p l ≡ true → Passing l
-  unfolding any
+  pub any-some : (l : List A) → anyOf p l ≡ true → Passing l
+  unfolding anyOf
   any-some [] e = absurd (clash e)
   any-some (a ∷ l) e = by (p a) refl e (any-some l)
     where
-      by : (t : Bool) → p a ≡ t → elim t [ true ↦ true | false ↦ any p l ] ≡ true → (any p l ≡ true → Passing l) → Passing (a ∷ l)
+      by : (t : Bool) → p a ≡ t → elim t [ true ↦ true | false ↦ anyOf p l ] ≡ true → (anyOf p l ≡ true → Passing l) → Passing (a ∷ l)
       by true q e r = record { at = 0; low = omega arith; here = q }
       by false q e r = let s = r e in record { at = suc (s .at); low = (let h = s .low in omega arith); here = s .here }

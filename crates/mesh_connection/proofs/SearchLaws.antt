@@ -13,7 +13,7 @@ use lib.Dec.{eqb, lit≤}
 use lib.Ieee.{Float}
 use lib.ListN.{length, getD, set, take, length-set}
 use lib.Seq.{getD-set-same, getD-set-other, take-set-le}
-use Rattle.arith.specs.Lists.{any}
+use Rattle.arith.specs.Lists.{anyOf}
 use Rattle.mesh_area.specs.declared.Sizes.{Sizes}
 use Rattle.mesh_area.specs.Tables.{Cell, cellAt}
 use Rattle.mesh_area.specs.Layout.{cellIn, cellsIn, meshWords, wordsEnd, LentWords}
@@ -155,7 +155,7 @@ module _ (s : Sizes) (w₀ w : List ℕ) (base head c end tail m : ℕ) (t : Tur
     where
       by : (k j : ℕ) → (k ≡ head) ⊎ (k < head) → j < s .cells → meets (cellsIn s w₀ []) (queueIn w base k) j ≡ true → visitedIn w base j ≡ true
       by k j (inl e) l q =
-          let z : any (eqb j) (neighboursAt s w₀ c) ≡ true = rw (e, ← t .cell) at q in
+          let z : anyOf (eqb j) (neighboursAt s w₀ c) ≡ true = rw (e, ← t .cell) at q in
           let p = any-some (eqb j) 0 (neighboursAt s w₀ c) z in
           let i : j ≡ getD (neighboursAt s w₀ c) (p .at) 0 = eqb-true _ _ (p .here) in
           rw i (t .passed (p .at) (let o = p .low in let g = t .at-end in omega arith) (rw (← i) l))
@@ -320,7 +320,7 @@ pub cells-connected : (s : Sizes) (w : List ℕ) (floats : List Float) → conne
 unfolding connectedCells meets
 cells-connected s w floats =
     rw (length-cellsIn s w floats)
-    (connected-same (meets (cellsIn s w floats)) (meets (cellsIn s w [])) (s .cells) (λ i j hi hj. ap (any (eqb j)) (same-neighbours s w floats i)))
+    (connected-same (meets (cellsIn s w floats)) (meets (cellsIn s w [])) (s .cells) (λ i j hi hj. ap (anyOf (eqb j)) (same-neighbours s w floats i)))
 
 pub search-done : (s : Sizes) (w w₁ w₂ : List ℕ) (base r : ℕ) → Searching s w w₁ base 0 1 → Searching s w₁ w₂ base r r → Connected s w w₂ (eqb r (s .cells))
 search-done s w w₁ w₂ base r t u =

@@ -10,7 +10,7 @@ use borrow.Author.Tests.{eq-eqb, ne-eqb, eqb-true}
 use lib.Dec.{eqb}
 use lib.Ieee.{Float}
 use lib.ListN.{length, List·getD-eq-default}
-use Rattle.arith.specs.Lists.{any, foldl, addNew}
+use Rattle.arith.specs.Lists.{anyOf, fold, addNew}
 use Rattle.arith.specs.declared.Found.{Found}
 use Rattle.arith.specs.declared.Found.the-variants.{At, Nothing}
 use Rattle.arith.proofs.RecordLaws.{getD-tab, length-tab, lt-or-ge}
@@ -27,23 +27,23 @@ use Rattle.mesh_connection.proofs.Rounds.{any-at, any-some, connected-s
 -- ---- members of a list
 
 abbrev pub In : ℕ → List ℕ → Type 0
-In a l = any (eqb a) l ≡ true
+In a l = anyOf (eqb a) l ≡ true
 
 module _ {A : Type 0} (p : A → Bool) where
-  any-cons : (a : A) (l : List A) → any p (a ∷ l) ≡ p a || any p l
-  unfolding any
+  any-cons : (a : A) (l : List A) → anyOf p (a ∷ l) ≡ p a || anyOf p l
+  unfolding anyOf
   any-cons a l = by (p a)
     where
-      by : (t : Bool) → elim t [ true ↦ true | false ↦ any p l ] ≡ t || any p l
+      by : (t : Bool) → elim t [ true ↦ true | false ↦ anyOf p l ] ≡ t || anyOf p l
       by true = refl
       by false = refl
 
-  any-append : (l k : List A) → any p (l ++ k) ≡ any p l || any p k
-  unfolding any
+  any-append : (l k : List A) → anyOf p (l ++ k) ≡ anyOf p l || anyOf p k
+  unfolding anyOf
   any-append [] k = refl
   any-append (a ∷ l) k = any-cons a (l ++ k) ∙ rw (any-append l k, any-cons a l) (by (p a))
     where
-      by : (t : Bool) → t || (any p l || any p k) ≡ (t || any p l) || any p k
+      by : (t : Bool) → t || (anyOf p l || anyOf p k) ≡ (t || anyOf p l) || anyOf p k
       by true = refl
       by false = refl
 
@@ -61,7 +61,7 @@ in-cases a b l h = by (true-or _ _ (sym (any-cons (eqb a) b l) ∙ h))
 
 add-keeps : (j n : ℕ) (l : List ℕ) → In j l → In j (addNew eqb l n)
 unfolding addNew
-add-keeps j n l h = by (any (eqb n) l)
+add-keeps j n l h = by (anyOf (eqb n) l)
   where
     by : (t : Bool) → In j (cond t l (l ++ n ∷ []))
     by true = h
@@ -69,15 +69,15 @@ add-keeps j n l h = by (any (eqb n) l)
 
 add-has : (n : ℕ) (l : List ℕ) → In n (addNew eqb l n)
 unfolding addNew
-add-has n l = by (any (eqb n) l) refl
+add-has n l = by (anyOf (eqb n) l) refl
   where
-    by : (t : Bool) → any (eqb n) l ≡ t → In n (cond t l (l ++ n ∷ []))
+    by : (t : Bool) → anyOf (eqb n) l ≡ t → In n (cond t l (l ++ n ∷ []))
     by true e = e
-    by false e = any-append (eqb n) l (n ∷ []) ∙ or-right (any (eqb n) l) _ (in-head n [])
+    by false e = any-append (eqb n) l (n ∷ []) ∙ or-right (anyOf (eqb n) l) _ (in-head n [])
 
 add-only : (j n : ℕ) (l : List ℕ) → In j (addNew eqb l n) → In j l ⊎ (j ≡ n)
-unfolding addNew any
-add-only j n l h = by (any (eqb n) l) h
+unfolding addNew anyOf
+add-only j n l h = by (anyOf (eqb n) l) h
   where
     last : (j ≡ n) ⊎ In j [] → In j l ⊎ (j ≡ n)
     last (inl e) = inr e
@@ -113,23 +113,23 @@ module _ (fs : List Face) (i j : ℕ) where
       by (inl q) = inl q
       by (inr e) = inr (rw e)
 
-  fold-keeps : (l faces : List ℕ) → In j l → In j (foldl (addNeighbour fs i) l faces)
-  unfolding foldl addNeighbour
+  fold-keeps : (l faces : List ℕ) → In j l → In j (fold (addNeighbour fs i) l faces)
+  unfolding fold addNeighbour
   fold-keeps l [] h = h
   fold-keeps l (f ∷ faces) h = fold-keeps _ faces (found-keeps l (beyond i (faceAt fs f)) h)
 
-  fold-has : (l faces : List ℕ) → Faced fs i j faces → In j (foldl (addNeighbour fs i) l faces)
-  unfolding foldl addNeighbour addFound any
+  fold-has : (l faces : List ℕ) → Faced fs i j faces → In j (fold (addNeighbour fs i) l faces)
+  unfolding fold addNeighbour addFound anyOf
   fold-has l [] h = absurd (clash (h .of))
   fold-has l (f ∷ faces) h = by (in-cases (h .face) f faces (h .of)) (fold-has (addFound l (beyond i (faceAt fs f))) faces)
     where
-      by : (h .face ≡ f) ⊎ In (h .face) faces → (Faced fs i j faces → In j (foldl (addNeighbour fs i) (addFound l (beyond i (faceAt fs f))) faces))
-          → In j (foldl (addNeighbour fs i) (addFound l (beyond i (faceAt fs f))) faces)
+      by : (h .face ≡ f) ⊎ In (h .face) faces → (Faced fs i j faces → In j (fold (addNeighbour fs i) (addFound l (beyond i (faceAt fs f))) faces))
+          → In j (fold (addNeighbour fs i) (addFound l (beyond i (faceAt fs f))) faces)
       by (inl e) r = let q : beyond i (faceAt fs f) ≡ At j = rw e at (h .far) in fold-keeps _ faces (rw (q, addFound) (add-has j l))
       by (inr n) r = r (record { face = h .face; of = n; far = h .far })
 
-  fold-only : (l faces : List ℕ) → In j (foldl (addNeighbour fs i) l faces) → In j l ⊎ Faced fs i j faces
-  unfolding foldl addNeighbour
+  fold-only : (l faces : List ℕ) → In j (fold (addNeighbour fs i) l faces) → In j l ⊎ Faced fs i j faces
+  unfolding fold addNeighbour
   fold-only l [] h = inl h
   fold-only l (f ∷ faces) h = by (fold-only (addFound l (beyond i (faceAt fs f))) faces h)
     where
@@ -231,7 +231,7 @@ module _ (fs : List Face) (cs : List Cell) (agree : Agree fs cs) (i j : ℕ) (h 
   linked-list = ap (λ (c : Cell). c .neighbours) (getD-tab (linkedAt fs cs) (length cs) i noCell h)
 
   same-touch : meets (linked fs cs) i j ≡ share fs i j
-  unfolding meets neighboursOf any
+  unfolding meets neighboursOf anyOf
   same-touch = rw linked-list (same-test _ _ (λ e. neighbours-share (only (fold-only fs i j [] (cellAt cs i .faces) e))) (λ e. fold-has fs i j [] (cellAt cs i .faces) (share-neighbours e)))
     where
       only : In j [] ⊎ Faced fs i j (cellAt cs i .faces) → Faced fs i j (cellAt cs i .faces)

@@ -5,7 +5,7 @@ use mathlib.Core.Bool.{Bool, true, false, _&&_, _||_}
 use mathlib.Core.List.{List}
 use lib.Dec.{eqb}
 use lib.ListN.{length, getD}
-use Rattle.arith.specs.Lists.{any}
+use Rattle.arith.specs.Lists.{anyOf}
 use Rattle.arith.specs.Records.{tab}
 use Rattle.arith.specs.declared.Found.{Found}
 use Rattle.arith.specs.declared.Found.the-variants.{At, Nothing}
@@ -23,13 +23,13 @@ everyBelow p zero = true
 everyBelow p (suc n) = p n && everyBelow p n
 
 -- of n cells: reached before, or touched by one that was
-unfoldable pub round : (ℕ → ℕ → Bool) → ℕ → List Bool → List Bool
-round touch n flags = tab (λ j. getD flags j false || someBelow (λ i. getD flags i false && touch i j) n) n
+unfoldable pub oneRound : (ℕ → ℕ → Bool) → ℕ → List Bool → List Bool
+oneRound touch n flags = tab (λ j. getD flags j false || someBelow (λ i. getD flags i false && touch i j) n) n
 
 -- what k rounds from cell 0 reach
 unfoldable pub rounds : (ℕ → ℕ → Bool) → ℕ → ℕ → List Bool
 rounds touch n zero = tab (λ j. eqb j 0) n
-rounds touch n (suc k) = round touch n (rounds touch n k)
+rounds touch n (suc k) = oneRound touch n (rounds touch n k)
 
 -- every cell is reached: as many rounds as cells are enough
 unfoldable pub connectedBy : (ℕ → ℕ → Bool) → ℕ → Bool
@@ -51,7 +51,7 @@ unfoldable pub joins : ℕ → ℕ → Face → Bool
 joins i j f = sidesAre i j (f .owner) (f .neighbour)
 
 unfoldable pub share : List Face → ℕ → ℕ → Bool
-share fs i j = any (joins i j) fs
+share fs i j = anyOf (joins i j) fs
 
 -- n cells are connected by shared faces
 unfoldable pub connected : ℕ → List Face → Bool
@@ -60,7 +60,7 @@ connected n fs = connectedBy (share fs) n
 -- ---- over the cells' neighbours, as `ensure_connected` walks them; where faces and cells agree it is the same (proofs/Shared.antt)
 
 unfoldable pub meets : List Cell → ℕ → ℕ → Bool
-meets cs i j = any (eqb j) (cellAt cs i .neighbours)
+meets cs i j = anyOf (eqb j) (cellAt cs i .neighbours)
 
 unfoldable pub connectedCells : List Cell → Bool
 connectedCells cs = connectedBy (meets cs) (length cs)

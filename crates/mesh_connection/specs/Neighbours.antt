@@ -7,7 +7,7 @@ use mathlib.Core.Logic.{_≢_, _⊎_}
 use lib.Dec.{eqb}
 use lib.Ieee.{Float}
 use lib.ListN.{length, getD}
-use Rattle.arith.specs.Lists.{foldl, addNew}
+use Rattle.arith.specs.Lists.{fold, addNew}
 use Rattle.arith.specs.Records.{tab}
 use Rattle.arith.specs.declared.Found.{Found}
 use Rattle.arith.specs.declared.Found.the-variants.{At, Nothing}
@@ -35,7 +35,7 @@ addNeighbour fs cell l f = addFound l (beyond cell (faceAt fs f))
 
 -- the cells beyond the faces of a cell
 unfoldable pub neighboursOf : List Face → ℕ → List ℕ → List ℕ
-neighboursOf fs cell faces = foldl (addNeighbour fs cell) [] faces
+neighboursOf fs cell faces = fold (addNeighbour fs cell) [] faces
 
 -- the cells, each with its neighbours
 unfoldable pub linkedAt : List Face → List Cell → ℕ → Cell

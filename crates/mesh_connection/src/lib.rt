@@ -8,7 +8,7 @@ ghost use mathlib.Core.Bool.{false};
 ghost use Prim.Native.Nat.{_+_, _*_, _≤_, _<_};
 ghost use lib.Dec.{eqb};
 ghost use lib.ListN.{length, getD};
-ghost use Rattle.arith.specs.Lists.{any};
+ghost use Rattle.arith.specs.Lists.{anyOf};
 ghost use Rattle.mesh_area.specs.Layout.{listAt, wordsEnd, LentWords};
 ghost use Rattle.mesh_connection.specs.Neighbours.{firstIn, countIn, Laid, Linked};
 ghost use Rattle.mesh_connection.specs.Search.{Beyond, Added, Crossed, Written, Listed, visitedIn, queueIn, Cleared, Marked, Met, Searching, Connected};
@@ -31,7 +31,7 @@ fn beyond(words: &[u32], s: Sizes, cell: usize, f: usize) -> Found
 // d is one of the n words at a place.
 fn listed(words: &[u32], at: usize, n: usize, d: usize) -> bool
     requires { ⌜ (at + n ≤ length (now words)) × (n < 4294967296) ⌝ }
-    ensures { λ r. ⌜ r ≡ any (eqb d) (listAt (now (words .entry)) at n) ⌝ }
+    ensures { λ r. ⌜ r ≡ anyOf (eqb d) (listAt (now (words .entry)) at n) ⌝ }
 {
     let mut k = 0;
     while k < n {

@@ -11,12 +11,12 @@ use Rattle.arith.specs.declared.Found.the-variants.{At, Nothing}
 use Rattle.mesh_area.specs.Tables.{Face, faceAt}
 use Rattle.mesh_keys.proofs.OrderLaws.{sorted-reverse}
 use Rattle.mesh_face_table.specs.declared.Measured.{Measured}
-use Rattle.mesh_faces.specs.Table.{hasKey, lookup, joining, settled, adding}
+use Rattle.mesh_faces.specs.Table.{hasKey, faceWithKey, joining, settled, adding}
 use Rattle.mesh_faces.specs.declared.Added.the-variants.{New, Second}
 
 -- a face that is turned has the same key
-pub lookup-turned : (l : List ℕ) (fs : List Face) → lookup (sorted (reverse l)) fs ≡ lookup (sorted l) fs
-lookup-turned l fs = ap (λ (k : List ℕ). lookup k fs) (sorted-reverse l)
+pub lookup-turned : (l : List ℕ) (fs : List Face) → faceWithKey (sorted (reverse l)) fs ≡ faceWithKey (sorted l) fs
+lookup-turned l fs = ap (λ (k : List ℕ). faceWithKey k fs) (sorted-reverse l)
 
 -- what is found is there
 pub first-below : (p : Face → Bool) (k : ℕ) (l : List Face) (i : ℕ) → firstFrom p k l ≡ At i → i < k + length l
@@ -53,11 +53,11 @@ module _ (cell : ℕ) (fs : List Face) (i : ℕ) where
     -- a new face has the next number
     pub new-number : New i ≡ adding cell vertices m fs .answer → i ≡ length fs
     unfolding adding
-    new-number e = settles-new (lookup (sorted vertices) fs) e
+    new-number e = settles-new (faceWithKey (sorted vertices) fs) e
 
     -- a face that gets its second cell is one of the table
     pub second-number : Second i ≡ adding cell vertices m fs .answer → i < length fs
-    unfolding adding lookup
+    unfolding adding faceWithKey
     second-number e =
-        let h = first-below (hasKey (sorted vertices)) 0 fs i (settles-second (lookup (sorted vertices) fs) e) in
+        let h = first-below (hasKey (sorted vertices)) 0 fs i (settles-second (faceWithKey (sorted vertices) fs) e) in
         omega arith

@@ -4,15 +4,15 @@ use mathlib.Core.List.{List, [], _∷_}
 use Prim.Native.Nat.{ℕ}
 use Rattle.arith.specs.F64.{0·0}
 use Rattle.arith.specs.Vec.{origin}
-use Rattle.arith.specs.Lists.{foldl, insert, sort, sorted, same, firstFrom}
+use Rattle.arith.specs.Lists.{fold, insertBefore, sort, sorted, same, firstFrom}
 use Rattle.mesh_area.specs.Tables.{Face, faceAt}
 use Rattle.reading.specs.Result.{refused}
 use Rattle.mesh_face_table.specs.declared.Measured.{Measured}
-use Rattle.mesh_faces.specs.Table.{hasKey, lookup, newFace, withNeighbour, joining, settled, adding, placed, addFace}
+use Rattle.mesh_faces.specs.Table.{hasKey, faceWithKey, newFace, withNeighbour, joining, settled, adding, placed, addFace}
 use Rattle.mesh_faces.specs.declared.Added.the-variants.{New, Second}
 
 computing : ℕ
-unfolding foldl insert sort sorted same firstFrom faceAt hasKey lookup newFace withNeighbour joining settled adding placed addFace
+unfolding fold insertBefore sort sorted same firstFrom faceAt hasKey faceWithKey newFace withNeighbour joining settled adding placed addFace
 computing = 0
 
 flat : Measured

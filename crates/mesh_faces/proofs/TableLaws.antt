@@ -27,7 +27,7 @@ use Rattle.mesh_face_table.specs.Chains.{last, bucketOf, inBucket, keyAt, Chain
 use Rattle.mesh_face_table.proofs.Last.{last-hit, last-miss, last-same, last-passes, last-none}
 use Rattle.mesh_face_table.proofs.RecordParts.{FaceStored, MeasuredStored, face-stored, other-stored, measured-stored}
 use Rattle.mesh_face_table.proofs.ChainLaws.{Linked, chains-same}
-use Rattle.mesh_faces.specs.Table.{hasKey, lookup, newFace, withNeighbour, joining, settled, adding}
+use Rattle.mesh_faces.specs.Table.{hasKey, faceWithKey, newFace, withNeighbour, joining, settled, adding}
 use Rattle.mesh_faces.specs.declared.Added.the-variants.{New, Second, Third}
 use Rattle.mesh_faces.specs.Using.{Ready, wordsAfter, floatsAfter, Extended, Settled}
 
@@ -242,15 +242,15 @@ key-at : (w : List ℕ) (fl : List Float) (n : ℕ) (key : List ℕ) (i : ℕ) �
 unfolding hasKey faceOf faceAt
 key-at w fl n key i l = ap (hasKey key) (table-at w fl n i l)
 
-lookup-none : (w : List ℕ) (fl : List Float) (n : ℕ) (key : List ℕ) → last (keyAt (bodyIn w) key) n ≡ 0 → lookup key (tableIn w fl n) ≡ Nothing
-unfolding lookup
+lookup-none : (w : List ℕ) (fl : List Float) (n : ℕ) (key : List ℕ) → last (keyAt (bodyIn w) key) n ≡ 0 → faceWithKey key (tableIn w fl n) ≡ Nothing
+unfolding faceWithKey
 lookup-none w fl n key e =
     first-none (hasKey key) (tableIn w fl n) 0 noFace
     (λ j l. let lt = rw (length-table w fl n) at l in key-at w fl n key j lt ∙ last-none (keyAt (bodyIn w) key) n e j lt)
 
 lookup-one : (w : List ℕ) (fl : List Float) (slots n : ℕ) (key : List ℕ) (i : ℕ) → Chains w slots n → last (keyAt (bodyIn w) key) n ≡ suc i → i < n
-    → lookup key (tableIn w fl n) ≡ At i
-unfolding lookup
+    → faceWithKey key (tableIn w fl n) ≡ At i
+unfolding faceWithKey
 lookup-one w fl slots n key i ch e low =
     first-one (hasKey key) (tableIn w fl n) 0 i noFace (rw (length-table w fl n) low) (key-at w fl n key i low ∙ here)
     (λ j l. key-at w fl n key j (lower j l) ∙ other j l (keyAt (bodyIn w) key j) refl)
@@ -280,7 +280,7 @@ pub is-new : (w w′ : List ℕ) (fl fl′ : List Float) (slots n : ℕ) (vertic
 unfolding adding settled
 is-new w w′ fl fl′ slots n vertices m cell at el ez low x =
     let z : last (keyAt (bodyIn w) (sorted vertices)) n ≡ 0 = sym el ∙ ez in
-    let e : lookup (sorted vertices) (tableIn w fl n) ≡ Nothing = lookup-none w fl n (sorted vertices) z in
+    let e : faceWithKey (sorted vertices) (tableIn w fl n) ≡ Nothing = lookup-none w fl n (sorted vertices) z in
     record { answer = rw (e, length-table w fl n); faces = x .faces ∙ rw e; chains = x .chains z; words-left = x .words-left; floats-left = x .floats-left; low = low }
 
 module _ (w : List ℕ) (fl : List Float) (slots n : ℕ) (vertices : List ℕ) (m : Measured) (cell at : ℕ)
@@ -288,7 +288,7 @@ module _ (w : List ℕ) (fl : List Float) (slots n : ℕ) (vertices : List ℕ) 
   low-face : at - 1 < n
   low-face = omega arith
 
-  there : lookup (sorted vertices) (tableIn w fl n) ≡ At (at - 1)
+  there : faceWithKey (sorted vertices) (tableIn w fl n) ≡ At (at - 1)
   there =
       let e : at ≡ suc (at - 1) = omega arith in
       lookup-one w fl slots n (sorted vertices) (at - 1) (rd .chains) (sym el ∙ e) low-face

@@ -17,8 +17,8 @@ unfoldable pub hasKey : List ℕ → Face → Bool
 hasKey key f = same (sorted (f .vertices)) key
 
 -- "Hash maps become scans over listed ranges and face keys": the face of the table that has this key
-unfoldable pub lookup : List ℕ → List Face → Found
-lookup key fs = firstFrom (hasKey key) 0 fs
+unfoldable pub faceWithKey : List ℕ → List Face → Found
+faceWithKey key fs = firstFrom (hasKey key) 0 fs
 
 -- "A face has the first cell as owner, the second as neighbour": a face of one cell
 unfoldable pub newFace : ℕ → List ℕ → Measured → Face
@@ -63,7 +63,7 @@ settled (At i) cell vertices m fs = joining (faceAt fs i .neighbour) cell fs i
 
 -- a cell uses a face: its vertices, turned outward, and what was measured of it
 unfoldable pub adding : ℕ → List ℕ → Measured → List Face → Grown
-adding cell vertices m fs = settled (lookup (sorted vertices) fs) cell vertices m fs
+adding cell vertices m fs = settled (faceWithKey (sorted vertices) fs) cell vertices m fs
 
 -- ---- the answer's cases, with 01's number
 

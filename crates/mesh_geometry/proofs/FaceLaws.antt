@@ -3,7 +3,7 @@ use Prim.Native.Nat.{ℕ, _+_, _≤_, _<_}
 use mathlib.Core.Path.{_≡_, ap, sym, _∙_}
 use mathlib.Core.List.{List}
 use lib.ListN.{length, getD, drop, drop-of-length-le}
-use Rattle.arith.specs.Lists.{foldl, Side, sides, after}
+use Rattle.arith.specs.Lists.{fold, Side, sides, after}
 use Rattle.arith.specs.Vec.{plus, cross}
 use Rattle.arith.specs.declared.Vec3.{Vec3}
 use Rattle.arith.proofs.ListLaws.{foldl-next, length-sides, sides-at}
@@ -11,29 +11,29 @@ use Rattle.mesh_area.specs.Tables.{pointAt}
 use Rattle.mesh_geometry.specs.Faces.{addPoint, addCross}
 
 -- nothing is left
-pub fold-done : {A B : Type 0} (f : B → A → B) (l : List A) (i : ℕ) (s r : B) → foldl f s (drop i l) ≡ r → length l ≤ i → s ≡ r
-unfolding foldl
-fold-done f l i s r inv end = rw (drop-of-length-le l {i = i} end, foldl) at inv
+pub fold-done : {A B : Type 0} (f : B → A → B) (l : List A) (i : ℕ) (s r : B) → fold f s (drop i l) ≡ r → length l ≤ i → s ≡ r
+unfolding fold
+fold-done f l i s r inv end = rw (drop-of-length-le l {i = i} end, fold) at inv
 
 -- ---- the sum of the points
 
-pub sum-turn : (ps : List Vec3) (l : List ℕ) (i : ℕ) (s s′ p r : Vec3) → foldl (addPoint ps) s (drop i l) ≡ r → i < length l → p ≡ pointAt ps (getD l i 0)
-    → s′ ≡ plus s p → foldl (addPoint ps) s′ (drop (i + 1) l) ≡ r
+pub sum-turn : (ps : List Vec3) (l : List ℕ) (i : ℕ) (s s′ p r : Vec3) → fold (addPoint ps) s (drop i l) ≡ r → i < length l → p ≡ pointAt ps (getD l i 0)
+    → s′ ≡ plus s p → fold (addPoint ps) s′ (drop (i + 1) l) ≡ r
 unfolding addPoint
 sum-turn ps l i s s′ p r inv more e t = rw (t, e) (sym (foldl-next l i 0 more (addPoint ps) s) ∙ inv)
 
 -- ---- the sum of the sides' cross products
 
-pub cross-turn : (ps : List Vec3) (l : List ℕ) (i : ℕ) (s s′ p r : Vec3) → foldl (addCross ps) s (drop i (sides l)) ≡ r → i < length l
-    → p ≡ cross (pointAt ps (getD l i 0)) (pointAt ps (getD l (after (length l) i) 0)) → s′ ≡ plus s p → foldl (addCross ps) s′ (drop (i + 1) (sides l)) ≡ r
+pub cross-turn : (ps : List Vec3) (l : List ℕ) (i : ℕ) (s s′ p r : Vec3) → fold (addCross ps) s (drop i (sides l)) ≡ r → i < length l
+    → p ≡ cross (pointAt ps (getD l i 0)) (pointAt ps (getD l (after (length l) i) 0)) → s′ ≡ plus s p → fold (addCross ps) s′ (drop (i + 1) (sides l)) ≡ r
 unfolding addCross
 cross-turn ps l i s s′ p r inv more e t =
     let side : Side ℕ = record { from = getD l i 0; to = getD l (after (length l) i) 0 } in
-    let next : foldl (addCross ps) s (drop i (sides l)) ≡ foldl (addCross ps) (addCross ps s side) (drop (i + 1) (sides l)) =
+    let next : fold (addCross ps) s (drop i (sides l)) ≡ fold (addCross ps) (addCross ps s side) (drop (i + 1) (sides l)) =
     foldl-next (sides l) i side (rw (length-sides l) more) (addCross ps) s
-    ∙ ap (λ w. foldl (addCross ps) (addCross ps s w) (drop (i + 1) (sides l))) (sides-at l i 0 side more)
+    ∙ ap (λ w. fold (addCross ps) (addCross ps s w) (drop (i + 1) (sides l))) (sides-at l i 0 side more)
     in
     rw (t, e) (sym next ∙ inv)
 
-pub cross-done : (ps : List Vec3) (l : List ℕ) (i : ℕ) (s r : Vec3) → foldl (addCross ps) s (drop i (sides l)) ≡ r → length l ≤ i → s ≡ r
+pub cross-done : (ps : List Vec3) (l : List ℕ) (i : ℕ) (s r : Vec3) → fold (addCross ps) s (drop i (sides l)) ≡ r → length l ≤ i → s ≡ r
 cross-done ps l i s r inv end = fold-done (addCross ps) (sides l) i s r inv (rw (length-sides l) end)

@@ -6,7 +6,7 @@ use lib.Dec.{leb, ltb, eqb}
 use lib.ListN.{length, getD}
 use lib.Ieee.{Float, neg}
 use Rattle.arith.specs.F64.{_≺_, 0·0, 0·5, 1e-12, ofℕ}
-use Rattle.arith.specs.Lists.{foldl, Side, sides}
+use Rattle.arith.specs.Lists.{fold, Side, sides}
 use Rattle.arith.specs.Vec.{vec, origin, plus, minus, times, over, dot, cross, norm}
 use Rattle.arith.specs.declared.Vec3.{Vec3}
 use Rattle.reading.specs.Result.{Result, refused, fine, _>>=_}
@@ -21,7 +21,7 @@ insertNew (a ∷ l) x = elim (ltb a x) [ true ↦ a ∷ insertNew l x | false �
 
 -- the distinct point numbers of a cell, "in rising point order"
 unfoldable pub rising : List ℕ → List ℕ
-rising l = foldl insertNew [] l
+rising l = fold insertNew [] l
 
 -- ---- `average_point`
 
@@ -31,7 +31,7 @@ addPoint ps s i = plus s (pointAt ps i)
 
 -- the points summed in the list's order, over their number: "its cell averages in rising point order, its face averages in the face's own order"
 unfoldable pub average : List Vec3 → List ℕ → Vec3
-average ps l = over (foldl (addPoint ps) origin l) (ofℕ (length l))
+average ps l = over (fold (addPoint ps) origin l) (ofℕ (length l))
 
 -- ---- `face_area_vector`
 
@@ -45,7 +45,7 @@ addCross ps s side = plus s (cross (pointAt ps (side .from)) (pointAt ps (side .
 
 unfoldable pub vectorIn : Bool → List Vec3 → List ℕ → Vec3
 vectorIn true ps l = turnedEdge (minus (pointAt ps (getD l 1 0)) (pointAt ps (getD l 0 0)))
-vectorIn false ps l = times (foldl (addCross ps) origin (sides l)) 0·5
+vectorIn false ps l = times (fold (addCross ps) origin (sides l)) 0·5
 
 -- as long as the edge in 2D, or as the face's area in 3D
 unfoldable pub areaVector : ℕ → List Vec3 → List ℕ → Vec3

@@ -7,7 +7,7 @@ use mathlib.Core.Bool.{Bool, true, false}
 use mathlib.Core.List.{List, [], _∷_}
 use lib.ListN.{length, getD, drop, length-map, drop-of-length-le}
 use lib.Ieee.{Float}
-use Rattle.arith.specs.Lists.{foldl, all, any, sides}
+use Rattle.arith.specs.Lists.{fold, allOf, anyOf, sides}
 use Rattle.arith.specs.Vec.{origin}
 use Rattle.arith.specs.declared.Vec3.{Vec3}
 use Rattle.arith.proofs.ListLaws.{foldl-next, all-here, all-next, any-here, any-next, length-sides}
@@ -35,31 +35,31 @@ use Rattle.mesh_measure.specs.Orientation.{behind, misplaced, neighbourB
 -- ---- points: every one passes
 
 module _ (case : List ℕ) (n i : ℕ) (p : Vec3 → Bool) where
-  pub points-next : i < n → p (pointAt (pointsIn case n) i) ≡ true → all p (drop i (pointsIn case n)) ≡ all p (drop (i + 1) (pointsIn case n))
+  pub points-next : i < n → p (pointAt (pointsIn case n) i) ≡ true → allOf p (drop i (pointsIn case n)) ≡ allOf p (drop (i + 1) (pointsIn case n))
   unfolding pointAt
   points-next h e = all-next (pointsIn case n) i origin (rw (length-points case n) h) p e
 
-  pub points-bad : i < n → p (pointAt (pointsIn case n) i) ≡ false → all p (drop i (pointsIn case n)) ≡ false
+  pub points-bad : i < n → p (pointAt (pointsIn case n) i) ≡ false → allOf p (drop i (pointsIn case n)) ≡ false
   unfolding pointAt
   points-bad h e = all-here (pointsIn case n) i origin (rw (length-points case n) h) p e
 
-  pub points-end : n ≤ i → all p (drop i (pointsIn case n)) ≡ true
-  unfolding all
+  pub points-end : n ≤ i → allOf p (drop i (pointsIn case n)) ≡ true
+  unfolding allOf
   points-end h = rw (drop-of-length-le (pointsIn case n) {i = i} (rw (length-points case n) h))
 
 -- ---- faces of the table: none is misplaced
 
 module _ (s : Sizes) (words : List ℕ) (floats : List Float) (f : ℕ) (p : Face → Bool) where
-  pub faces-next : f < s .faces → p (tableAt (facesIn s words floats) f) ≡ false → any p (drop f (facesIn s words floats)) ≡ any p (drop (f + 1) (facesIn s words floats))
+  pub faces-next : f < s .faces → p (tableAt (facesIn s words floats) f) ≡ false → anyOf p (drop f (facesIn s words floats)) ≡ anyOf p (drop (f + 1) (facesIn s words floats))
   unfolding tableAt
   faces-next h e = any-next (facesIn s words floats) f noFace (rw (length-facesIn s words floats) h) p e
 
-  pub faces-bad : f < s .faces → p (tableAt (facesIn s words floats) f) ≡ true → any p (drop f (facesIn s words floats)) ≡ true
+  pub faces-bad : f < s .faces → p (tableAt (facesIn s words floats) f) ≡ true → anyOf p (drop f (facesIn s words floats)) ≡ true
   unfolding tableAt
   faces-bad h e = any-here (facesIn s words floats) f noFace (rw (length-facesIn s words floats) h) p e
 
-  pub faces-end : s .faces ≤ f → any p (drop f (facesIn s words floats)) ≡ false
-  unfolding any
+  pub faces-end : s .faces ≤ f → anyOf p (drop f (facesIn s words floats)) ≡ false
+  unfolding anyOf
   faces-end h = rw (drop-of-length-le (facesIn s words floats) {i = f} (rw (length-facesIn s words floats) h))
 
 -- ---- faces of a record
@@ -81,7 +81,7 @@ module _ (ws : List ℕ) (h : Head) (g : Headed ws h) (k : ℕ) (more : k < h .f
   in-range = rw (length-facesAt ws h g) more
 
   -- a sum over the faces, one more
-  pub sum-next : {B : Type 0} (f : B → List ℕ → B) (w : B) → foldl f w (drop k (facesAt ws h)) ≡ foldl f (f w (faceAt ws (h .at) k)) (drop (k + 1) (facesAt ws h))
+  pub sum-next : {B : Type 0} (f : B → List ℕ → B) (w : B) → fold f w (drop k (facesAt ws h)) ≡ fold f (f w (faceAt ws (h .at) k)) (drop (k + 1) (facesAt ws h))
   unfolding faceAt facesAt
   sum-next f w = foldl-next (facesAt ws h) k [] in-range f w
 
@@ -136,7 +136,7 @@ module _ {ps : List Vec3} {ws : List ℕ} {h : Head} {c : FaceCursor} {reference
 -- ---- by dimension
 
 module _ (d : ℕ) (ps : List Vec3) (reference : Vec3) (faces : List (List ℕ)) where
-  pub flat-cell : d ≡ 2 → centre2D reference (foldl (addTriangle ps reference) weightless faces) ≡ cellGeometry d ps reference faces
+  pub flat-cell : d ≡ 2 → centre2D reference (fold (addTriangle ps reference) weightless faces) ≡ cellGeometry d ps reference faces
   unfolding cellGeometry geometryIn
   flat-cell e = rw (eq-eqb d 2 e, geometryIn)
 

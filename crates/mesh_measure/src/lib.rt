@@ -14,7 +14,7 @@ ghost use mathlib.Core.Bool.{false};
 ghost use Prim.Native.Nat.{_+_, _*_, _≤_, _<_};
 ghost use lib.ListN.{length, getD, take};
 ghost use Rattle.arith.specs.F64.{finite, within};
-ghost use Rattle.arith.specs.Lists.{foldl, all, any};
+ghost use Rattle.arith.specs.Lists.{fold, allOf, anyOf};
 ghost use Rattle.arith.specs.Vec.{each3};
 ghost use Rattle.reading.specs.Result.{steps};
 ghost use Rattle.case_file.specs.Trailer.{wordsIn};
@@ -48,7 +48,7 @@ enum Fans {
 // Every coordinate is finite.
 pub fn all_finite(case: &[u8], points: usize) -> bool
     requires { ⌜ Points (now case) points ⌝ }
-    ensures { λ r. ⌜ r ≡ all (each3 finite) (pointsIn (now (case .entry)) points) ⌝ }
+    ensures { λ r. ⌜ r ≡ allOf (each3 finite) (pointsIn (now (case .entry)) points) ⌝ }
 {
     let mut i = 0;
     while i < points {
@@ -63,7 +63,7 @@ pub fn all_finite(case: &[u8], points: usize) -> bool
 // No coordinate is beyond 1,048,576 in size.
 pub fn all_within(case: &[u8], points: usize) -> bool
     requires { ⌜ Points (now case) points ⌝ }
-    ensures { λ r. ⌜ r ≡ all (each3 within) (pointsIn (now (case .entry)) points) ⌝ }
+    ensures { λ r. ⌜ r ≡ allOf (each3 within) (pointsIn (now (case .entry)) points) ⌝ }
 {
     let mut i = 0;
     while i < points {
@@ -112,7 +112,7 @@ fn add_edge(
 fn add_edges(case: &[u8], points: usize, words: &[u8], h: Head, reference: Vec3) -> Weight
     requires { ⌜ Points (now case) points ⌝ }
     requires { ⌜ Headed (wordsIn (now words)) h ⌝ }
-    ensures { λ r. ⌜ r ≡ foldl (addTriangle (pointsIn (now (case .entry)) points) reference) weightless (facesAt (wordsIn (now (words .entry))) h) ⌝ }
+    ensures { λ r. ⌜ r ≡ fold (addTriangle (pointsIn (now (case .entry)) points) reference) weightless (facesAt (wordsIn (now (words .entry))) h) ⌝ }
 {
     let mut sum = mesh_volumes::weightless();
     let mut c = face_lists::first_face(h);
@@ -243,7 +243,7 @@ fn is_misplaced(words: &[u32], floats: &[f64], s: Sizes, f: usize) -> bool
 pub fn any_misplaced(words: &[u32], floats: &[f64], s: Sizes) -> bool
     requires { ⌜ LentWords s (now words) ⌝ }
     requires { ⌜ LentFloats s (now floats) ⌝ }
-    ensures { λ r. ⌜ r ≡ any (Orientation.misplaced (cellsIn s (now (words .entry)) (now (floats .entry)))) (facesIn s (now (words .entry)) (now (floats .entry))) ⌝ }
+    ensures { λ r. ⌜ r ≡ anyOf (Orientation.misplaced (cellsIn s (now (words .entry)) (now (floats .entry)))) (facesIn s (now (words .entry)) (now (floats .entry))) ⌝ }
 {
     let mut f = 0;
     while f < s.faces {

@@ -8,7 +8,7 @@ use lib.Dec.{leb, ltb, eqb}
 use lib.ListN.{length, getD, take, drop, length-drop, drop-of-length-le}
 use lib.Seq.{length-take-le}
 use borrow.Author.Tests.{le-leb, lt-leb, eq-eqb, ne-eqb}
-use Rattle.arith.specs.Lists.{foldl, any, concat}
+use Rattle.arith.specs.Lists.{fold, anyOf, flatten}
 use Rattle.arith.specs.declared.Vec3.{Vec3}
 use Rattle.arith.proofs.ListLaws.{left-at}
 use Rattle.reading.specs.Result.{Result, refused, fine, _>>=_, refuse, steps}
@@ -147,8 +147,8 @@ pub record Uniting (ws : List ℕ) (h : Head) (points : ℕ) (out₀ out : List 
   pub face : c .face ≤ h .faces
   pub long : length out ≡ length out₀
   pub few : n ≤ 8 * c .face
-  pub rest : steps (insertBelow points) (take n out) (concat (drop (c .face) (facesOf (definitionAt ws (h .at)))))
-      ≡ steps (insertBelow points) [] (concat (facesOf (definitionAt ws (h .at))))
+  pub rest : steps (insertBelow points) (take n out) (flatten (drop (c .face) (facesOf (definitionAt ws (h .at)))))
+      ≡ steps (insertBelow points) [] (flatten (facesOf (definitionAt ws (h .at))))
 
 pub unite-start : (ws : List ℕ) (h : Head) (points : ℕ) (out : List ℕ) (c : FaceCursor) → Headed ws h → (c .face ≡ 0) × (c .at ≡ h .first) → Uniting ws h points out out 0 c
 unite-start ws h points out c g e =
@@ -174,11 +174,11 @@ module _ (ws : List ℕ) (h : Head) (points : ℕ) (out₀ out : List ℕ) (n : 
 
   module _ (vs₀ vs : List ℕ) (count : ℕ) (next : FaceCursor) (f : FaceCopied ws h c vs₀ vs count next) (out′ : List ℕ) (r : Collected)
       (got : Collecting points (take n out) (take count vs) out′ (n + length (take count vs)) r) where
-    one-face : steps (insertBelow points) (take n out) (concat (drop (c .face) faces)) ≡ (numbersIn out′ r >>= λ t. steps (insertBelow points) t (concat (drop (c .face + 1) faces)))
-    unfolding concat faceAt
+    one-face : steps (insertBelow points) (take n out) (flatten (drop (c .face) faces)) ≡ (numbersIn out′ r >>= λ t. steps (insertBelow points) t (flatten (drop (c .face + 1) faces)))
+    unfolding flatten faceAt
     one-face =
         rw (left-at faces (c .face) [] there)
-        (steps-append (insertBelow points) (take n out) (getD faces (c .face) []) (concat (drop (c .face + 1) faces))
+        (steps-append (insertBelow points) (take n out) (getD faces (c .face) []) (flatten (drop (c .face + 1) faces))
         ∙ rw (← f .front, ← got .same))
 
     pub unite-turn : (m : ℕ) → r ≡ Numbers m → length out′ ≡ length out → Uniting ws h points out₀ out′ m next
@@ -195,31 +195,31 @@ module _ (ws : List ℕ) (h : Head) (points : ℕ) (out₀ out : List ℕ) (n : 
           rest = rw goes (sym (rw e at one-face) ∙ u .rest);
         }
 
-    pub unite-missing : (out″ : List ℕ) → r ≡ Missing → Collecting points [] (concat faces) out″ 192 Missing
+    pub unite-missing : (out″ : List ℕ) → r ≡ Missing → Collecting points [] (flatten faces) out″ 192 Missing
     unfolding numbersIn _>>=_
     unite-missing out″ e = record { same = sym (rw e at one-face) ∙ u .rest; few = omega arith }
 
 pub unite-done : (ws : List ℕ) (h : Head) (points : ℕ) (out₀ out : List ℕ) (n : ℕ) (c : FaceCursor) → Uniting ws h points out₀ out n c → h .faces ≤ c .face
-    → Collecting points [] (concat (facesOf (definitionAt ws (h .at)))) out 192 (Numbers n)
-unfolding numbersIn steps concat
+    → Collecting points [] (flatten (facesOf (definitionAt ws (h .at)))) out 192 (Numbers n)
+unfolding numbersIn steps flatten
 unite-done ws h points out₀ out n c u end =
     let f = head-faces ws h (u .at-face .headed) in
     record {
-      same = rw (drop-of-length-le (facesOf (definitionAt ws (h .at))) {i = c .face} (omega (arith, f .all)), concat, steps) at (u .rest);
+      same = rw (drop-of-length-le (facesOf (definitionAt ws (h .at))) {i = c .face} (omega (arith, f .all)), flatten, steps) at (u .rest);
       few = omega (arith, f .few, u .few, u .face);
     }
 
 -- ---- refusal 12, and the average
 
-below-all : (points : ℕ) (l xs : List ℕ) → steps (insertBelow points) l xs ≡ (refuse 12 (any (leb points) xs) >>= λ _. fine (foldl insertNew l xs))
-unfolding steps insertBelow any foldl _>>=_ refuse
+below-all : (points : ℕ) (l xs : List ℕ) → steps (insertBelow points) l xs ≡ (refuse 12 (anyOf (leb points) xs) >>= λ _. fine (fold insertNew l xs))
+unfolding steps insertBelow anyOf fold _>>=_ refuse
 below-all points l [] = refl
 below-all points l (x ∷ xs) = by (leb points x) refl (below-all points (insertNew l x) xs)
   where
-    by : (t : Bool) → leb points x ≡ t → steps (insertBelow points) (insertNew l x) xs ≡ (refuse 12 (any (leb points) xs) >>= λ _. fine (foldl insertNew (insertNew l x) xs))
-        → (insertBelow points l x >>= λ k. steps (insertBelow points) k xs) ≡ (refuse 12 (any (leb points) (x ∷ xs)) >>= λ _. fine (foldl insertNew (insertNew l x) xs))
-    by true e next = rw (e, any)
-    by false e next = rw (e, any) next
+    by : (t : Bool) → leb points x ≡ t → steps (insertBelow points) (insertNew l x) xs ≡ (refuse 12 (anyOf (leb points) xs) >>= λ _. fine (fold insertNew (insertNew l x) xs))
+        → (insertBelow points l x >>= λ k. steps (insertBelow points) k xs) ≡ (refuse 12 (anyOf (leb points) (x ∷ xs)) >>= λ _. fine (fold insertNew (insertNew l x) xs))
+    by true e next = rw (e, anyOf)
+    by false e next = rw (e, anyOf) next
 
 module _ (d : ℕ) (ps : List Vec3) (def : Definition) (t : Bool) (et : t ≡ wrongKind d def) where
   pub checked-kind : t ≡ true → referenceCase (Refused 11) ≡ checked d ps def
@@ -227,12 +227,12 @@ module _ (d : ℕ) (ps : List Vec3) (def : Definition) (t : Bool) (et : t ≡ wr
   checked-kind e = rw (← et, e)
 
   module _ (right : t ≡ false) (points : ℕ) (out : List ℕ) (r : Collected) (long : length ps ≡ points)
-      (got : Collecting points [] (concat (facesOf def)) out 192 r) where
-    all-of : numbersIn out r ≡ (refuse 12 (missing ps def) >>= λ _. fine (rising (concat (facesOf def))))
+      (got : Collecting points [] (flatten (facesOf def)) out 192 r) where
+    all-of : numbersIn out r ≡ (refuse 12 (missing ps def) >>= λ _. fine (rising (flatten (facesOf def))))
     unfolding missing rising
-    all-of = got .same ∙ below-all points [] (concat (facesOf def)) ∙ rw long
+    all-of = got .same ∙ below-all points [] (flatten (facesOf def)) ∙ rw long
 
-    by-missing : (m : Bool) → missing ps def ≡ m → numbersIn out r ≡ (refuse 12 m >>= λ _. fine (rising (concat (facesOf def))))
+    by-missing : (m : Bool) → missing ps def ≡ m → numbersIn out r ≡ (refuse 12 m >>= λ _. fine (rising (flatten (facesOf def))))
     by-missing m e = all-of ∙ rw e
 
     pub checked-missing : r ≡ Missing → referenceCase (Refused 12) ≡ checked d ps def
@@ -247,9 +247,9 @@ module _ (d : ℕ) (ps : List Vec3) (def : Definition) (t : Bool) (et : t ≡ wr
     unfolding referenceCase checked numbersIn refuse _>>=_ referenceOf
     checked-point n v e ev = by (missing ps def) refl
       where
-        by : (m : Bool) → missing ps def ≡ m → fine v ≡ (refuse 11 (wrongKind d def) >>= λ _. refuse 12 (missing ps def) >>= λ _. fine (average ps (rising (concat (facesOf def)))))
+        by : (m : Bool) → missing ps def ≡ m → fine v ≡ (refuse 11 (wrongKind d def) >>= λ _. refuse 12 (missing ps def) >>= λ _. fine (average ps (rising (flatten (facesOf def)))))
         by true q = absurd (let h = rw (e, q) at all-of in let z : _≡_ {A = ℕ} 0 1 = cc in omega arith)
         by false q =
             let h = rw (e, q) at all-of in
-            let w : take n out ≡ rising (concat (facesOf def)) = cc in
+            let w : take n out ≡ rising (flatten (facesOf def)) = cc in
             rw (← et, right, q, ev, w)

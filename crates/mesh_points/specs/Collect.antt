@@ -5,7 +5,7 @@ use mathlib.Core.Bool.{Bool, not, _||_}
 use mathlib.Core.List.{List}
 use lib.Dec.{leb, ltb, eqb}
 use lib.ListN.{length, take}
-use Rattle.arith.specs.Lists.{any, concat}
+use Rattle.arith.specs.Lists.{anyOf, flatten}
 use Rattle.arith.specs.declared.Vec3.{Vec3}
 use Rattle.reading.specs.Result.{Result, refused, fine, _>>=_, refuse, steps}
 use Rattle.case_definitions.specs.Faces.{Definition, polygon, solid, polyhedron, facesOf}
@@ -23,11 +23,11 @@ wrongKind d (polyhedron faces) = not (eqb d 3) || ltb (length faces) 4
 
 -- refusal 12: "point number not below P"
 unfoldable pub missing : List Vec3 → Definition → Bool
-missing ps def = any (leb (length ps)) (concat (facesOf def))
+missing ps def = anyOf (leb (length ps)) (flatten (facesOf def))
 
 -- "its cell averages in rising point order", over distinct numbers
 unfoldable pub referenceOf : List Vec3 → Definition → Vec3
-referenceOf ps def = average ps (rising (concat (facesOf def)))
+referenceOf ps def = average ps (rising (flatten (facesOf def)))
 
 -- ---- the distinct point numbers of a cell, and their average
 

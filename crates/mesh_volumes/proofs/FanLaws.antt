@@ -4,7 +4,7 @@ use native.Mathlib.Omega.{arith}
 use mathlib.Core.Path.{_≡_, refl, ap, sym, _∙_}
 use mathlib.Core.List.{List, [], _∷_}
 use lib.ListN.{length, getD, drop, length-drop}
-use Rattle.arith.specs.Lists.{foldl, Side, windows, sidesWith}
+use Rattle.arith.specs.Lists.{fold, Side, windows, sidesWith}
 use Rattle.arith.specs.declared.Vec3.{Vec3}
 use Rattle.arith.proofs.ListLaws.{left-at}
 use Rattle.reading.specs.Result.{refused, fine}
@@ -19,27 +19,27 @@ use Rattle.mesh_volumes.specs.Geometry.{addTetrahedron, addFan, fanOf, a
 
 -- ---- the fan of a face: its first point stays, two more in a row
 
-pub fan-turn : {B : Type 0} (f : B → Side ℕ → B) (l : List ℕ) (j : ℕ) (s s′ r : B) → foldl f s (windows (drop (j + 1) l)) ≡ r → j + 2 < length l
-    → s′ ≡ f s (record { from = getD l (j + 1) 0; to = getD l (j + 2) 0 }) → foldl f s′ (windows (drop (j + 1 + 1) l)) ≡ r
-unfolding foldl windows sidesWith
+pub fan-turn : {B : Type 0} (f : B → Side ℕ → B) (l : List ℕ) (j : ℕ) (s s′ r : B) → fold f s (windows (drop (j + 1) l)) ≡ r → j + 2 < length l
+    → s′ ≡ f s (record { from = getD l (j + 1) 0; to = getD l (j + 2) 0 }) → fold f s′ (windows (drop (j + 1 + 1) l)) ≡ r
+unfolding fold windows sidesWith
 fan-turn f l j s s′ r inv more e =
     let two : j + 1 + 1 ≡ j + 2 = omega arith in
     let at : drop (j + 1) l ≡ getD l (j + 1) 0 ∷ drop (j + 2) l = left-at l (j + 1) 0 (omega arith) ∙ rw two in
     let at′ : drop (j + 2) l ≡ getD l (j + 2) 0 ∷ drop (j + 2 + 1) l = left-at l (j + 2) 0 more in
     rw (two, e, at′) (rw (at, at′) at inv)
 
-pub fan-done : {B : Type 0} (f : B → Side ℕ → B) (l : List ℕ) (j : ℕ) (s r : B) → foldl f s (windows (drop (j + 1) l)) ≡ r → length l ≤ j + 2 → s ≡ r
-unfolding foldl windows sidesWith
+pub fan-done : {B : Type 0} (f : B → Side ℕ → B) (l : List ℕ) (j : ℕ) (s r : B) → fold f s (windows (drop (j + 1) l)) ≡ r → length l ≤ j + 2 → s ≡ r
+unfolding fold windows sidesWith
 fan-done f l j s r inv end = by (drop (j + 1) l) (rw (length-drop (j + 1) l) (omega arith)) inv
   where
-    by : (k : List ℕ) → length k ≤ 1 → foldl f s (windows k) ≡ r → s ≡ r
+    by : (k : List ℕ) → length k ≤ 1 → fold f s (windows k) ≡ r → s ≡ r
     by [] h e = e
     by (a ∷ []) h e = e
     by (a ∷ b ∷ k) h e = absurd (omega arith)
 
 pub fan-start : (ps : List Vec3) (reference : Vec3) (w : Weight) (l : List ℕ)
-    → foldl (addTetrahedron ps reference (pointAt ps (getD l 0 0))) w (windows (drop (0 + 1) l)) ≡ addFan ps reference w l
-unfolding foldl windows addFan
+    → fold (addTetrahedron ps reference (pointAt ps (getD l 0 0))) w (windows (drop (0 + 1) l)) ≡ addFan ps reference w l
+unfolding fold windows addFan
 fan-start ps reference w [] = refl
 fan-start ps reference w (i ∷ l) = refl
 

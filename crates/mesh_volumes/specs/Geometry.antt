@@ -6,7 +6,7 @@ use lib.Dec.{eqb}
 use lib.ListN.{getD}
 use lib.Ieee.{Float}
 use Rattle.arith.specs.F64.{_⊕_, _⊖_, _⊗_, _⊘_, _≺_, 0·0, 0·5, 3·0, 4·0, 6·0, 1e-12, abs}
-use Rattle.arith.specs.Lists.{foldl, Side, windows}
+use Rattle.arith.specs.Lists.{fold, Side, windows}
 use Rattle.arith.specs.Vec.{origin, plus, minus, times, over, dot, cross}
 use Rattle.arith.specs.declared.Vec3.{Vec3}
 use Rattle.reading.specs.Result.{Result, refused, fine, _>>=_, steps}
@@ -64,7 +64,7 @@ addTetrahedron ps reference a w side = addVolume reference w a (pointAt ps (side
 -- all tetrahedra of one face
 unfoldable pub addFan : List Vec3 → Vec3 → Weight → List ℕ → Weight
 addFan ps reference w [] = w
-addFan ps reference w (i ∷ l) = foldl (addTetrahedron ps reference (pointAt ps i)) w (windows l)
+addFan ps reference w (i ∷ l) = fold (addTetrahedron ps reference (pointAt ps i)) w (windows l)
 
 -- the face, "turned outward"; it was found not degenerate before, so that it is not refused here
 unfoldable pub fanOf : List Vec3 → Vec3 → Weight → Result Oriented → Result Weight
@@ -81,7 +81,7 @@ centre3D w = cond (1e-12 ≺ w .measure) (fine (record { centre = over (w .momen
 -- ---- by dimension
 
 unfoldable pub geometryIn : Bool → List Vec3 → Vec3 → List (List ℕ) → Result CellGeometry
-geometryIn true ps reference faces = centre2D reference (foldl (addTriangle ps reference) weightless faces)
+geometryIn true ps reference faces = centre2D reference (fold (addTriangle ps reference) weightless faces)
 geometryIn false ps reference faces = steps (addFace3D ps reference) weightless faces >>= centre3D
 
 unfoldable pub cellGeometry : ℕ → List Vec3 → Vec3 → List (List ℕ) → Result CellGeometry

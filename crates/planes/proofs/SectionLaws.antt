@@ -7,7 +7,7 @@ use mathlib.Core.Bool.{Bool, true, false}
 use mathlib.Core.List.{List, [], _∷_, _++_, map}
 use lib.ListN.{length, set, length-append}
 use lib.Seq.{sets}
-use Rattle.arith.specs.Lists.{foldl, concat}
+use Rattle.arith.specs.Lists.{fold, flatten}
 use Rattle.reading.specs.declared.Values.{Values}
 use Rattle.reading.specs.Result as result
 use Rattle.reading.specs.Result.{Result, refused, fine}
@@ -34,14 +34,14 @@ use Rattle.planes.proofs.TreeLaws.{BadRun, GoodRun, goods-sound, goods-
 
 -- the words of some samples
 abbrev wordsFor : List Sample → List ℕ
-wordsFor ss = concat (map sampleWords ss)
+wordsFor ss = flatten (map sampleWords ss)
 
 words-next : (s : Sample) (ss : List Sample) → wordsFor (s ∷ ss) ≡ sampleWords s ++ wordsFor ss
-unfolding concat
+unfolding flatten
 words-next s ss = refl
 
 no-words : wordsFor [] ≡ []
-unfolding concat
+unfolding flatten
 no-words = refl
 
 added : (c : Cut) (n i : ℕ) (s : Sample) → addTo c (Section n i) s ≡ Section (suc n) (i + length (sampleWords s))
@@ -80,11 +80,11 @@ module _ (c : Cut) (f : ℕ → Values) where
           ∙ ap (sets o i) (sym no-words)
           ∙ ap (λ (t : List Sample). sets o i (wordsFor t)) (sym (goods-bad c f p l h))
 
-fold-section : (c : Cut) (n i : ℕ) (ss : List Sample) → foldl (addTo c) (Section n i) ss ≡ Section (n + length ss) (i + length (wordsFor ss))
-unfolding foldl concat
+fold-section : (c : Cut) (n i : ℕ) (ss : List Sample) → fold (addTo c) (Section n i) ss ≡ Section (n + length ss) (i + length (wordsFor ss))
+unfolding fold flatten
 fold-section c n i [] = ap₂ Section (omega arith) (omega arith)
 fold-section c n i (s ∷ ss) =
-    ap (λ (t : Tally). foldl (addTo c) t ss) (added c n i s)
+    ap (λ (t : Tally). fold (addTo c) t ss) (added c n i s)
     ∙ fold-section c (suc n) (i + length (sampleWords s)) ss
     ∙ ap₂ Section (omega arith) (let e = length-append (sampleWords s) (wordsFor ss) in omega arith)
 

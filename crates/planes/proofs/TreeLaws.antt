@@ -10,7 +10,7 @@ use lib.Seq.{sets}
 use lib.Ieee.{Float}
 use Rattle.arith.specs.F64.{finite, _⊗_}
 use Rattle.arith.specs.Vec.{dot}
-use Rattle.arith.specs.Lists.{foldl}
+use Rattle.arith.specs.Lists.{fold}
 use Rattle.arith.specs.declared.Vec2.{Vec2}
 use Rattle.arith.specs.declared.Vec3.{Vec3}
 use Rattle.reading.specs.declared.Values.{Values}
@@ -59,7 +59,7 @@ module _ (c : Cut) (f : ℕ → Values) where
     pub tree : run (sample l) f ≡ refused 39
 
   pub record GoodRun (l : List PlaneCell) (t : Tally) (o m : List ℕ) : Type 0 where
-    pub outcome : stream c f l t o m .outcome ≡ Done (foldl (addTo c) t (goods f l))
+    pub outcome : stream c f l t o m .outcome ≡ Done (fold (addTo c) t (goods f l))
     pub tree : run (sample l) f ≡ fine (goods f l)
 
   sample-sound : (p : PlaneCell) (l : List PlaneCell) → sound (f (p .cell)) ≡ true → run (sample (p ∷ l)) f ≡ before (at c f p) (run (sample l) f)
@@ -79,7 +79,7 @@ module _ (c : Cut) (f : ℕ → Values) where
   goods-bad p l h = rw (h, goods)
 
   pub stream-run : (l : List PlaneCell) (t : Tally) (o m : List ℕ) → BadRun l t o m ⊎ GoodRun l t o m
-  stream-run [] t o m = inr (record { outcome = unfold stream goods foldl in refl; tree = unfold sample goods in refl })
+  stream-run [] t o m = inr (record { outcome = unfold stream goods fold in refl; tree = unfold sample goods in refl })
   stream-run (p ∷ l) t o m = by (stream-run l (addTo c t (at c f p)) (written t o (at c f p)) (set m (p .cell) 1)) (sound (f (p .cell))) refl
     where
       t′ : Tally
@@ -99,7 +99,7 @@ module _ (c : Cut) (f : ℕ → Values) where
           })
       rest (inr g) h =
           inr (record {
-            outcome = ap (λ (s : Stream). s .outcome) (stream-sound c f p l t o m h) ∙ g .outcome ∙ rw (goods-sound p l h) (unfold foldl in refl);
+            outcome = ap (λ (s : Stream). s .outcome) (stream-sound c f p l t o m h) ∙ g .outcome ∙ rw (goods-sound p l h) (unfold fold in refl);
             tree = sample-sound p l h ∙ ap (before (at c f p)) (g .tree) ∙ rw (goods-sound p l h) (unfold before in refl);
           })
 
@@ -161,7 +161,7 @@ module _ (mesh : Mesh) (plane : Plane) (answer : List Sample → Result (List �
   replied-words o (fine ws) = refl
 
   pub reply : (c : Cut) (t : Tally) (o o₁ o₂ m m₁ : List ℕ) (r : Tallied) (a : Answered) (keep : Tallied → Tallied) → Quiet t → keep Bad ≡ Bad →
-      ((ss : List Sample) → Gives (keep (Done (foldl (addTo c) t ss))) ss) →
+      ((ss : List Sample) → Gives (keep (Done (fold (addTo c) t ss))) ss) →
       Streamed (stream c f (intersect mesh plane) t o m) r o₁ m₁ → Closed (keep r) a o₁ o₂ → Replied (sampled mesh plane answer) f o a o o₂ m m₁
   reply c t o o₁ o₂ m m₁ r a keep q kb gives s d = by (stream-run c f l t o m)
     where
@@ -185,7 +185,7 @@ module _ (mesh : Mesh) (plane : Plane) (answer : List Sample → Result (List �
           }
       by (inr g) =
           let e : run (sampled mesh plane answer) f ≡ answer (goods f l) = run-sampled ∙ rw (g .tree) (unfold result._>>=_ in refl) in
-          let k : keep r ≡ keep (Done (foldl (addTo c) t (goods f l))) = ap keep (s .outcome ∙ g .outcome) in
+          let k : keep r ≡ keep (Done (fold (addTo c) t (goods f l))) = ap keep (s .outcome ∙ g .outcome) in
           let w = gives (goods f l) in
           record {
             result = d .result ∙ rw (k, e) (w .result);
@@ -217,52 +217,52 @@ integral-refused normal t s n e =
     refused-42 (fit a (s .values)) (weighing normal t a (s .values)) n e
 
 module _ (c : Cut) where
-  fold-integrals : (r : Weighed) (ss : List Sample) → foldl (addTo c) (Integrals r) ss ≡ Integrals (foldl (addWeighed (c .normal)) r ss)
-  unfolding foldl addTo
+  fold-integrals : (r : Weighed) (ss : List Sample) → fold (addTo c) (Integrals r) ss ≡ Integrals (fold (addWeighed (c .normal)) r ss)
+  unfolding fold addTo
   fold-integrals r [] = refl
   fold-integrals r (s ∷ ss) = fold-integrals (addWeighed (c .normal) r s) ss
 
-  unweighed : (ss : List Sample) → foldl (addWeighed (c .normal)) Unweighed ss ≡ Unweighed
-  unfolding foldl addWeighed
+  unweighed : (ss : List Sample) → fold (addWeighed (c .normal)) Unweighed ss ≡ Unweighed
+  unfolding fold addWeighed
   unweighed [] = refl
   unweighed (s ∷ ss) = unweighed ss
 
-  whole-next : (t u : Integral) (s : Sample) (ss : List Sample) → addIntegral (c .normal) t s ≡ fine u → foldl (addWeighed (c .normal)) (Whole t) (s ∷ ss) ≡ foldl (addWeighed (c .normal)) (Whole u) ss
-  unfolding foldl addWeighed weighedOf
-  whole-next t u s ss h = ap (λ (e : Result Integral). foldl (addWeighed (c .normal)) (weighedOf e) ss) h
+  whole-next : (t u : Integral) (s : Sample) (ss : List Sample) → addIntegral (c .normal) t s ≡ fine u → fold (addWeighed (c .normal)) (Whole t) (s ∷ ss) ≡ fold (addWeighed (c .normal)) (Whole u) ss
+  unfolding fold addWeighed weighedOf
+  whole-next t u s ss h = ap (λ (e : Result Integral). fold (addWeighed (c .normal)) (weighedOf e) ss) h
 
-  whole-lost : (t : Integral) (s : Sample) (ss : List Sample) (n : ℕ) → addIntegral (c .normal) t s ≡ refused n → foldl (addWeighed (c .normal)) (Whole t) (s ∷ ss) ≡ Unweighed
-  unfolding foldl addWeighed weighedOf
-  whole-lost t s ss n h = ap (λ (e : Result Integral). foldl (addWeighed (c .normal)) (weighedOf e) ss) h ∙ unweighed ss
+  whole-lost : (t : Integral) (s : Sample) (ss : List Sample) (n : ℕ) → addIntegral (c .normal) t s ≡ refused n → fold (addWeighed (c .normal)) (Whole t) (s ∷ ss) ≡ Unweighed
+  unfolding fold addWeighed weighedOf
+  whole-lost t s ss n h = ap (λ (e : Result Integral). fold (addWeighed (c .normal)) (weighedOf e) ss) h ∙ unweighed ss
 
   abbrev endIntegral : Integral → Result (List ℕ)
   endIntegral t = cond (vacant t) (refused 43) (fine (integralWords t))
 
-  nothing : (t : Integral) → integralsEnd (foldl (addWeighed (c .normal)) (Whole t) []) ≡ result._>>=_ (steps (addIntegral (c .normal)) t []) endIntegral
-  unfolding foldl integralsEnd steps result._>>=_
+  nothing : (t : Integral) → integralsEnd (fold (addWeighed (c .normal)) (Whole t) []) ≡ result._>>=_ (steps (addIntegral (c .normal)) t []) endIntegral
+  unfolding fold integralsEnd steps result._>>=_
   nothing t = refl
 
   integrals-fold : (t : Integral) (ss : List Sample) →
-      integralsEnd (foldl (addWeighed (c .normal)) (Whole t) ss) ≡ result._>>=_ (steps (addIntegral (c .normal)) t ss) endIntegral
+      integralsEnd (fold (addWeighed (c .normal)) (Whole t) ss) ≡ result._>>=_ (steps (addIntegral (c .normal)) t ss) endIntegral
   unfolding integralsEnd result._>>=_
   integrals-fold t [] = nothing t
   integrals-fold t (s ∷ ss) = by (addIntegral (c .normal) t s) refl (λ u. integrals-fold u ss)
     where
       by : (e : Result Integral) → addIntegral (c .normal) t s ≡ e →
-          ((u : Integral) → integralsEnd (foldl (addWeighed (c .normal)) (Whole u) ss) ≡ result._>>=_ (steps (addIntegral (c .normal)) u ss) endIntegral) →
-          integralsEnd (foldl (addWeighed (c .normal)) (Whole t) (s ∷ ss)) ≡ result._>>=_ (steps (addIntegral (c .normal)) t (s ∷ ss)) endIntegral
+          ((u : Integral) → integralsEnd (fold (addWeighed (c .normal)) (Whole u) ss) ≡ result._>>=_ (steps (addIntegral (c .normal)) u ss) endIntegral) →
+          integralsEnd (fold (addWeighed (c .normal)) (Whole t) (s ∷ ss)) ≡ result._>>=_ (steps (addIntegral (c .normal)) t (s ∷ ss)) endIntegral
       by (fine u) h ih = ap integralsEnd (whole-next t u s ss h) ∙ ih u ∙ ap (λ e. result._>>=_ e endIntegral) (sym (steps-fine (addIntegral (c .normal)) t s ss u h))
       by (refused n) h ih =
           ap integralsEnd (whole-lost t s ss n h)
           ∙ ap (λ (k : ℕ). refused k) (sym (integral-refused (c .normal) t s n h))
           ∙ ap (λ e. result._>>=_ e endIntegral) (sym (steps-refused (addIntegral (c .normal)) t s ss n h))
 
-  integrals-end : (ss : List Sample) → integralsEnd (foldl (addWeighed (c .normal)) (Whole noIntegral) ss) ≡ integrals (c .normal) ss
+  integrals-end : (ss : List Sample) → integralsEnd (fold (addWeighed (c .normal)) (Whole noIntegral) ss) ≡ integrals (c .normal) ss
   unfolding integrals
   integrals-end ss = integrals-fold noIntegral ss
 
   pub integrals-give : (mesh : Mesh) (plane : Plane) (f : ℕ → Values) (ss : List Sample) →
-      Gives mesh plane (integrals (c .normal)) f (Done (foldl (addTo c) (Integrals (Whole noIntegral)) ss)) ss
+      Gives mesh plane (integrals (c .normal)) f (Done (fold (addTo c) (Integrals (Whole noIntegral)) ss)) ss
   unfolding ended lastWords
   integrals-give mesh plane f ss =
       record {
@@ -295,52 +295,52 @@ sample-refused normal field t s n e =
     summing-refused (counted a u) t a u (dot (s .values .velocity) normal ⊗ a) n e
 
 module _ (c : Cut) (field : ℕ) where
-  fold-statistics : (r : Summed) (ss : List Sample) → foldl (addTo c) (Statistics field r) ss ≡ Statistics field (foldl (addSummed (c .normal) field) r ss)
-  unfolding foldl addTo
+  fold-statistics : (r : Summed) (ss : List Sample) → fold (addTo c) (Statistics field r) ss ≡ Statistics field (fold (addSummed (c .normal) field) r ss)
+  unfolding fold addTo
   fold-statistics r [] = refl
   fold-statistics r (s ∷ ss) = fold-statistics (addSummed (c .normal) field r s) ss
 
-  unsummed : (ss : List Sample) → foldl (addSummed (c .normal) field) Unsummed ss ≡ Unsummed
-  unfolding foldl addSummed
+  unsummed : (ss : List Sample) → fold (addSummed (c .normal) field) Unsummed ss ≡ Unsummed
+  unfolding fold addSummed
   unsummed [] = refl
   unsummed (s ∷ ss) = unsummed ss
 
-  total-next : (t u : Sums) (s : Sample) (ss : List Sample) → addSample (c .normal) field t s ≡ fine u → foldl (addSummed (c .normal) field) (Total t) (s ∷ ss) ≡ foldl (addSummed (c .normal) field) (Total u) ss
-  unfolding foldl addSummed summedOf
-  total-next t u s ss h = ap (λ (e : Result Sums). foldl (addSummed (c .normal) field) (summedOf e) ss) h
+  total-next : (t u : Sums) (s : Sample) (ss : List Sample) → addSample (c .normal) field t s ≡ fine u → fold (addSummed (c .normal) field) (Total t) (s ∷ ss) ≡ fold (addSummed (c .normal) field) (Total u) ss
+  unfolding fold addSummed summedOf
+  total-next t u s ss h = ap (λ (e : Result Sums). fold (addSummed (c .normal) field) (summedOf e) ss) h
 
-  total-lost : (t : Sums) (s : Sample) (ss : List Sample) (n : ℕ) → addSample (c .normal) field t s ≡ refused n → foldl (addSummed (c .normal) field) (Total t) (s ∷ ss) ≡ Unsummed
-  unfolding foldl addSummed summedOf
-  total-lost t s ss n h = ap (λ (e : Result Sums). foldl (addSummed (c .normal) field) (summedOf e) ss) h ∙ unsummed ss
+  total-lost : (t : Sums) (s : Sample) (ss : List Sample) (n : ℕ) → addSample (c .normal) field t s ≡ refused n → fold (addSummed (c .normal) field) (Total t) (s ∷ ss) ≡ Unsummed
+  unfolding fold addSummed summedOf
+  total-lost t s ss n h = ap (λ (e : Result Sums). fold (addSummed (c .normal) field) (summedOf e) ss) h ∙ unsummed ss
 
   abbrev endSums : Sums → Result (List ℕ)
   endSums t = cond (empty t) (refused 41) (fine (statisticsWords t))
 
-  nothing-summed : (t : Sums) → statisticsEnd (foldl (addSummed (c .normal) field) (Total t) []) ≡ result._>>=_ (steps (addSample (c .normal) field) t []) endSums
-  unfolding foldl statisticsEnd steps result._>>=_
+  nothing-summed : (t : Sums) → statisticsEnd (fold (addSummed (c .normal) field) (Total t) []) ≡ result._>>=_ (steps (addSample (c .normal) field) t []) endSums
+  unfolding fold statisticsEnd steps result._>>=_
   nothing-summed t = refl
 
   statistics-fold : (t : Sums) (ss : List Sample) →
-      statisticsEnd (foldl (addSummed (c .normal) field) (Total t) ss) ≡ result._>>=_ (steps (addSample (c .normal) field) t ss) endSums
+      statisticsEnd (fold (addSummed (c .normal) field) (Total t) ss) ≡ result._>>=_ (steps (addSample (c .normal) field) t ss) endSums
   unfolding statisticsEnd result._>>=_
   statistics-fold t [] = nothing-summed t
   statistics-fold t (s ∷ ss) = by (addSample (c .normal) field t s) refl (λ u. statistics-fold u ss)
     where
       by : (e : Result Sums) → addSample (c .normal) field t s ≡ e →
-          ((u : Sums) → statisticsEnd (foldl (addSummed (c .normal) field) (Total u) ss) ≡ result._>>=_ (steps (addSample (c .normal) field) u ss) endSums) →
-          statisticsEnd (foldl (addSummed (c .normal) field) (Total t) (s ∷ ss)) ≡ result._>>=_ (steps (addSample (c .normal) field) t (s ∷ ss)) endSums
+          ((u : Sums) → statisticsEnd (fold (addSummed (c .normal) field) (Total u) ss) ≡ result._>>=_ (steps (addSample (c .normal) field) u ss) endSums) →
+          statisticsEnd (fold (addSummed (c .normal) field) (Total t) (s ∷ ss)) ≡ result._>>=_ (steps (addSample (c .normal) field) t (s ∷ ss)) endSums
       by (fine u) h ih = ap statisticsEnd (total-next t u s ss h) ∙ ih u ∙ ap (λ e. result._>>=_ e endSums) (sym (steps-fine (addSample (c .normal) field) t s ss u h))
       by (refused n) h ih =
           ap statisticsEnd (total-lost t s ss n h)
           ∙ ap (λ (k : ℕ). refused k) (sym (sample-refused (c .normal) field t s n h))
           ∙ ap (λ e. result._>>=_ e endSums) (sym (steps-refused (addSample (c .normal) field) t s ss n h))
 
-  statistics-end : (ss : List Sample) → statisticsEnd (foldl (addSummed (c .normal) field) (Total noSums) ss) ≡ statistics (c .normal) field ss
+  statistics-end : (ss : List Sample) → statisticsEnd (fold (addSummed (c .normal) field) (Total noSums) ss) ≡ statistics (c .normal) field ss
   unfolding statistics
   statistics-end ss = statistics-fold noSums ss
 
   pub statistics-give : (mesh : Mesh) (plane : Plane) (f : ℕ → Values) (ss : List Sample) →
-      Gives mesh plane (statistics (c .normal) field) f (Done (foldl (addTo c) (Statistics field (Total noSums)) ss)) ss
+      Gives mesh plane (statistics (c .normal) field) f (Done (fold (addTo c) (Statistics field (Total noSums)) ss)) ss
   unfolding ended lastWords
   statistics-give mesh plane f ss =
       record {
@@ -356,23 +356,23 @@ statistics-reply field mesh plane f ps o o₁ o₂ m m₁ r a s d =
 
 -- ---- the probe
 
-fold-probe : (c : Cut) (q : Vec2) (r : Probed) (ss : List Sample) → foldl (addTo c) (Probe q r) ss ≡ Probe q (foldl (addProbed c q) r ss)
-unfolding foldl addTo
+fold-probe : (c : Cut) (q : Vec2) (r : Probed) (ss : List Sample) → fold (addTo c) (Probe q r) ss ≡ Probe q (fold (addProbed c q) r ss)
+unfolding fold addTo
 fold-probe c q r [] = refl
 fold-probe c q r (s ∷ ss) = fold-probe c q (addProbed c q r s) ss
 
-hit-stays : (c : Cut) (q : Vec2) (i : ℕ) (v : Values) (ss : List Sample) → foldl (addProbed c q) (Hit i v) ss ≡ Hit i v
-unfolding foldl addProbed
+hit-stays : (c : Cut) (q : Vec2) (i : ℕ) (v : Values) (ss : List Sample) → fold (addProbed c q) (Hit i v) ss ≡ Hit i v
+unfolding fold addProbed
 hit-stays c q i v [] = refl
 hit-stays c q i v (s ∷ ss) = hit-stays c q i v ss
 
-first-over : (c : Cut) (q : Vec2) (ss : List Sample) → foldl (addProbed c q) Missed ss ≡ firstOver (c .plane) q ss
-unfolding foldl addProbed firstOver
+first-over : (c : Cut) (q : Vec2) (ss : List Sample) → fold (addProbed c q) Missed ss ≡ firstOver (c .plane) q ss
+unfolding fold addProbed firstOver
 first-over c q [] = refl
 first-over c q (s ∷ ss) = by (covers (c .plane) q (s .geometry .polygon)) (first-over c q ss)
   where
-    by : (b : Bool) → foldl (addProbed c q) Missed ss ≡ firstOver (c .plane) q ss →
-        foldl (addProbed c q) (cond b (Hit (s .geometry .cell) (s .values)) Missed) ss ≡ elim b [ true ↦ Hit (s .geometry .cell) (s .values) | false ↦ firstOver (c .plane) q ss ]
+    by : (b : Bool) → fold (addProbed c q) Missed ss ≡ firstOver (c .plane) q ss →
+        fold (addProbed c q) (cond b (Hit (s .geometry .cell) (s .values)) Missed) ss ≡ elim b [ true ↦ Hit (s .geometry .cell) (s .values) | false ↦ firstOver (c .plane) q ss ]
     by true ih = hit-stays c q (s .geometry .cell) (s .values) ss
     by false ih = ih
 
@@ -387,7 +387,7 @@ missing-bad true q = refl
 missing-bad false q = refl
 
 kept : (b : Bool) (c : Cut) (q : Vec2) (ss : List Sample) →
-    missing b q (Done (foldl (addTo c) (Probe q Missed) ss)) ≡ Done (Probe q (cond b Missed (firstOver (c .plane) q ss)))
+    missing b q (Done (fold (addTo c) (Probe q Missed) ss)) ≡ Done (Probe q (cond b Missed (firstOver (c .plane) q ss)))
 unfolding missing
 kept true c q ss = refl
 kept false c q ss = ap Done (fold-probe c q Missed ss ∙ ap (Probe q) (first-over c q ss))

@@ -2,7 +2,7 @@
 use Prim.Native.Nat.{ℕ, _-_, _^_}
 use mathlib.Core.List.{List, [], _∷_, map}
 use lib.ListN.{length}
-use Rattle.arith.specs.Lists.{concat}
+use Rattle.arith.specs.Lists.{flatten}
 use Rattle.arith.specs.declared.Vec3.{Vec3}
 use Rattle.reading.specs.Result as result
 use Rattle.reading.specs.Result.{Result, fine}
@@ -23,7 +23,7 @@ use Rattle.planes_sums.specs.Words.{sampleWords}
 
 -- "polygon count; each: .."
 unfoldable pub sectionWords : List Sample → List ℕ
-sectionWords l = length l ∷ concat (map sampleWords l)
+sectionWords l = length l ∷ flatten (map sampleWords l)
 
 -- "cell or 2^64-1, velocity, pressure (zeros for none)"
 unfoldable pub probeWords : Probed → List ℕ

@@ -5,7 +5,7 @@ use mathlib.Core.Bool.{Bool, true, false, cond}
 use mathlib.Core.List.{List, [], _∷_, map}
 use lib.ListN.{length}
 use lib.Seq.{sets}
-use Rattle.arith.specs.Lists.{concat}
+use Rattle.arith.specs.Lists.{flatten}
 use Rattle.arith.specs.declared.Vec2.{Vec2}
 use Rattle.reading.specs.declared.Values.{Values}
 use Rattle.reading.specs.Result.{Result, refused, fine}
@@ -58,7 +58,7 @@ goods f (p ∷ ps) =
 
 -- code 5 writes its polygons while it reads them: what they leave under 39
 unfoldable pub leftBy : (ℕ → Values) → List PlaneCell → List ℕ → List ℕ
-leftBy f l o = sets o 1 (concat (map sampleWords (goods f l)))
+leftBy f l o = sets o 1 (flatten (map sampleWords (goods f l)))
 
 -- ---- from what was kept to the answer
 

@@ -7,7 +7,7 @@ use mathlib.Core.List.{List, [], _∷_, _++_}
 use lib.ListN.{length, drop}
 use lib.Seq.{getD-set-same, getD-set-other, drop-set-lt, drop-drop}
 use lib.Ieee.{Float, nan}
-use Rattle.arith.specs.Lists.{foldl, any, addNew, Side, windows}
+use Rattle.arith.specs.Lists.{fold, anyOf, addNew, Side, windows}
 use Rattle.arith.specs.Records.{tab}
 use Rattle.arith.specs.declared.Vec3.{Vec3}
 use Rattle.planes_cut.proofs.Turns.{Here, Past, window-turn}
@@ -81,11 +81,11 @@ rest-then {n = n} {k = k} h a b =
 -- ---- the point is added, unless one is like it
 
 module _ (like : Vec3 → Vec3 → Bool) (p : Vec3) {t : Bool} where
-  pub kept-old : (x y z : List Float) (n : ℕ) → t ≡ any (like p) (heldIn x y z n) → t ≡ true → Listed (addNew like (heldIn x y z n) p) x y z x y z n n (n + 1)
+  pub kept-old : (x y z : List Float) (n : ℕ) → t ≡ anyOf (like p) (heldIn x y z n) → t ≡ true → Listed (addNew like (heldIn x y z n) p) x y z x y z n n (n + 1)
   unfolding addNew
   kept-old x y z n e h = record { list = rw (sym e ∙ h); more = omega arith; few = omega arith; rest = rest-same }
 
-  pub added-new : {x y z x′ y′ z′ : List Float} (n : ℕ) → t ≡ any (like p) (heldIn x y z n) → t ≡ false → Holds x y z (n + 1) →
+  pub added-new : {x y z x′ y′ z′ : List Float} (n : ℕ) → t ≡ anyOf (like p) (heldIn x y z n) → t ≡ false → Holds x y z (n + 1) →
       Stored x y z x′ y′ z′ n p → Listed (addNew like (heldIn x y z n) p) x y z x′ y′ z′ n (n + 1) (n + 1)
   unfolding addNew
   added-new n e h room s =
@@ -94,7 +94,7 @@ module _ (like : Vec3 → Vec3 → Bool) (p : Vec3) {t : Bool} where
 -- a point and the next one
 module _ {B : Type 0} (f : B → Side Vec3 → B) (x y z : List Float) (n i : ℕ) (more : i + 1 < n) where
   pub held-window : (p q : Vec3) → p ≡ pointIn x y z i → q ≡ pointIn x y z (i + 1) → (s : B) {s′ w : B} →
-      foldl f s (windows (drop i (heldIn x y z n))) ≡ w → s′ ≡ f s (record { from = p; to = q }) → foldl f s′ (windows (drop (i + 1) (heldIn x y z n))) ≡ w
+      fold f s (windows (drop i (heldIn x y z n))) ≡ w → s′ ≡ f s (record { from = p; to = q }) → fold f s′ (windows (drop (i + 1) (heldIn x y z n))) ≡ w
   held-window p q ep eq s inv e =
       let here : i < n = omega arith in
       window-turn f (heldIn x y z n) i (pointIn x y z i) (pointIn x y z (i + 1)) (held-left x y z n i here .left) (held-left x y z n (i + 1) more .left) s inv

@@ -8,7 +8,7 @@ use lib.ListN.{length, drop}
 use lib.Ieee.{Float}
 use borrow.Author.Tests.{eq-eqb, ne-eqb}
 use Rattle.arith.specs.declared.Vec3.{Vec3}
-use Rattle.arith.specs.Lists.{foldl, all, Side, sides, after}
+use Rattle.arith.specs.Lists.{fold, allOf, Side, sides, after}
 use Rattle.arith.proofs.ListLaws.{left-at, length-sides, sides-at}
 use Rattle.mesh_area.specs.declared.Sizes.{Sizes}
 use Rattle.mesh_area.specs.Tables.{Mesh, faceAt, cellAt}
@@ -65,7 +65,7 @@ module _ (m : Mesh) (c : Cut) (cell f : ℕ) where
       none false = refl
 
   pub foreign-other : shared (faceAt (m .faces) f .neighbour) ≡ true → (faceAt (m .faces) f .owner ≡ cell → ⊥) →
-      all (onPlane m c) (faceAt (m .faces) f .vertices) ≡ foreign m c cell f
+      allOf (onPlane m c) (faceAt (m .faces) f .vertices) ≡ foreign m c cell f
   unfolding foreign
   foreign-other e n = rw (e, ne-eqb _ _ n)
 
@@ -86,5 +86,5 @@ listed-as e h = record { list = h .list ∙ e; more = h .more; few = h .few; res
 
 -- one turn: a list that is extended, while the rest waits
 pub listed-turn : {A : Type 0} {l : List A} {i : ℕ} {a : A} (g : Here l i a) (f : List Vec3 → A → List Vec3) (k : List Vec3) {w : List Vec3} {x y z x′ y′ z′ : List Float} {from : ℕ} (n : ℕ) {most : ℕ} →
-    foldl f k (drop i l) ≡ w → Listed (f k a) x y z x′ y′ z′ from n most → foldl f (heldIn x′ y′ z′ n) (drop (i + 1) l) ≡ w
+    fold f k (drop i l) ≡ w → Listed (f k a) x y z x′ y′ z′ from n most → fold f (heldIn x′ y′ z′ n) (drop (i + 1) l) ≡ w
 listed-turn g f k n inv h = fold-turn g f k inv (h .list)

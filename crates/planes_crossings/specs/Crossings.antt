@@ -4,7 +4,7 @@ use mathlib.Core.Bool.{Bool, true, false, not, cond, _&&_, _||_}
 use mathlib.Core.List.{List, []}
 use lib.Dec.{eqb}
 use Rattle.arith.specs.F64.{_⊖_, _⊘_, _≼_}
-use Rattle.arith.specs.Lists.{foldl, all, addNew, Side, sides}
+use Rattle.arith.specs.Lists.{fold, allOf, addNew, Side, sides}
 use Rattle.arith.specs.Vec.{plus, minus, times, norm}
 use Rattle.arith.specs.declared.Vec3.{Vec3}
 use Rattle.arith.specs.declared.Found.{Found}
@@ -53,7 +53,7 @@ module _ (m : Mesh) (c : Cut) where
   unfoldable pub foreign : ℕ → ℕ → Bool
   foreign cell f =
       shared (faceAt (m .faces) f .neighbour)
-      && (not (eqb (faceAt (m .faces) f .owner) cell) && all onPlane (faceAt (m .faces) f .vertices))
+      && (not (eqb (faceAt (m .faces) f .owner) cell) && allOf onPlane (faceAt (m .faces) f .vertices))
 
   -- a side of a face, by its points' numbers
   unfoldable pub addSide : List Vec3 → Side ℕ → List Vec3
@@ -61,8 +61,8 @@ module _ (m : Mesh) (c : Cut) where
 
   -- around one face
   unfoldable pub addFace : List Vec3 → ℕ → List Vec3
-  addFace l f = foldl addSide l (sides (faceAt (m .faces) f .vertices))
+  addFace l f = fold addSide l (sides (faceAt (m .faces) f .vertices))
 
   -- all faces of a cell
   unfoldable pub meetings : List ℕ → List Vec3
-  meetings fs = foldl addFace [] fs
+  meetings fs = fold addFace [] fs

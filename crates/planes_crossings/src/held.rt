@@ -4,7 +4,7 @@ use planes_cut::Cut;
 ghost use mathlib.Core.Path.{_≡_};
 ghost use Prim.Native.Nat.{_+_};
 ghost use lib.ListN.{length};
-ghost use Rattle.arith.specs.Lists.{any, addNew};
+ghost use Rattle.arith.specs.Lists.{anyOf, addNew};
 ghost use Rattle.planes_crossings.specs.Crossings.{close};
 ghost use Rattle.planes_crossings.specs.Work.{pointIn, heldIn, Holds, Stored, Listed};
 
@@ -52,7 +52,7 @@ fn is_close(cut: Cut, p: Vec3, q: Vec3) -> bool
 // One of the n points is p, within the tolerance.
 fn has(cut: Cut, p: Vec3, x: &[f64], y: &[f64], z: &[f64], n: usize) -> bool
     requires { ⌜ Holds (now x) (now y) (now z) n ⌝ }
-    ensures { λ r. ⌜ r ≡ any (close cut p) (heldIn (now (x .entry)) (now (y .entry)) (now (z .entry)) n) ⌝ }
+    ensures { λ r. ⌜ r ≡ anyOf (close cut p) (heldIn (now (x .entry)) (now (y .entry)) (now (z .entry)) n) ⌝ }
 {
     let mut i = 0;
     while i < n {

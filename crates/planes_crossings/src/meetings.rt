@@ -12,7 +12,7 @@ ghost use mathlib.Core.Path.{_≡_};
 ghost use mathlib.Core.List.{[]};
 ghost use Prim.Native.Nat.{_+_, _*_, _≤_, _<_};
 ghost use lib.ListN.{length};
-ghost use Rattle.arith.specs.Lists.{any, all, after};
+ghost use Rattle.arith.specs.Lists.{anyOf, allOf, after};
 ghost use Rattle.mesh_area.specs.Tables.{cellAt, faceAt};
 ghost use Rattle.planes_cut.specs.Cut.{near};
 ghost use Rattle.planes_crossings.specs.Crossings as Crossings;
@@ -171,7 +171,7 @@ pub fn meetings(
 // Every corner of face f lies in the plane.
 fn on_plane(case: &[u8], points: usize, words: &[u32], s: Sizes, cut: Cut, f: usize) -> bool
     requires { ⌜ Lent (now case) points s (now words) ⌝ }
-    ensures { λ r. ⌜ r ≡ all (onPlane (bare (now (case .entry)) points s (now (words .entry))) cut) (faceAt (bare (now (case .entry)) points s (now (words .entry)) .faces) f .vertices) ⌝ }
+    ensures { λ r. ⌜ r ≡ allOf (onPlane (bare (now (case .entry)) points s (now (words .entry))) cut) (faceAt (bare (now (case .entry)) points s (now (words .entry)) .faces) f .vertices) ⌝ }
 {
     let n = mesh_area::vertex_count(words, s, f);
     let mut k = 0;
@@ -220,7 +220,7 @@ pub fn has_foreign(
     cell: usize,
 ) -> bool
     requires { ⌜ Lent (now case) points s (now words) ⌝ }
-    ensures { λ r. ⌜ r ≡ any (foreign (bare (now (case .entry)) points s (now (words .entry))) cut cell) (cellAt (bare (now (case .entry)) points s (now (words .entry)) .cells) cell .faces) ⌝ }
+    ensures { λ r. ⌜ r ≡ anyOf (foreign (bare (now (case .entry)) points s (now (words .entry))) cut cell) (cellAt (bare (now (case .entry)) points s (now (words .entry)) .cells) cell .faces) ⌝ }
 {
     let count = mesh_area::face_count(words, s, cell);
     let mut j = 0;

@@ -5,7 +5,7 @@ use lib.Dec.{T}
 use lib.Ieee.{Float, binary64, fits, ofBits}
 use Rattle.arith_root.specs.Root.{root}
 use Rattle.arith.specs.F64.{0·0, fmax}
-use Rattle.arith.specs.Lists.{foldl}
+use Rattle.arith.specs.Lists.{fold}
 use Rattle.arith.specs.Vec.{minus, normSquared, norm}
 use Rattle.arith.specs.declared.Vec3.{Vec3}
 use Rattle.arith.proofs.RootLaws.{largest-norm, square-fits}
@@ -26,10 +26,10 @@ nought-fits : T (fits binary64 0·0)
 unfolding fits ofBits
 nought-fits = tt
 
-pub widest-root : (from : Vec3) (l : List Vec3) → root (foldl (wider from) 0·0 l) ≡ foldl (widest from) 0·0 l
+pub widest-root : (from : Vec3) (l : List Vec3) → root (fold (wider from) 0·0 l) ≡ fold (widest from) 0·0 l
 unfolding wider widest
-widest-root from l = sym (ap (λ (s : Float). foldl (widest from) s l) (sym root-nought) ∙ largest-norm (λ p. minus p from) 0·0 l nought-fits)
+widest-root from l = sym (ap (λ (s : Float). fold (widest from) s l) (sym root-nought) ∙ largest-norm (λ p. minus p from) 0·0 l nought-fits)
 
-pub farthest-root : (from : Vec3) (l : List Vec3) → root (foldl farther (normSquared from) l) ≡ foldl farthest (norm from) l
+pub farthest-root : (from : Vec3) (l : List Vec3) → root (fold farther (normSquared from) l) ≡ fold farthest (norm from) l
 unfolding farther farthest norm
 farthest-root from l = sym (largest-norm (λ p. p) (normSquared from) l (square-fits from))

@@ -3,7 +3,7 @@ use Prim.Native.Nat.{ℕ}
 use mathlib.Core.Path.{_≡_, refl}
 use mathlib.Core.Bool.{Bool, true, false, _&&_, _||_, false≢true}
 use mathlib.Core.List.{List, [], _∷_}
-use Rattle.arith.specs.Lists.{foldl}
+use Rattle.arith.specs.Lists.{fold}
 use Rattle.mesh_area.specs.Tables.{Mesh, pointAt, faceAt}
 use Rattle.planes_cut.specs.declared.Cut.{Cut}
 use Rattle.planes_cut.specs.declared.Signs.{Signs}
@@ -24,12 +24,12 @@ module _ (m : Mesh) (c : Cut) where
       let p = pointAt (m .points) i in
       more (g .near) (g .below) (g .above) (near c p) (below c p) (above c p) h
 
-  signs-keep : (l : List ℕ) (g : Signs) → mayMeet g ≡ true → mayMeet (foldl (addSign m c) g l) ≡ true
-  unfolding foldl
+  signs-keep : (l : List ℕ) (g : Signs) → mayMeet g ≡ true → mayMeet (fold (addSign m c) g l) ≡ true
+  unfolding fold
   signs-keep [] g h = h
   signs-keep (i ∷ l) g h = signs-keep l (addSign m c g i) (sign-keeps g i h)
 
-  pub faces-keep : (l : List ℕ) (g : Signs) → mayMeet g ≡ true → mayMeet (foldl (faceSigns m c) g l) ≡ true
-  unfolding foldl faceSigns
+  pub faces-keep : (l : List ℕ) (g : Signs) → mayMeet g ≡ true → mayMeet (fold (faceSigns m c) g l) ≡ true
+  unfolding fold faceSigns
   faces-keep [] g h = h
   faces-keep (f ∷ l) g h = faces-keep l (faceSigns m c g f) (signs-keep (faceAt (m .faces) f .vertices) g h)

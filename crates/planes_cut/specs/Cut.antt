@@ -3,7 +3,7 @@ use mathlib.Core.Bool.{Bool}
 use mathlib.Core.List.{List}
 use lib.Ieee.{Float, neg}
 use Rattle.arith.specs.F64.{_⊗_, _≺_, _≼_, 0·0, 1·0, 32·0, 1e-10, 2^-52, abs, fmax}
-use Rattle.arith.specs.Lists.{foldl}
+use Rattle.arith.specs.Lists.{fold}
 use Rattle.arith.specs.Vec.{minus, dot, norm}
 use Rattle.arith.specs.declared.Vec3.{Vec3}
 use Rattle.planes_cut.specs.declared.Plane.{Plane}
@@ -26,7 +26,7 @@ epsOf span location = fmax (span ⊗ 1e-10) (2^-52 ⊗ fmax location 1·0 ⊗ 32
 
 -- `eps`; `location` starts with the origin's own distance
 unfoldable pub tolerance : List Vec3 → Vec3 → Float
-tolerance ps from = epsOf (foldl (widest from) 0·0 ps) (foldl farthest (norm from) ps)
+tolerance ps from = epsOf (fold (widest from) 0·0 ps) (fold farthest (norm from) ps)
 
 -- the plane with its normal and its tolerance
 unfoldable pub cutOf : List Vec3 → Plane → Cut

@@ -3,7 +3,7 @@ use Prim.Native.Nat.{ℕ, _*_, _≤_}
 use mathlib.Core.Bool.{Bool, false, _&&_, _||_}
 use mathlib.Core.List.{List, []}
 use lib.ListN.{length, getD}
-use Rattle.arith.specs.Lists.{foldl}
+use Rattle.arith.specs.Lists.{fold}
 use Rattle.arith.specs.declared.Vec3.{Vec3}
 use Rattle.mesh_area.specs.declared.Sizes.{Sizes}
 use Rattle.mesh_area.specs.Tables.{Mesh, pointAt, faceAt, cellAt}
@@ -42,11 +42,11 @@ module _ (m : Mesh) (c : Cut) where
   addSign g i = signWith c g (pointAt (m .points) i)
 
   unfoldable pub faceSigns : Signs → ℕ → Signs
-  faceSigns g f = foldl addSign g (faceAt (m .faces) f .vertices)
+  faceSigns g f = fold addSign g (faceAt (m .faces) f .vertices)
 
   -- of a cell
   unfoldable pub signsOf : ℕ → Signs
-  signsOf cell = foldl faceSigns noSigns (cellAt (m .cells) cell .faces)
+  signsOf cell = fold faceSigns noSigns (cellAt (m .cells) cell .faces)
 
 -- the plane may meet a cell with these signs
 unfoldable pub mayMeet : Signs → Bool

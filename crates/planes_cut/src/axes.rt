@@ -8,7 +8,7 @@ ghost use mathlib.Core.Path.{_≡_};
 ghost use Prim.Native.Nat.{_*_, _≤_};
 ghost use lib.ListN.{length};
 ghost use Rattle.arith.specs.F64.{0·0};
-ghost use Rattle.arith.specs.Lists.{foldl};
+ghost use Rattle.arith.specs.Lists.{fold};
 ghost use Rattle.arith.specs.Vec.{norm};
 ghost use Rattle.mesh_area.specs.Layout.{pointsIn};
 ghost use Rattle.planes_cut.specs.Plane as Axes;
@@ -77,7 +77,7 @@ pub fn validate(plane: Plane) -> u64
 // largest squares.
 fn reach_of(case: &[u8], points: usize, origin: Vec3) -> Reach
     requires { ⌜ (points ≤ 65536) × (24 * points ≤ length (now case)) ⌝ }
-    ensures { λ r. ⌜ (r .span ≡ foldl (Cuts.widest origin) 0·0 (pointsIn (now (case .entry)) points)) × (r .location ≡ foldl Cuts.farthest (norm origin) (pointsIn (now (case .entry)) points)) ⌝ }
+    ensures { λ r. ⌜ (r .span ≡ fold (Cuts.widest origin) 0·0 (pointsIn (now (case .entry)) points)) × (r .location ≡ fold Cuts.farthest (norm origin) (pointsIn (now (case .entry)) points)) ⌝ }
 {
     let mut span = 0.0;
     let mut location = origin.norm_squared();

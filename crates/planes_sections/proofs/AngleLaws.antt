@@ -8,7 +8,7 @@ use mathlib.Core.List.{List, [], _∷_, _++_, map}
 use lib.ListN.{length, getD, take, set}
 use lib.Seq.{getD-set-same, getD-set-other, take-suc, take-length}
 use lib.Ieee.{Float, nan}
-use Rattle.arith.specs.Lists.{foldl, insert, sort}
+use Rattle.arith.specs.Lists.{fold, insertBefore, sort}
 use Rattle.arith.specs.Records.{tab, upTo}
 use Rattle.arith.specs.Sort.{angleAt, earlier, sortedPlaces}
 use Rattle.arith.specs.Angle.{precedes, turnsBefore}
@@ -41,21 +41,21 @@ module _ {s : Plane} {centre : Vec3} {point : ℕ → Vec3} where
 -- ---- two orders that agree on a list sort it alike
 
 module _ {A : Type 0} (P : A → Type 0) (r r′ : A → A → Bool) (same : (a b : A) → P a → P b → r a b ≡ r′ a b) where
-  insert-same : (l : List A) (a : A) → P a → All P l → insert r l a ≡ insert r′ l a
-  unfolding insert
+  insert-same : (l : List A) (a : A) → P a → All P l → insertBefore r l a ≡ insertBefore r′ l a
+  unfolding insertBefore
   insert-same [] a p h = refl
   insert-same (b ∷ l) a p h = by (r′ a b) (same a b p (h .0)) (insert-same l a p (h .1))
     where
-      by : (t : Bool) → r a b ≡ t → insert r l a ≡ insert r′ l a → insert r (b ∷ l) a ≡ elim t [ true ↦ a ∷ b ∷ l | false ↦ b ∷ insert r′ l a ]
-      by true e ih = rw (e, insert)
-      by false e ih = rw (e, insert) (ap {B = List A} (λ k. b ∷ k) ih)
+      by : (t : Bool) → r a b ≡ t → insertBefore r l a ≡ insertBefore r′ l a → insertBefore r (b ∷ l) a ≡ elim t [ true ↦ a ∷ b ∷ l | false ↦ b ∷ insertBefore r′ l a ]
+      by true e ih = rw (e, insertBefore)
+      by false e ih = rw (e, insertBefore) (ap {B = List A} (λ k. b ∷ k) ih)
 
-  folds-same : (k l : List A) → All P k → All P l → foldl (insert r) k l ≡ foldl (insert r′) k l
-  unfolding foldl
+  folds-same : (k l : List A) → All P k → All P l → fold (insertBefore r) k l ≡ fold (insertBefore r′) k l
+  unfolding fold
   folds-same k [] g h = refl
   folds-same k (a ∷ l) g h =
-      ap (λ t. foldl (insert r) t l) (insert-same k a (h .0) g)
-      ∙ folds-same (insert r′ k a) l (all-insert P r′ k a (h .0) g) (h .1)
+      ap (λ t. fold (insertBefore r) t l) (insert-same k a (h .0) g)
+      ∙ folds-same (insertBefore r′ k a) l (all-insert P r′ k a (h .0) g) (h .1)
 
   pub sort-same : (l : List A) → All P l → sort r l ≡ sort r′ l
   unfolding sort
@@ -103,7 +103,7 @@ pub tab-map : {A : Type 0} (f : ℕ → A) (l : List ℕ) → tab (λ i. f (getD
 tab-map f l = tab-take f l (length l) (omega arith) ∙ ap (map f) (take-length l)
 
 positive : (q : List ℕ) (t : List Float) (n i : ℕ) → i < length (sortedPlaces q t n) → 0 < n
-unfolding sortedPlaces upTo tab sort foldl
+unfolding sortedPlaces upTo tab sort fold
 positive q t zero i b = absurd (omega arith)
 positive q t (suc n) i b = omega arith
 

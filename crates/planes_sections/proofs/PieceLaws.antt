@@ -8,7 +8,7 @@ use mathlib.Core.List.{List, [], _∷_, _++_}
 use lib.ListN.{length, drop}
 use lib.Ieee.{Float}
 use borrow.Author.Tests.{lt-leb, le-leb}
-use Rattle.arith.specs.Lists.{foldl, any, only, sort, sidesWith, sides, windows}
+use Rattle.arith.specs.Lists.{fold, anyOf, only, sort, sidesWith, sides, windows}
 use Rattle.arith.specs.Records.{tab}
 use Rattle.arith.specs.declared.Vec3.{Vec3}
 use Rattle.arith.proofs.All.{All, all-append}
@@ -32,7 +32,7 @@ use Rattle.planes_sections.specs.Work.{pieceIn, verticesOf, arrangedAbou
 -- ---- the area of a polygon, from the first point
 
 pub area-start : (x y z : List Float) (n : ℕ) (o : Vec3) → 1 ≤ n → o ≡ pointIn x y z 0 →
-    foldl (addArea o) (Rattle.arith.specs.F64.0·0) (windows (drop 1 (heldIn x y z n))) ≡ areaOf (heldIn x y z n)
+    fold (addArea o) (Rattle.arith.specs.F64.0·0) (windows (drop 1 (heldIn x y z n))) ≡ areaOf (heldIn x y z n)
 unfolding areaOf
 area-start x y z n o h e =
     rw e (sym (ap areaOf (held-left x y z n 0 (omega arith) .left)))
@@ -88,11 +88,11 @@ module _ (c : Cut) (l : List Vec3) (n : ℕ) (len : n ≡ length l) where
 -- ---- the piece of a cell
 
 module _ (m : Mesh) (c : Cut) (cell : ℕ) where
-  pub piece-foreign : (x y z : List Float) (t : Bool) → t ≡ any (foreign m c cell) (cellAt (m .cells) cell .faces) → t ≡ true → Pieced m c cell Empty x y z x y z
+  pub piece-foreign : (x y z : List Float) (t : Bool) → t ≡ anyOf (foreign m c cell) (cellAt (m .cells) cell .faces) → t ≡ true → Pieced m c cell Empty x y z x y z
   unfolding pieceOf arrangedOf pieceIn verticesOf
   piece-foreign x y z t e h = record { piece = rw (sym e ∙ h); few = omega arith; full = tt; laid = rw (sym e ∙ h) (laid-nil x y z) }
 
-  pub piece-met : {x₀ y₀ z₀ x y z : List Float} (t : Bool) (l : List Vec3) (r : Piece) → t ≡ any (foreign m c cell) (cellAt (m .cells) cell .faces) → t ≡ false →
+  pub piece-met : {x₀ y₀ z₀ x y z : List Float} (t : Bool) (l : List Vec3) (r : Piece) → t ≡ anyOf (foreign m c cell) (cellAt (m .cells) cell .faces) → t ≡ false →
       l ≡ meetings m c (cellAt (m .cells) cell .faces) → PiecedAbout c l r x₀ y₀ z₀ x y z → Pieced m c cell r x₀ y₀ z₀ x y z
   unfolding pieceOf arrangedOf
   piece-met t l r e h el p =
@@ -114,8 +114,8 @@ and-none false = refl
 
 -- a flag that is clear after all elements was clear before each
 flag-clear : {A : Type 0} (f : Signs → A → Signs) (flag : Signs → Bool) (P : A → Type 0) → ((g : Signs) (a : A) → flag (f g a) ≡ false → (flag g ≡ false) × P a) →
-    (g : Signs) (l : List A) → flag (foldl f g l) ≡ false → (flag g ≡ false) × All P l
-unfolding foldl
+    (g : Signs) (l : List A) → flag (fold f g l) ≡ false → (flag g ≡ false) × All P l
+unfolding fold
 flag-clear f flag P h g [] e = (e, tt)
 flag-clear f flag P h g (a ∷ l) e =
     let r = flag-clear f flag P h (f g a) l e in
@@ -137,10 +137,10 @@ unfolding sides
 all-sides P [] p = tt
 all-sides P (a ∷ l) p = all-sidesWith P (a ∷ l) (l ++ a ∷ []) p (all-append P l (a ∷ []) (p .1) (p .0, tt))
 
-fold-stays : {A B : Type 0} (f : B → A → B) (s : B) (P : A → Type 0) → ((a : A) → P a → f s a ≡ s) → (l : List A) → All P l → foldl f s l ≡ s
-unfolding foldl
+fold-stays : {A B : Type 0} (f : B → A → B) (s : B) (P : A → Type 0) → ((a : A) → P a → f s a ≡ s) → (l : List A) → All P l → fold f s l ≡ s
+unfolding fold
 fold-stays f s P h [] p = refl
-fold-stays f s P h (a ∷ l) p = ap (λ t. foldl f t l) (h a (p .0)) ∙ fold-stays f s P h l (p .1)
+fold-stays f s P h (a ∷ l) p = ap (λ t. fold f t l) (h a (p .0)) ∙ fold-stays f s P h l (p .1)
 
 module _ (m : Mesh) (c : Cut) where
   -- no point of a face passes a test
@@ -148,7 +148,7 @@ module _ (m : Mesh) (c : Cut) where
   Without Q f = All (λ v. Q (pointAt (m .points) v)) (faceAt (m .faces) f .vertices)
 
   signs-clear : (flag : Signs → Bool) (test : Vec3 → Bool) → ((g : Signs) (p : Vec3) → flag (signWith c g p) ≡ (flag g || test p)) →
-      (g : Signs) (fs : List ℕ) → flag (foldl (faceSigns m c) g fs) ≡ false → (flag g ≡ false) × All (Without (λ p. test p ≡ false)) fs
+      (g : Signs) (fs : List ℕ) → flag (fold (faceSigns m c) g fs) ≡ false → (flag g ≡ false) × All (Without (λ p. test p ≡ false)) fs
   signs-clear flag test h g fs e =
       flag-clear (faceSigns m c) flag (Without (λ p. test p ≡ false))
       (λ g f. unfold faceSigns in flag-clear (addSign m c) flag (λ v. test (pointAt (m .points) v) ≡ false)
@@ -183,21 +183,21 @@ module _ (m : Mesh) (c : Cut) where
   unfolding mayMeet signsOf
   unmet cell e =
       let fs = cellAt (m .cells) cell .faces in
-      let r = or-false (foldl (faceSigns m c) noSigns fs .near) _ e in
+      let r = or-false (fold (faceSigns m c) noSigns fs .near) _ e in
       let n = signs-clear (λ g. g .near) (near c) (λ g p. unfold signWith in refl) noSigns fs (r .0) in
       ⊎-elim
       (λ b. none-met (λ p. (near c p ≡ false) × (below c p ≡ false)) not-below fs (all-without (λ p. near c p ≡ false) (λ p. below c p ≡ false) fs (n .1) (signs-clear (λ g. g .below) (below c) (λ g p. unfold signWith in refl) noSigns fs b .1)))
       (λ a. none-met (λ p. (near c p ≡ false) × (above c p ≡ false)) not-above fs (all-without (λ p. near c p ≡ false) (λ p. above c p ≡ false) fs (n .1) (signs-clear (λ g. g .above) (above c) (λ g p. unfold signWith in refl) noSigns fs a .1)))
-      (and-false (foldl (faceSigns m c) noSigns fs .below) (foldl (faceSigns m c) noSigns fs .above) (r .1))
+      (and-false (fold (faceSigns m c) noSigns fs .below) (fold (faceSigns m c) noSigns fs .above) (r .1))
 
   pub piece-unmet : (cell : ℕ) (x y z : List Float) (t : Bool) → t ≡ mayMeet (signsOf m c cell) → t ≡ false → Pieced m c cell Empty x y z x y z
   unfolding pieceOf pieceAbout arrangedOf arrangedAbout pieceIn only verticesOf
   piece-unmet cell x y z t e h =
       record {
-        piece = rw (unmet cell (sym e ∙ h)) (sym (by (any (foreign m c cell) (cellAt (m .cells) cell .faces))));
+        piece = rw (unmet cell (sym e ∙ h)) (sym (by (anyOf (foreign m c cell) (cellAt (m .cells) cell .faces))));
         few = omega arith;
         full = tt;
-        laid = rw (unmet cell (sym e ∙ h), by (any (foreign m c cell) (cellAt (m .cells) cell .faces))) (laid-nil x y z);
+        laid = rw (unmet cell (sym e ∙ h), by (anyOf (foreign m c cell) (cellAt (m .cells) cell .faces))) (laid-nil x y z);
       }
     where
       by : {A : Type 0} (b : Bool) → cond {A = List A} b [] [] ≡ []

@@ -6,7 +6,7 @@ use lib.Dec.{leb}
 use lib.ListN.{length}
 use lib.Ieee.{Float}
 use Rattle.arith.specs.F64.{_⊕_, _⊗_, _⊘_, _≺_, 0·0, 0·5, 1·0, ofℕ}
-use Rattle.arith.specs.Lists.{foldl, only, any, sort, Side, windows}
+use Rattle.arith.specs.Lists.{fold, only, anyOf, sort, Side, windows}
 use Rattle.arith.specs.Vec.{origin, plus, minus, times, cross, norm}
 use Rattle.arith.specs.Angle.{turnsBefore}
 use Rattle.arith.specs.declared.Vec3.{Vec3}
@@ -36,11 +36,11 @@ addArea o r t = r ⊕ norm (cross (minus (t .from) o) (minus (t .to) o)) ⊗ 0·
 -- `area`
 unfoldable pub areaOf : List Vec3 → Float
 areaOf [] = 0·0
-areaOf (o ∷ l) = foldl (addArea o) 0·0 (windows l)
+areaOf (o ∷ l) = fold (addArea o) 0·0 (windows l)
 
 -- `center`: the sum, times one over the number
 unfoldable pub middle : List Vec3 → Vec3
-middle l = times (foldl plus origin l) (1·0 ⊘ ofℕ (length l))
+middle l = times (fold plus origin l) (1·0 ⊘ ofℕ (length l))
 
 -- `area > eps * eps`
 unfoldable pub wide : Cut → List Vec3 → Bool
@@ -55,7 +55,7 @@ pieceAbout c cell l centre =
 -- the piece of a cell, a list of one or none
 unfoldable pub pieceOf : Mesh → Cut → ℕ → Cell → List PlaneCell
 pieceOf m c cell k =
-    cond (any (foreign m c cell) (k .faces)) [] (pieceAbout c cell (meetings m c (k .faces)) (middle (meetings m c (k .faces))))
+    cond (anyOf (foreign m c cell) (k .faces)) [] (pieceAbout c cell (meetings m c (k .faces)) (middle (meetings m c (k .faces))))
 
 -- ---- all cells, from number i on
 

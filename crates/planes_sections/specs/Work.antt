@@ -6,7 +6,7 @@ use mathlib.Core.List.{List, [], _∷_}
 use lib.Dec.{leb}
 use lib.ListN.{length, getD}
 use lib.Ieee.{Float, nan}
-use Rattle.arith.specs.Lists.{any, sort}
+use Rattle.arith.specs.Lists.{anyOf, sort}
 use Rattle.arith.specs.Vec.{minus}
 use Rattle.arith.specs.Angle.{angleOf}
 use Rattle.arith.specs.declared.Angle.{Angle}
@@ -42,7 +42,7 @@ unfoldable pub arrangedAbout : Cut → List Vec3 → List Vec3
 arrangedAbout c l = cond (leb 3 (length l)) (sort (earlierOn (c .plane) (middle l)) l) []
 
 unfoldable pub arrangedOf : Mesh → Cut → ℕ → Cell → List Vec3
-arrangedOf m c cell k = cond (any (foreign m c cell) (k .faces)) [] (arrangedAbout c (meetings m c (k .faces)))
+arrangedOf m c cell k = cond (anyOf (foreign m c cell) (k .faces)) [] (arrangedAbout c (meetings m c (k .faces)))
 
 -- the points l stand at the front of the slices; behind them the slices are as they were
 pub record Laid (l : List Vec3) (x y z x′ y′ z′ : List Float) : Type 0 where

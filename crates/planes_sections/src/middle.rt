@@ -3,7 +3,7 @@ use arith::Vec3;
 use planes_crossings::held;
 ghost use mathlib.Core.Path.{_≡_};
 ghost use Prim.Native.Nat.{_≤_};
-ghost use Rattle.arith.specs.Lists.{foldl};
+ghost use Rattle.arith.specs.Lists.{fold};
 ghost use Rattle.arith.specs.Vec.{origin, plus};
 ghost use Rattle.planes_crossings.specs.Work.{heldIn, Holds};
 ghost use Rattle.planes_sections.specs.Intersect.{middle, addArea, areaOf};
@@ -11,7 +11,7 @@ ghost use Rattle.planes_sections.specs.Intersect.{middle, addArea, areaO
 // The sum of the n points.
 fn sum(x: &[f64], y: &[f64], z: &[f64], n: usize) -> Vec3
     requires { ⌜ Holds (now x) (now y) (now z) n ⌝ }
-    ensures { λ r. ⌜ r ≡ foldl plus origin (heldIn (now (x .entry)) (now (y .entry)) (now (z .entry)) n) ⌝ }
+    ensures { λ r. ⌜ r ≡ fold plus origin (heldIn (now (x .entry)) (now (y .entry)) (now (z .entry)) n) ⌝ }
 {
     let mut total = Vec3::new(0.0, 0.0, 0.0);
     let mut i = 0;

@@ -9,7 +9,7 @@ use lib.Dec.{eqb}
 use lib.ListN.{length, getD, drop}
 use lib.Ieee.{Float}
 use Rattle.arith.specs.declared.Vec2.{Vec2}
-use Rattle.arith.specs.Lists.{Side, sides, after, count}
+use Rattle.arith.specs.Lists.{Side, sides, after, countWhere}
 use Rattle.arith.specs.Records.{tab}
 use Rattle.arith.specs.Polygon.{crosses, evenOdd}
 use Rattle.arith.proofs.ListLaws.{count-next, length-sides, sides-at}
@@ -33,17 +33,17 @@ module _ (s : Plane) (q : Vec2) (x y z : List Float) (n : ℕ) where
   sideIn i = record { from = project s (pointIn x y z i); to = project s (pointIn x y z (after n i)) }
 
   unfoldable pub rest : Bool → ℕ → Bool
-  rest inside i = odd inside (count (crosses q) (drop i sidesIn))
+  rest inside i = odd inside (countWhere (crosses q) (drop i sidesIn))
 
   long : length sidesIn ≡ n
   long = length-sides (tab corner n) ∙ length-tab corner n
 
   pub rest-start : rest false 0 ≡ covers s q (heldIn x y z n)
   unfolding rest odd covers evenOdd heldIn
-  rest-start = rw (map-tab (project s) (pointIn x y z) n, zero-add (count (crosses q) sidesIn))
+  rest-start = rw (map-tab (project s) (pointIn x y z) n, zero-add (countWhere (crosses q) sidesIn))
 
   pub rest-end : (i : ℕ) (inside r : Bool) → n ≤ i → rest inside i ≡ r → inside ≡ r
-  unfolding rest odd count
+  unfolding rest odd countWhere
   rest-end i inside r h e =
       let none : drop i sidesIn ≡ [] = drop-end sidesIn i (omega (arith, long)) in
       by inside ∙ (rw none at e)
@@ -58,14 +58,14 @@ module _ (s : Plane) (q : Vec2) (x y z : List Float) (n : ℕ) where
         sides-at (tab corner n) i (corner 0) (sideIn 0) (rw (length-tab corner n) more)
         ∙ rw (length-tab corner n, getD-tab corner n i (corner 0) more, getD-tab corner n (after n i) (corner 0) (after-less n i more))
 
-    next : odd inside (cond c 1 0 + count (crosses q) (drop (i + 1) sidesIn)) ≡ r
+    next : odd inside (cond c 1 0 + countWhere (crosses q) (drop (i + 1) sidesIn)) ≡ r
     unfolding rest
     next = let w : i < length sidesIn = rw long more in rw (hc, ← here) (rw (count-next sidesIn i (sideIn 0) w (crosses q)) at inv)
 
     pub rest-toggled : (inside′ : Bool) → c ≡ true → inside′ ≡ not inside → rest inside′ (i + 1) ≡ r
     unfolding rest
-    rest-toggled inside′ t e = rw (e, ← (odd-here inside (count (crosses q) (drop (i + 1) sidesIn)))) (rw t at next)
+    rest-toggled inside′ t e = rw (e, ← (odd-here inside (countWhere (crosses q) (drop (i + 1) sidesIn)))) (rw t at next)
 
     pub rest-kept : (inside′ : Bool) → c ≡ false → inside′ ≡ inside → rest inside′ (i + 1) ≡ r
     unfolding rest
-    rest-kept inside′ t e = rw (e, ← (odd-past inside (count (crosses q) (drop (i + 1) sidesIn)))) (rw t at next)
+    rest-kept inside′ t e = rw (e, ← (odd-past inside (countWhere (crosses q) (drop (i + 1) sidesIn)))) (rw t at next)

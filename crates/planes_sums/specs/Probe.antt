@@ -2,7 +2,7 @@
 use mathlib.Core.Bool.{Bool, true, false, cond}
 use mathlib.Core.List.{List, [], _∷_, map}
 use Rattle.arith.specs.F64.{_≺_, 1e-8, abs}
-use Rattle.arith.specs.Lists.{foldl}
+use Rattle.arith.specs.Lists.{fold}
 use Rattle.arith.specs.Vec.{minus, dot}
 use Rattle.arith.specs.Polygon.{evenOdd}
 use Rattle.arith.specs.declared.Vec2.{Vec2}

@@ -3,7 +3,7 @@ use mathlib.Core.Bool.{Bool, _&&_}
 use mathlib.Core.List.{List, [], _∷_}
 use lib.Ieee.{Float}
 use Rattle.arith.specs.F64.{0·5, abs, finite}
-use Rattle.arith.specs.Lists.{foldl, Side, windows}
+use Rattle.arith.specs.Lists.{fold, Side, windows}
 use Rattle.arith.specs.Vec.{origin, plus, minus, times, dot, cross, each3}
 use Rattle.arith.specs.declared.Vec3.{Vec3}
 use Rattle.reading.specs.declared.Values.{Values}
@@ -27,7 +27,7 @@ addVector o r t = plus r (times (cross (minus (t .from) o) (minus (t .to) o)) 0�
 -- `area_vector`
 unfoldable pub vectorOf : List Vec3 → Vec3
 vectorOf [] = origin
-vectorOf (o ∷ l) = foldl (addVector o) origin (windows l)
+vectorOf (o ∷ l) = fold (addVector o) origin (windows l)
 
 -- `measure`
 unfoldable pub measureOf : Vec3 → List Vec3 → Float

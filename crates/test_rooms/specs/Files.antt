@@ -4,7 +4,7 @@ use mathlib.Core.List.{List, [], _∷_, _++_, map}
 use lib.ListN.{length, replicate}
 use lib.Ieee.{Float}
 use Rattle.arith.specs.F64.{word}
-use Rattle.arith.specs.Lists.{concat}
+use Rattle.arith.specs.Lists.{flatten}
 use Rattle.arith.specs.declared.Vec3.{Vec3}
 use Rattle.answers.specs.Words.{vecWords}
 use Rattle.reading.specs.Result.{Result, fine}
@@ -17,9 +17,9 @@ caseFile dimension points words velocities pressures =
     let a = 24 * length points in
     let b = a + 4 * length words in
     let c = b + 24 * length velocities in
-    bytes 8 (concat (map vecWords points))
+    bytes 8 (flatten (map vecWords points))
     ++ (bytes 4 words
-    ++ (bytes 8 (concat (map vecWords velocities) ++ map (λ p. word p) pressures)
+    ++ (bytes 8 (flatten (map vecWords velocities) ++ map (λ p. word p) pressures)
     ++ bytes 4 (dimension ∷ length points ∷ length words ∷ length velocities ∷ 0 ∷ a ∷ b ∷ c ∷ [])))
 
 -- "16 words of 8 bytes, the code first, then the arguments; words not used are zero"

@@ -5,7 +5,7 @@ use mathlib.Core.List.{List, [], _∷_, _++_, map}
 use lib.Ieee.{Float}
 use Rattle.arith.specs.F64.{float, word, 0·0, 0·5, 1·0, 2·0, 3·0}
 use Rattle.arith_root.specs.Root.{root}
-use Rattle.arith.specs.Lists.{concat}
+use Rattle.arith.specs.Lists.{flatten}
 use Rattle.arith.specs.Vec.{vec}
 use Rattle.arith.specs.declared.Vec3.{Vec3}
 use Rattle.answers.specs.Words.{vecWords}
@@ -83,7 +83,7 @@ pub record Rooms (Row : List ℕ → List ℕ → List ℕ → List ℕ → Type
   -- one polygon: cell 0, four vertices, their centre, the vertices, velocity and pressure
   pub stack-section :
       Row stack (level 5 1·0)
-      (1 ∷ 0 ∷ 4 ∷ (vecWords (vec 0·5 0·5 1·0) ++ (concat (map vecWords (square 1·0)) ++ (vecWords (vec 0·0 0·0 2·0) ++ word 3·0 ∷ []))))
+      (1 ∷ 0 ∷ 4 ∷ (vecWords (vec 0·5 0·5 1·0) ++ (flatten (map vecWords (square 1·0)) ++ (vecWords (vec 0·0 0·0 2·0) ++ word 3·0 ∷ []))))
       (0 ∷ [])
   pub root-of-two : word (root 2·0) ≡ 0x3ff6a09e667f3bcd
   pub root-of-least : word (root (float 1)) ≡ 0x1e60000000000000

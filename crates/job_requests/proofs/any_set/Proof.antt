@@ -3,7 +3,7 @@ use native.Mathlib.Omega.{arith}
 use mathlib.Core.Path.{_≡_, refl}
 use lib.Dec.{ltb}
 use lib.ListN.{drop}
-use Rattle.arith.specs.Lists.{any}
+use Rattle.arith.specs.Lists.{anyOf}
 use Rattle.job_requests.specs.Requests.{wordsAt}
 use Rattle.job_requests.proofs.Laws.{set-here, set-later, none-set}
 use borrow.Author.Needs.{needs}
@@ -11,7 +11,7 @@ use Rattle.job_requests.proofs.any_set.Statement.{statement}
 use Rattle.job_requests.proofs.any_set.Tie as tie
 
 abbrev Inv-loop : tie.InvT-loop
-Inv-loop bytes at k i₀ i = any (ltb 0) (drop i (wordsAt bytes at)) ≡ any (ltb 0) (drop k (wordsAt bytes at))
+Inv-loop bytes at k i₀ i = anyOf (ltb 0) (drop i (wordsAt bytes at)) ≡ anyOf (ltb 0) (drop k (wordsAt bytes at))
 
 abbrev μ-loop : tie.MeasureT-loop
 μ-loop bytes at k i₀ i = 16 - i

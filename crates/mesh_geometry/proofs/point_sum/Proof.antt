@@ -1,7 +1,7 @@
 use Prim.Native.Nat.{_-_, _≤_}
 use mathlib.Core.Path.{_≡_}
 use lib.ListN.{length, drop}
-use Rattle.arith.specs.Lists.{foldl}
+use Rattle.arith.specs.Lists.{fold}
 use Rattle.arith.specs.Vec.{origin}
 use Rattle.mesh_area.specs.Layout.{pointsIn}
 use Rattle.mesh_geometry.specs.Faces.{addPoint}
@@ -12,7 +12,7 @@ use Rattle.mesh_geometry.proofs.point_sum.Tie as tie
 
 abbrev Inv-loop : tie.InvT-loop
 Inv-loop case points vertices sum₀ i₀ sum i =
-    (i ≤ length vertices) × (foldl (addPoint (pointsIn case points)) sum (drop i vertices) ≡ foldl (addPoint (pointsIn case points)) origin vertices)
+    (i ≤ length vertices) × (fold (addPoint (pointsIn case points)) sum (drop i vertices) ≡ fold (addPoint (pointsIn case points)) origin vertices)
 
 abbrev μ-loop : tie.MeasureT-loop
 μ-loop case points vertices sum₀ i₀ sum i = length vertices - i

@@ -1,7 +1,7 @@
 use Prim.Native.Nat.{_-_, _≤_}
 use mathlib.Core.Path.{_≡_}
 use lib.ListN.{length, drop}
-use Rattle.arith.specs.Lists.{foldl, sides}
+use Rattle.arith.specs.Lists.{fold, sides}
 use Rattle.arith.specs.Vec.{origin}
 use Rattle.mesh_area.specs.Layout.{pointsIn}
 use Rattle.mesh_geometry.specs.Faces.{addCross}
@@ -12,7 +12,7 @@ use Rattle.mesh_geometry.proofs.twice_area.Tie as tie
 
 abbrev Inv-loop : tie.InvT-loop
 Inv-loop case points vertices sum₀ i₀ sum i =
-    (i ≤ length vertices) × (foldl (addCross (pointsIn case points)) sum (drop i (sides vertices)) ≡ foldl (addCross (pointsIn case points)) origin (sides vertices))
+    (i ≤ length vertices) × (fold (addCross (pointsIn case points)) sum (drop i (sides vertices)) ≡ fold (addCross (pointsIn case points)) origin (sides vertices))
 
 abbrev μ-loop : tie.MeasureT-loop
 μ-loop case points vertices sum₀ i₀ sum i = length vertices - i

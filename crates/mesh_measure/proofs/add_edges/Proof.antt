@@ -6,7 +6,7 @@ use Rattle.case_definitions.specs.Walker.{AtFace}
 use Rattle.case_definitions.proofs.FaceLaws.{at-first}
 use Rattle.mesh_area.specs.Layout.{pointsIn}
 use Rattle.mesh_measure.specs.Records.{facesAt}
-use Rattle.arith.specs.Lists.{foldl}
+use Rattle.arith.specs.Lists.{fold}
 use Rattle.mesh_volumes.specs.Geometry.{weightless, addTriangle}
 use Rattle.mesh_measure.proofs.Laws.{sum-next, facesAt-end}
 use borrow.Author.Needs.{needs}
@@ -15,7 +15,7 @@ use Rattle.mesh_measure.proofs.add_edges.Statement.{statement}
 use Rattle.mesh_measure.proofs.add_edges.Tie as tie
 
 abbrev Inv-loop : tie.InvT-loop
-Inv-loop case points words h reference sum₀ c₀ sum c = AtFace (wordsIn words) h c × (c .face ≤ h .faces) × (foldl (addTriangle (pointsIn case points) reference) sum (drop (c .face) (facesAt (wordsIn words) h)) ≡ foldl (addTriangle (pointsIn case points) reference) weightless (facesAt (wordsIn words) h))
+Inv-loop case points words h reference sum₀ c₀ sum c = AtFace (wordsIn words) h c × (c .face ≤ h .faces) × (fold (addTriangle (pointsIn case points) reference) sum (drop (c .face) (facesAt (wordsIn words) h)) ≡ fold (addTriangle (pointsIn case points) reference) weightless (facesAt (wordsIn words) h))
 
 abbrev μ-loop : tie.MeasureT-loop
 μ-loop case points words h reference sum₀ c₀ sum c = h .faces - c .face
@@ -41,7 +41,7 @@ loop-again c =
     )
 
 returns : tie.Need-returns Inv-loop μ-loop
-unfolding foldl
+unfolding fold
 returns c =
     let i = c .before .before .before .loop .inv in
     rw (facesAt-end _ _ _ (c .before .before .before .before .before .before .before .before .pre .1) (c .if1 .left)) at (i .2)

@@ -3,7 +3,7 @@ use Prim.Native.Nat.{_≤_, _-_}
 use lib.ListN.{drop}
 use borrow.Author.Tests.{not-true, not-false}
 use Rattle.arith.specs.F64.{within}
-use Rattle.arith.specs.Lists.{all}
+use Rattle.arith.specs.Lists.{allOf}
 use Rattle.arith.specs.Vec.{each3}
 use Rattle.mesh_area.specs.Layout.{pointsIn}
 use Rattle.mesh_measure.proofs.Laws.{points-next, points-bad, points-end}
@@ -12,7 +12,7 @@ use Rattle.mesh_measure.proofs.all_within.Statement.{statement}
 use Rattle.mesh_measure.proofs.all_within.Tie as tie
 
 abbrev Inv-loop : tie.InvT-loop
-Inv-loop case points i₀ i = (i ≤ points) × (all (each3 within) (drop i (pointsIn case points)) ≡ all (each3 within) (pointsIn case points))
+Inv-loop case points i₀ i = (i ≤ points) × (allOf (each3 within) (drop i (pointsIn case points)) ≡ allOf (each3 within) (pointsIn case points))
 
 abbrev μ-loop : tie.MeasureT-loop
 μ-loop case points i₀ i = points - i

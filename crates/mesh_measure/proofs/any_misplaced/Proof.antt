@@ -1,7 +1,7 @@
 use mathlib.Core.Path.{_≡_, refl, sym, _∙_}
 use Prim.Native.Nat.{_≤_, _-_}
 use lib.ListN.{drop}
-use Rattle.arith.specs.Lists.{any}
+use Rattle.arith.specs.Lists.{anyOf}
 use Rattle.mesh_area.specs.Layout.{facesIn, cellsIn}
 use Rattle.mesh_measure.specs.Orientation.{misplaced}
 use Rattle.mesh_measure.proofs.Laws.{faces-next, faces-bad, faces-end}
@@ -10,7 +10,7 @@ use Rattle.mesh_measure.proofs.any_misplaced.Statement.{statement}
 use Rattle.mesh_measure.proofs.any_misplaced.Tie as tie
 
 abbrev Inv-loop : tie.InvT-loop
-Inv-loop words floats s f₀ f = (f ≤ s .faces) × (any (misplaced (cellsIn s words floats)) (drop f (facesIn s words floats)) ≡ any (misplaced (cellsIn s words floats)) (facesIn s words floats))
+Inv-loop words floats s f₀ f = (f ≤ s .faces) × (anyOf (misplaced (cellsIn s words floats)) (drop f (facesIn s words floats)) ≡ anyOf (misplaced (cellsIn s words floats)) (facesIn s words floats))
 
 abbrev μ-loop : tie.MeasureT-loop
 μ-loop words floats s f₀ f = s .faces - f

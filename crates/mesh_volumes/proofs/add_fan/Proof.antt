@@ -1,7 +1,7 @@
 use Prim.Native.Nat.{_+_, _-_, _≤_}
 use mathlib.Core.Path.{_≡_}
 use lib.ListN.{length, drop, getD}
-use Rattle.arith.specs.Lists.{foldl, windows}
+use Rattle.arith.specs.Lists.{fold, windows}
 use Rattle.mesh_area.specs.Tables.{pointAt}
 use Rattle.mesh_area.specs.Layout.{pointsIn}
 use Rattle.mesh_volumes.specs.Geometry.{addTetrahedron, addFan}
@@ -12,7 +12,7 @@ use Rattle.mesh_volumes.proofs.add_fan.Tie as tie
 
 abbrev Inv-loop : tie.InvT-loop
 Inv-loop case points reference vertices sum₀ j₀ sum j =
-    (j ≤ length vertices) × (foldl (addTetrahedron (pointsIn case points) reference (pointAt (pointsIn case points) (getD vertices 0 0))) sum (windows (drop (j + 1) vertices)) ≡ addFan (pointsIn case points) reference sum₀ vertices)
+    (j ≤ length vertices) × (fold (addTetrahedron (pointsIn case points) reference (pointAt (pointsIn case points) (getD vertices 0 0))) sum (windows (drop (j + 1) vertices)) ≡ addFan (pointsIn case points) reference sum₀ vertices)
 
 abbrev μ-loop : tie.MeasureT-loop
 μ-loop case points reference vertices sum₀ j₀ sum j = length vertices - j

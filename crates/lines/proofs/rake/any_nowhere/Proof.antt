@@ -2,7 +2,7 @@ use Rattle.lines.proofs.JobLaws.{seed-lost, seed-found, all-found}
 use Rattle.lines.specs.Line.{nowhere}
 use Rattle.lines.specs.Rake.{seeds}
 use Rattle.lines_locate.specs.Layout.{fieldIn}
-use Rattle.arith.specs.Lists.{any}
+use Rattle.arith.specs.Lists.{anyOf}
 use lib.ListN.{drop}
 use mathlib.Core.Path.{_≡_}
 use Prim.Native.Nat.{_≤_, _-_}
@@ -11,7 +11,7 @@ use Rattle.lines.proofs.rake.any_nowhere.Statement.{statement}
 use Rattle.lines.proofs.rake.any_nowhere.Tie as tie
 
 abbrev Inv-loop : tie.InvT-loop
-Inv-loop words floats s g start end count i₀ i = (i ≤ count) × (any (nowhere (fieldIn g s words floats)) (drop i (seeds start end count)) ≡ any (nowhere (fieldIn g s words floats)) (seeds start end count))
+Inv-loop words floats s g start end count i₀ i = (i ≤ count) × (anyOf (nowhere (fieldIn g s words floats)) (drop i (seeds start end count)) ≡ anyOf (nowhere (fieldIn g s words floats)) (seeds start end count))
 
 abbrev μ-loop : tie.MeasureT-loop
 μ-loop words floats s g start end count i₀ i = count - i

@@ -1,7 +1,7 @@
 use Rattle.lines_field.proofs.GridLaws.{bound-turn, bound-end}
 use Rattle.lines_field.specs.Layout.{polygonsIn}
 use Rattle.lines_field.specs.Bounds.{widened, boundsOf}
-use Rattle.arith.specs.Lists.{foldl, concat}
+use Rattle.arith.specs.Lists.{fold, flatten}
 use lib.ListN.{drop}
 use mathlib.Core.Path.{_≡_}
 use Prim.Native.Nat.{_≤_, _-_}
@@ -10,7 +10,7 @@ use Rattle.lines_field.proofs.bounds.all_bounds.Statement.{statement}
 use Rattle.lines_field.proofs.bounds.all_bounds.Tie as tie
 
 abbrev Inv-loop : tie.InvT-loop
-Inv-loop words floats s b₀ i₀ b i = (i ≤ s .cells) × (foldl widened b (concat (drop i (polygonsIn s words floats))) ≡ boundsOf (concat (polygonsIn s words floats)))
+Inv-loop words floats s b₀ i₀ b i = (i ≤ s .cells) × (fold widened b (flatten (drop i (polygonsIn s words floats))) ≡ boundsOf (flatten (polygonsIn s words floats)))
 
 abbrev μ-loop : tie.MeasureT-loop
 μ-loop words floats s b₀ i₀ b i = s .cells - i

@@ -1,7 +1,7 @@
 use Rattle.lines_field.proofs.GridLaws.{widen-turn, widen-end}
 use Rattle.lines_polygon.specs.Vertices.{pairsFrom}
 use Rattle.lines_field.specs.Bounds.{widened}
-use Rattle.arith.specs.Lists.{foldl}
+use Rattle.arith.specs.Lists.{fold}
 use lib.ListN.{drop}
 use mathlib.Core.Path.{_≡_}
 use Prim.Native.Nat.{_≤_, _-_}
@@ -10,7 +10,7 @@ use Rattle.lines_field.proofs.bounds.widened_by.Statement.{statement}
 use Rattle.lines_field.proofs.bounds.widened_by.Tie as tie
 
 abbrev Inv-loop : tie.InvT-loop
-Inv-loop floats at n b₀ k₀ b k = (k ≤ n) × (foldl widened b (drop k (pairsFrom floats at n)) ≡ foldl widened b₀ (pairsFrom floats at n))
+Inv-loop floats at n b₀ k₀ b k = (k ≤ n) × (fold widened b (drop k (pairsFrom floats at n)) ≡ fold widened b₀ (pairsFrom floats at n))
 
 abbrev μ-loop : tie.MeasureT-loop
 μ-loop floats at n b₀ k₀ b k = n - k

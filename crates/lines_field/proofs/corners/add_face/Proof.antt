@@ -3,7 +3,7 @@ use Rattle.lines_field.specs.Layout.{cornersIn}
 use Rattle.lines_field.specs.Corners.{addCorner, addCorners}
 use Rattle.mesh_area.specs.Layout.{facesIn, meshIn, pointsIn}
 use Rattle.mesh_area.specs.Tables.{faceAt}
-use Rattle.arith.specs.Lists.{foldl}
+use Rattle.arith.specs.Lists.{fold}
 use lib.ListN.{drop, length}
 use mathlib.Core.List.{[]}
 use mathlib.Core.Path.{_≡_, refl}
@@ -13,7 +13,7 @@ use Rattle.lines_field.proofs.corners.add_face.Statement.{statement}
 use Rattle.lines_field.proofs.corners.add_face.Tie as tie
 
 abbrev Inv-loop : tie.InvT-loop
-Inv-loop case points words s f xs₀ ys₀ from count n₀ k₀ xs ys n k = (k ≤ count) × (n ≤ 24) × (foldl (addCorner (meshIn (pointsIn case points) s words [])) (cornersIn xs ys n) (drop k (faceAt (facesIn s words []) f .vertices)) ≡ addCorners (meshIn (pointsIn case points) s words []) (cornersIn xs₀ ys₀ n₀) f) × (length xs ≡ length xs₀) × (length ys ≡ length ys₀) × (drop n xs ≡ drop n xs₀) × (drop n ys ≡ drop n ys₀) × (n₀ ≤ n)
+Inv-loop case points words s f xs₀ ys₀ from count n₀ k₀ xs ys n k = (k ≤ count) × (n ≤ 24) × (fold (addCorner (meshIn (pointsIn case points) s words [])) (cornersIn xs ys n) (drop k (faceAt (facesIn s words []) f .vertices)) ≡ addCorners (meshIn (pointsIn case points) s words []) (cornersIn xs₀ ys₀ n₀) f) × (length xs ≡ length xs₀) × (length ys ≡ length ys₀) × (drop n xs ≡ drop n xs₀) × (drop n ys ≡ drop n ys₀) × (n₀ ≤ n)
 
 abbrev μ-loop : tie.MeasureT-loop
 μ-loop case points words s f xs₀ ys₀ from count n₀ k₀ xs ys n k = count - k

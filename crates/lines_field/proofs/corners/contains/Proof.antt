@@ -1,7 +1,7 @@
 use Rattle.lines_field.proofs.CornerLaws.{contains-here, contains-next, contains-end}
 use Rattle.lines_field.specs.Layout.{cornersIn}
 use Rattle.lines_field.specs.Corners.{alike}
-use Rattle.arith.specs.Lists.{any}
+use Rattle.arith.specs.Lists.{anyOf}
 use lib.ListN.{drop}
 use mathlib.Core.Path.{_≡_}
 use Prim.Native.Nat.{_≤_, _-_}
@@ -10,7 +10,7 @@ use Rattle.lines_field.proofs.corners.contains.Statement.{statement}
 use Rattle.lines_field.proofs.corners.contains.Tie as tie
 
 abbrev Inv-loop : tie.InvT-loop
-Inv-loop xs ys n p k₀ k = (k ≤ n) × (any (alike p) (drop k (cornersIn xs ys n)) ≡ any (alike p) (cornersIn xs ys n))
+Inv-loop xs ys n p k₀ k = (k ≤ n) × (anyOf (alike p) (drop k (cornersIn xs ys n)) ≡ anyOf (alike p) (cornersIn xs ys n))
 
 abbrev μ-loop : tie.MeasureT-loop
 μ-loop xs ys n p k₀ k = n - k

@@ -3,7 +3,7 @@ use Rattle.lines_field.specs.Layout.{cornersIn}
 use Rattle.lines_field.specs.Corners.{addCorners, cornersOf}
 use Rattle.mesh_area.specs.Layout.{cellsIn, meshIn, pointsIn}
 use Rattle.mesh_area.specs.Tables.{cellAt}
-use Rattle.arith.specs.Lists.{foldl}
+use Rattle.arith.specs.Lists.{fold}
 use lib.ListN.{drop, length}
 use mathlib.Core.List.{[]}
 use mathlib.Core.Path.{_≡_, refl}
@@ -13,7 +13,7 @@ use Rattle.lines_field.proofs.corners.corners.Statement.{statement}
 use Rattle.lines_field.proofs.corners.corners.Tie as tie
 
 abbrev Inv-loop : tie.InvT-loop
-Inv-loop case points words s i xs₀ ys₀ count n₀ k₀ xs ys n k = (k ≤ count) × (n ≤ 24) × (foldl (addCorners (meshIn (pointsIn case points) s words [])) (cornersIn xs ys n) (drop k (cellAt (cellsIn s words []) i .faces)) ≡ cornersOf (meshIn (pointsIn case points) s words []) (cellAt (cellsIn s words []) i)) × (length xs ≡ length xs₀) × (length ys ≡ length ys₀) × (drop n xs ≡ drop n xs₀) × (drop n ys ≡ drop n ys₀)
+Inv-loop case points words s i xs₀ ys₀ count n₀ k₀ xs ys n k = (k ≤ count) × (n ≤ 24) × (fold (addCorners (meshIn (pointsIn case points) s words [])) (cornersIn xs ys n) (drop k (cellAt (cellsIn s words []) i .faces)) ≡ cornersOf (meshIn (pointsIn case points) s words []) (cellAt (cellsIn s words []) i)) × (length xs ≡ length xs₀) × (length ys ≡ length ys₀) × (drop n xs ≡ drop n xs₀) × (drop n ys ≡ drop n ys₀)
 
 abbrev μ-loop : tie.MeasureT-loop
 μ-loop case points words s i xs₀ ys₀ count n₀ k₀ xs ys n k = count - k

@@ -1,7 +1,7 @@
 use mathlib.Core.Path.{_≡_}
 use Prim.Native.Nat.{_≤_, _-_}
 use lib.ListN.{drop}
-use Rattle.arith.specs.Lists.{all, sides}
+use Rattle.arith.specs.Lists.{allOf, sides}
 use Rattle.lines_polygon.specs.Vertices.{pairsFrom}
 use Rattle.lines_polygon.specs.Extent.{sideWithin}
 use Rattle.lines_polygon.proofs.LimitLaws.{within-next, within-not, within-end}
@@ -10,7 +10,7 @@ use Rattle.lines_polygon.proofs.extent.has_sides.Statement.{statement}
 use Rattle.lines_polygon.proofs.extent.has_sides.Tie as tie
 
 abbrev Inv-loop : tie.InvT-loop
-Inv-loop l floats at n i₀ i = (i ≤ n) × (all (sideWithin l) (drop i (sides (pairsFrom floats at n))) ≡ all (sideWithin l) (sides (pairsFrom floats at n)))
+Inv-loop l floats at n i₀ i = (i ≤ n) × (allOf (sideWithin l) (drop i (sides (pairsFrom floats at n))) ≡ allOf (sideWithin l) (sides (pairsFrom floats at n)))
 
 abbrev μ-loop : tie.MeasureT-loop
 μ-loop l floats at n i₀ i = n - i

@@ -1,7 +1,7 @@
 use mathlib.Core.Path.{_≡_}
 use Prim.Native.Nat.{_≤_, _-_}
 use lib.ListN.{drop}
-use Rattle.arith.specs.Lists.{foldl, sides}
+use Rattle.arith.specs.Lists.{fold, sides}
 use Rattle.lines_polygon.specs.Vertices.{pairsFrom}
 use Rattle.lines_polygon.specs.Extent.{widened}
 use Rattle.lines_polygon.proofs.LimitLaws.{widened-turn, narrowed}
@@ -10,7 +10,7 @@ use Rattle.lines_polygon.proofs.extent.narrowest.Statement.{statement}
 use Rattle.lines_polygon.proofs.extent.narrowest.Tie as tie
 
 abbrev Inv-loop : tie.InvT-loop
-Inv-loop floats at n l₀ i₀ l i = (i ≤ n) × (foldl widened l (drop i (sides (pairsFrom floats at n))) ≡ foldl widened l₀ (sides (pairsFrom floats at n)))
+Inv-loop floats at n l₀ i₀ l i = (i ≤ n) × (fold widened l (drop i (sides (pairsFrom floats at n))) ≡ fold widened l₀ (sides (pairsFrom floats at n)))
 
 abbrev μ-loop : tie.MeasureT-loop
 μ-loop floats at n l₀ i₀ l i = n - i

@@ -2,7 +2,7 @@ use Rattle.lines_velocity.proofs.VelocityLaws.{nearest-turn, nearest-en
 use Rattle.lines_velocity.specs.Velocity.{distanceSquared, nearerOf, neighboursOf}
 use Rattle.lines_locate.specs.Layout.{fieldIn}
 use Rattle.lines_locate.specs.declared.Grid.{Grid}
-use Rattle.arith.specs.Lists.{foldl}
+use Rattle.arith.specs.Lists.{fold}
 use lib.ListN.{getD, drop}
 use mathlib.Core.Path.{_≡_}
 use mathlib.Core.List.{List}
@@ -13,7 +13,7 @@ use Rattle.lines_velocity.proofs.interpolate.nearest.Tie as tie
 
 abbrev Inv-loop : tie.InvT-loop
 Inv-loop words floats s p i count first best₀ k₀ best k =
-    ((g : Grid) → foldl (nearerOf (fieldIn g s words floats) p) (best .cell) (drop k (neighboursOf (fieldIn g s words floats) i)) ≡ foldl (nearerOf (fieldIn g s words floats) p) (getD (neighboursOf (fieldIn g s words floats) i) 0 0) (drop 1 (neighboursOf (fieldIn g s words floats) i)))
+    ((g : Grid) → fold (nearerOf (fieldIn g s words floats) p) (best .cell) (drop k (neighboursOf (fieldIn g s words floats) i)) ≡ fold (nearerOf (fieldIn g s words floats) p) (getD (neighboursOf (fieldIn g s words floats) i) 0 0) (drop 1 (neighboursOf (fieldIn g s words floats) i)))
     × ((g : Grid) (words : List ℕ) → best .«distance_squared» ≡ distanceSquared (fieldIn g s words floats) p (best .cell))
 
 abbrev μ-loop : tie.MeasureT-loop

@@ -1,7 +1,7 @@
 use Prim.Native.Nat.{_≤_, _-_}
 use mathlib.Core.Path.{_≡_, refl, ap, sym, _∙_}
 use lib.ListN.{drop}
-use Rattle.arith.specs.Lists.{any}
+use Rattle.arith.specs.Lists.{anyOf}
 use Rattle.planes_crossings.specs.Crossings.{close}
 use Rattle.planes_crossings.specs.Work.{heldIn}
 use Rattle.planes_cut.proofs.Turns.{any-turn, any-found, any-done}
@@ -11,7 +11,7 @@ use Rattle.planes_crossings.proofs.held.has.Statement.{statement}
 use Rattle.planes_crossings.proofs.held.has.Tie as tie
 
 abbrev Inv-loop : tie.InvT-loop
-Inv-loop cut p x y z n i₀ i = (i ≤ n) × (any (close cut p) (drop i (heldIn x y z n)) ≡ any (close cut p) (heldIn x y z n))
+Inv-loop cut p x y z n i₀ i = (i ≤ n) × (anyOf (close cut p) (drop i (heldIn x y z n)) ≡ anyOf (close cut p) (heldIn x y z n))
 
 abbrev μ-loop : tie.MeasureT-loop
 μ-loop cut p x y z n i₀ i = n - i

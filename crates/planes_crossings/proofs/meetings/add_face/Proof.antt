@@ -3,7 +3,7 @@ use native.Mathlib.Omega.{arith}
 use mathlib.Core.Path.{_≡_, refl, ap, _∙_}
 use mathlib.Core.List.{[]}
 use lib.ListN.{length, drop}
-use Rattle.arith.specs.Lists.{foldl, sides}
+use Rattle.arith.specs.Lists.{fold, sides}
 use Rattle.mesh_area.specs.Tables.{faceAt}
 use Rattle.planes_crossings.specs.Crossings.{addSide, addFace}
 use Rattle.planes_cut.specs.Work.{bare, cornerOf}
@@ -16,7 +16,7 @@ use Rattle.planes_crossings.proofs.meetings.add_face.Statement.{stateme
 use Rattle.planes_crossings.proofs.meetings.add_face.Tie as tie
 
 abbrev Inv-loop : tie.InvT-loop
-Inv-loop case points words s cut f x₀ y₀ z₀ from count n₀ a₀ k₀ x y z n a k = (k ≤ count) × (n ≤ from + k) × (from ≤ n) × Rest x₀ y₀ z₀ x y z n × (length x ≡ length x₀) × (length y ≡ length y₀) × (length z ≡ length z₀) × TrueHeight cut a × ((k < count) → a .point ≡ cornerOf (bare case points s words) f k) × (foldl (addSide (bare case points s words) cut) (heldIn x y z n) (drop k (sides (faceAt (bare case points s words .faces) f .vertices))) ≡ addFace (bare case points s words) cut (heldIn x₀ y₀ z₀ from) f)
+Inv-loop case points words s cut f x₀ y₀ z₀ from count n₀ a₀ k₀ x y z n a k = (k ≤ count) × (n ≤ from + k) × (from ≤ n) × Rest x₀ y₀ z₀ x y z n × (length x ≡ length x₀) × (length y ≡ length y₀) × (length z ≡ length z₀) × TrueHeight cut a × ((k < count) → a .point ≡ cornerOf (bare case points s words) f k) × (fold (addSide (bare case points s words) cut) (heldIn x y z n) (drop k (sides (faceAt (bare case points s words .faces) f .vertices))) ≡ addFace (bare case points s words) cut (heldIn x₀ y₀ z₀ from) f)
 
 abbrev μ-loop : tie.MeasureT-loop
 μ-loop case points words s cut f x₀ y₀ z₀ from count n₀ a₀ k₀ x y z n a k = count - k

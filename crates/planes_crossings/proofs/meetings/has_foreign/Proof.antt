@@ -2,7 +2,7 @@ use Prim.Native.Nat.{_≤_, _-_}
 use mathlib.Core.Path.{_≡_, refl, sym, _∙_}
 use mathlib.Core.List.{[]}
 use lib.ListN.{drop}
-use Rattle.arith.specs.Lists.{any}
+use Rattle.arith.specs.Lists.{anyOf}
 use Rattle.mesh_area.specs.Tables.{cellAt}
 use Rattle.planes_crossings.specs.Crossings.{foreign}
 use Rattle.planes_cut.specs.Work.{bare}
@@ -13,7 +13,7 @@ use Rattle.planes_crossings.proofs.meetings.has_foreign.Statement.{stat
 use Rattle.planes_crossings.proofs.meetings.has_foreign.Tie as tie
 
 abbrev Inv-loop : tie.InvT-loop
-Inv-loop case points words s cut cell count j₀ j = (j ≤ count) × (any (foreign (bare case points s words) cut cell) (drop j (cellAt (bare case points s words .cells) cell .faces)) ≡ any (foreign (bare case points s words) cut cell) (cellAt (bare case points s words .cells) cell .faces))
+Inv-loop case points words s cut cell count j₀ j = (j ≤ count) × (anyOf (foreign (bare case points s words) cut cell) (drop j (cellAt (bare case points s words .cells) cell .faces)) ≡ anyOf (foreign (bare case points s words) cut cell) (cellAt (bare case points s words .cells) cell .faces))
 
 abbrev μ-loop : tie.MeasureT-loop
 μ-loop case points words s cut cell count j₀ j = count - j

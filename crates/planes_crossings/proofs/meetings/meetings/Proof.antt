@@ -3,7 +3,7 @@ use native.Mathlib.Omega.{arith}
 use mathlib.Core.Path.{_≡_, refl}
 use mathlib.Core.List.{[]}
 use lib.ListN.{length, drop}
-use Rattle.arith.specs.Lists.{foldl}
+use Rattle.arith.specs.Lists.{fold}
 use Rattle.arith.specs.Records.{tab}
 use Rattle.mesh_area.specs.Tables.{cellAt}
 use Rattle.planes_crossings.specs.Crossings.{addFace, meetings}
@@ -18,7 +18,7 @@ use Rattle.planes_crossings.proofs.meetings.meetings.Statement.{stateme
 use Rattle.planes_crossings.proofs.meetings.meetings.Tie as tie
 
 abbrev Inv-loop : tie.InvT-loop
-Inv-loop case points words s cut cell x₀ y₀ z₀ count n₀ j₀ x y z n j = (j ≤ count) × (n ≤ 8 * j) × Rest x₀ y₀ z₀ x y z n × (length x ≡ length x₀) × (length y ≡ length y₀) × (length z ≡ length z₀) × (foldl (addFace (bare case points s words) cut) (heldIn x y z n) (drop j (cellAt (bare case points s words .cells) cell .faces)) ≡ meetings (bare case points s words) cut (cellAt (bare case points s words .cells) cell .faces))
+Inv-loop case points words s cut cell x₀ y₀ z₀ count n₀ j₀ x y z n j = (j ≤ count) × (n ≤ 8 * j) × Rest x₀ y₀ z₀ x y z n × (length x ≡ length x₀) × (length y ≡ length y₀) × (length z ≡ length z₀) × (fold (addFace (bare case points s words) cut) (heldIn x y z n) (drop j (cellAt (bare case points s words .cells) cell .faces)) ≡ meetings (bare case points s words) cut (cellAt (bare case points s words .cells) cell .faces))
 
 abbrev μ-loop : tie.MeasureT-loop
 μ-loop case points words s cut cell x₀ y₀ z₀ count n₀ j₀ x y z n j = count - j

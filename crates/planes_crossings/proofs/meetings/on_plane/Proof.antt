@@ -2,7 +2,7 @@ use Prim.Native.Nat.{_≤_, _-_}
 use mathlib.Core.Path.{_≡_, refl, ap, sym, _∙_}
 use mathlib.Core.List.{[]}
 use lib.ListN.{drop}
-use Rattle.arith.specs.Lists.{all}
+use Rattle.arith.specs.Lists.{allOf}
 use Rattle.mesh_area.specs.Tables.{faceAt}
 use Rattle.planes_cut.specs.Cut.{near}
 use Rattle.planes_crossings.specs.Crossings.{onPlane}
@@ -14,7 +14,7 @@ use Rattle.planes_crossings.proofs.meetings.on_plane.Statement.{stateme
 use Rattle.planes_crossings.proofs.meetings.on_plane.Tie as tie
 
 abbrev Inv-loop : tie.InvT-loop
-Inv-loop case points words s cut f n k₀ k = (k ≤ n) × (all (onPlane (bare case points s words) cut) (drop k (faceAt (bare case points s words .faces) f .vertices)) ≡ all (onPlane (bare case points s words) cut) (faceAt (bare case points s words .faces) f .vertices))
+Inv-loop case points words s cut f n k₀ k = (k ≤ n) × (allOf (onPlane (bare case points s words) cut) (drop k (faceAt (bare case points s words .faces) f .vertices)) ≡ allOf (onPlane (bare case points s words) cut) (faceAt (bare case points s words .faces) f .vertices))
 
 abbrev μ-loop : tie.MeasureT-loop
 μ-loop case points words s cut f n k₀ k = n - k

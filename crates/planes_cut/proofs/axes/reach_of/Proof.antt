@@ -3,7 +3,7 @@ use mathlib.Core.Path.{_≡_, refl, ap, _∙_}
 use lib.ListN.{drop}
 use Rattle.arith_root.specs.Root.{root}
 use Rattle.arith.specs.F64.{0·0}
-use Rattle.arith.specs.Lists.{foldl}
+use Rattle.arith.specs.Lists.{fold}
 use Rattle.arith.specs.Vec.{normSquared}
 use Rattle.mesh_area.specs.Layout.{pointsIn}
 use Rattle.planes_cut.proofs.Turns.{fold-turn, fold-done}
@@ -14,13 +14,13 @@ use Rattle.planes_cut.proofs.axes.reach_of.Statement.{statement}
 use Rattle.planes_cut.proofs.axes.reach_of.Tie as tie
 
 abbrev Inv-loop : tie.InvT-loop
-Inv-loop case points origin span₀ location₀ i₀ span location i = (i ≤ points) × (foldl (wider origin) span (drop i (pointsIn case points)) ≡ foldl (wider origin) 0·0 (pointsIn case points)) × (foldl farther location (drop i (pointsIn case points)) ≡ foldl farther (normSquared origin) (pointsIn case points))
+Inv-loop case points origin span₀ location₀ i₀ span location i = (i ≤ points) × (fold (wider origin) span (drop i (pointsIn case points)) ≡ fold (wider origin) 0·0 (pointsIn case points)) × (fold farther location (drop i (pointsIn case points)) ≡ fold farther (normSquared origin) (pointsIn case points))
 
 abbrev μ-loop : tie.MeasureT-loop
 μ-loop case points origin span₀ location₀ i₀ span location i = points - i
 
 loop-holds : tie.Need-loop-holds Inv-loop μ-loop
-loop-holds c = (search needs, refl, ap (λ t. foldl farther t (pointsIn (c .before .before .args .case .now) (c .before .before .args .points))) (c .norm-squared .ensures))
+loop-holds c = (search needs, refl, ap (λ t. fold farther t (pointsIn (c .before .before .args .case .now) (c .before .before .args .points))) (c .norm-squared .ensures))
 
 loop-again : tie.Need-loop-again Inv-loop μ-loop
 unfolding wider farther

@@ -2,7 +2,7 @@ use Prim.Native.Nat.{_≤_, _-_}
 use mathlib.Core.Path.{_≡_, refl, ap, _∙_}
 use mathlib.Core.List.{[]}
 use lib.ListN.{drop}
-use Rattle.arith.specs.Lists.{foldl}
+use Rattle.arith.specs.Lists.{fold}
 use Rattle.mesh_area.specs.Tables.{faceAt}
 use Rattle.planes_cut.specs.Work.{bare, signWith, addSign, faceSigns, cornerOf}
 use Rattle.planes_cut.proofs.Turns.{fold-turn, fold-done}
@@ -12,7 +12,7 @@ use Rattle.planes_cut.proofs.heights.add_face.Statement.{statement}
 use Rattle.planes_cut.proofs.heights.add_face.Tie as tie
 
 abbrev Inv-loop : tie.InvT-loop
-Inv-loop case points words s cut f g₀ n k₀ g k = (k ≤ n) × (foldl (addSign (bare case points s words) cut) g (drop k (faceAt (bare case points s words .faces) f .vertices)) ≡ foldl (addSign (bare case points s words) cut) g₀ (faceAt (bare case points s words .faces) f .vertices))
+Inv-loop case points words s cut f g₀ n k₀ g k = (k ≤ n) × (fold (addSign (bare case points s words) cut) g (drop k (faceAt (bare case points s words .faces) f .vertices)) ≡ fold (addSign (bare case points s words) cut) g₀ (faceAt (bare case points s words .faces) f .vertices))
 
 abbrev μ-loop : tie.MeasureT-loop
 μ-loop case points words s cut f g₀ n k₀ g k = n - k

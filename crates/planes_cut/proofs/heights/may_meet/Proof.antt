@@ -3,7 +3,7 @@ use mathlib.Core.Path.{_≡_, refl, ap, sym, _∙_}
 use mathlib.Core.Bool.{false}
 use mathlib.Core.List.{[]}
 use lib.ListN.{drop}
-use Rattle.arith.specs.Lists.{foldl}
+use Rattle.arith.specs.Lists.{fold}
 use Rattle.mesh_area.specs.Tables.{cellAt}
 use Rattle.planes_cut.specs.Work.{bare, faceSigns, signsOf, noSigns, mayMeet}
 use Rattle.planes_cut.proofs.Turns.{fold-turn, fold-done}
@@ -14,7 +14,7 @@ use Rattle.planes_cut.proofs.heights.may_meet.Statement.{statement}
 use Rattle.planes_cut.proofs.heights.may_meet.Tie as tie
 
 abbrev Inv-loop : tie.InvT-loop
-Inv-loop case points words s cut cell g₀ n j₀ g j = (j ≤ n) × (mayMeet g ≡ false) × (foldl (faceSigns (bare case points s words) cut) g (drop j (cellAt (bare case points s words .cells) cell .faces)) ≡ signsOf (bare case points s words) cut cell)
+Inv-loop case points words s cut cell g₀ n j₀ g j = (j ≤ n) × (mayMeet g ≡ false) × (fold (faceSigns (bare case points s words) cut) g (drop j (cellAt (bare case points s words .cells) cell .faces)) ≡ signsOf (bare case points s words) cut cell)
 
 abbrev μ-loop : tie.MeasureT-loop
 μ-loop case points words s cut cell g₀ n j₀ g j = n - j

@@ -1,7 +1,7 @@
 use Prim.Native.Nat.{_≤_, _-_}
 use mathlib.Core.Path.{_≡_}
 use lib.ListN.{drop}
-use Rattle.arith.specs.Lists.{foldl, windows}
+use Rattle.arith.specs.Lists.{fold, windows}
 use Rattle.planes_sections.specs.Intersect.{addArea, areaOf}
 use Rattle.planes_crossings.specs.Work.{heldIn}
 use Rattle.planes_cut.proofs.Turns.{window-done}
@@ -12,7 +12,7 @@ use Rattle.planes_sections.proofs.middle.area.Statement.{statement}
 use Rattle.planes_sections.proofs.middle.area.Tie as tie
 
 abbrev Inv-loop : tie.InvT-loop
-Inv-loop x y z n o total₀ i₀ total i = (1 ≤ i) × (i ≤ n) × (foldl (addArea o) total (windows (drop i (heldIn x y z n))) ≡ areaOf (heldIn x y z n))
+Inv-loop x y z n o total₀ i₀ total i = (1 ≤ i) × (i ≤ n) × (fold (addArea o) total (windows (drop i (heldIn x y z n))) ≡ areaOf (heldIn x y z n))
 
 abbrev μ-loop : tie.MeasureT-loop
 μ-loop x y z n o total₀ i₀ total i = n - i

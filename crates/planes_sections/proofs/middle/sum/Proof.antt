@@ -1,7 +1,7 @@
 use Prim.Native.Nat.{_≤_, _-_}
 use mathlib.Core.Path.{_≡_, ap, _∙_}
 use lib.ListN.{drop}
-use Rattle.arith.specs.Lists.{foldl}
+use Rattle.arith.specs.Lists.{fold}
 use Rattle.arith.specs.Vec.{plus, origin}
 use Rattle.planes_crossings.specs.Work.{heldIn}
 use Rattle.planes_cut.proofs.Turns.{fold-turn, fold-done}
@@ -11,7 +11,7 @@ use Rattle.planes_sections.proofs.middle.sum.Statement.{statement}
 use Rattle.planes_sections.proofs.middle.sum.Tie as tie
 
 abbrev Inv-loop : tie.InvT-loop
-Inv-loop x y z n total₀ i₀ total i = (i ≤ n) × (foldl plus total (drop i (heldIn x y z n)) ≡ foldl plus origin (heldIn x y z n))
+Inv-loop x y z n total₀ i₀ total i = (i ≤ n) × (fold plus total (drop i (heldIn x y z n)) ≡ fold plus origin (heldIn x y z n))
 
 abbrev μ-loop : tie.MeasureT-loop
 μ-loop x y z n total₀ i₀ total i = n - i
@@ -19,7 +19,7 @@ abbrev μ-loop : tie.MeasureT-loop
 loop-holds : tie.Need-loop-holds Inv-loop μ-loop
 loop-holds c =
     let a = c .before .before .before .before .args in
-    (search needs, ap (λ t. foldl plus t (heldIn (a .x .now) (a .y .now) (a .z .now) (a .n))) (c .new .ensures))
+    (search needs, ap (λ t. fold plus t (heldIn (a .x .now) (a .y .now) (a .z .now) (a .n))) (c .new .ensures))
 
 loop-again : tie.Need-loop-again Inv-loop μ-loop
 loop-again c =

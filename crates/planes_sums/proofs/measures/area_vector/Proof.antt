@@ -2,7 +2,7 @@ use Prim.Native.Nat.{_≤_, _-_}
 use native.Mathlib.Omega.{arith}
 use mathlib.Core.Path.{_≡_}
 use lib.ListN.{drop}
-use Rattle.arith.specs.Lists.{foldl, windows}
+use Rattle.arith.specs.Lists.{fold, windows}
 use Rattle.planes_crossings.specs.Work.{heldIn}
 use Rattle.planes_cut.proofs.Turns.{window-done}
 use Rattle.planes_crossings.proofs.HeldLaws.{held-window, held-past}
@@ -13,7 +13,7 @@ use Rattle.planes_sums.proofs.measures.area_vector.Statement.{statement
 use Rattle.planes_sums.proofs.measures.area_vector.Tie as tie
 
 abbrev Inv-loop : tie.InvT-loop
-Inv-loop x y z n o total₀ i₀ total i = (1 ≤ i) × (i ≤ n) × (foldl (addVector o) total (windows (drop i (heldIn x y z n))) ≡ vectorOf (heldIn x y z n))
+Inv-loop x y z n o total₀ i₀ total i = (1 ≤ i) × (i ≤ n) × (fold (addVector o) total (windows (drop i (heldIn x y z n))) ≡ vectorOf (heldIn x y z n))
 
 abbrev μ-loop : tie.MeasureT-loop
 μ-loop x y z n o total₀ i₀ total i = n - i
