@@ -131,7 +131,8 @@ fn copy_three(words: &[u8], first: usize, i: usize, j: usize, k: usize, out: &mu
     requires { ⌜ (first + i < length (wordsIn (now words))) × (first + j < length (wordsIn (now words)))
         × (first + k < length (wordsIn (now words))) × (length (now out) ≡ 8) ⌝ }
     ensures { λ _. ⌜ now (out .exit) ≡ puts (now (out .entry)) 0 (getD (wordsIn (now (words .entry))) (first + i) 0
-        ∷ getD (wordsIn (now (words .entry))) (first + j) 0 ∷ getD (wordsIn (now (words .entry))) (first + k) 0 ∷ []) ⌝ }
+        ∷ getD (wordsIn (now (words .entry))) (first + j) 0 ∷ getD (wordsIn (now (words .entry))) (first + k) 0
+        ∷ []) ⌝ }
 {
     out[0] = number_at(words, first, i);
     out[1] = number_at(words, first, j);
@@ -183,7 +184,8 @@ fn copy_list(words: &[u8], h: Head, c: FaceCursor, out: &mut [u32; 8]) -> Copied
 // Copies the point numbers of a face to the front of `out`. A record has none of the kinds from 6 on.
 pub fn copy_face(words: &[u8], h: Head, c: FaceCursor, out: &mut [u32; 8]) -> Copied
     requires { ⌜ Walker.AtFace (wordsIn (now words)) h c × (c .face < h .faces) × (length (now out) ≡ 8) ⌝ }
-    ensures { λ r. ⌜ Walker.FaceCopied (wordsIn (now (words .entry))) h c (now (out .entry)) (now (out .exit)) (r .count) (r .next) ⌝ }
+    ensures { λ r. ⌜ Walker.FaceCopied (wordsIn (now (words .entry))) h c (now (out .entry)) (now (out .exit))
+        (r .count) (r .next) ⌝ }
 {
     let kind = h.kind;
     match kind {

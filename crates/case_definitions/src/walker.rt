@@ -110,7 +110,8 @@ fn solid(words: &[u8], at: usize, kind: u32, numbers: usize, faces: usize) -> St
 // The position after n faces of a polyhedron.
 fn skip_faces(words: &[u8], first: usize, n: usize) -> Skipped
     requires { ⌜ first ≤ length (wordsIn (now words)) ⌝ }
-    ensures { λ r. ⌜ r ≡ Helpers.skipped (wordsIn (now (words .entry))) (faceLists n (drop first (wordsIn (now (words .entry))))) ⌝ }
+    ensures { λ r. ⌜ r ≡ Helpers.skipped (wordsIn (now (words .entry)))
+        (faceLists n (drop first (wordsIn (now (words .entry))))) ⌝ }
 {
     let mut at = first;
     let mut i = 0;

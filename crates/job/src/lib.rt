@@ -59,7 +59,10 @@ fn answer(
 ) -> usize
     requires { ⌜ Stands (now case) (now words) (now floats) place × (countsIn place .cells ≤ length (now marks)) ⌝ }
     requires { ⌜ (from + 128 ≤ length (now requests)) × (at + 2 + 2 * later ≤ length (now answers)) ⌝ }
-    ensures { λ r. ⌜ Told (answerTo (roomIn (now (case .entry)) (now (words .entry)) (now (floats .entry)) place) (length (now (answers .entry)) - at) later (wordsAt (now (requests .entry)) from)) (valuesOf (now (case .entry))) (now (marks .entry)) (now (marks .exit)) (now (answers .entry)) (now (answers .exit)) at later r ⌝ }
+    ensures { λ r. ⌜ Told (answerTo (roomIn (now (case .entry)) (now (words .entry)) (now (floats .entry)) place)
+        (length (now (answers .entry)) - at) later (wordsAt (now (requests .entry)) from))
+        (valuesOf (now (case .entry))) (now (marks .entry)) (now (marks .exit)) (now (answers .entry))
+        (now (answers .exit)) at later r ⌝ }
 {
     let q = request_of(is_flat(place), requests, from);
     let r = job_serve::serve(case, words, floats, place, marks, &mut answers[at + 2..], q);
@@ -78,7 +81,9 @@ fn serve_all(
 ) -> usize
     requires { ⌜ Stands (now case) (now words) (now floats) place × (countsIn place .cells ≤ length (now marks)) ⌝ }
     requires { ⌜ 2 * (length (now requests) / 128) ≤ length (now answers) ⌝ }
-    ensures { λ r. ⌜ Told (serveAll (roomIn (now (case .entry)) (now (words .entry)) (now (floats .entry)) place) (length (now (answers .entry))) (requestsIn (now (requests .entry)))) (valuesOf (now (case .entry))) (now (marks .entry)) (now (marks .exit)) (now (answers .entry)) (now (answers .exit)) 0 0 r ⌝ }
+    ensures { λ r. ⌜ Told (serveAll (roomIn (now (case .entry)) (now (words .entry)) (now (floats .entry)) place)
+        (length (now (answers .entry))) (requestsIn (now (requests .entry)))) (valuesOf (now (case .entry)))
+        (now (marks .entry)) (now (marks .exit)) (now (answers .entry)) (now (answers .exit)) 0 0 r ⌝ }
 {
     let count = requests.len() / 128;
     let mut at = 0;
@@ -113,7 +118,10 @@ fn run(
 )
     requires { ⌜ Stands (now case) (now words) (now floats) place × (countsIn place .cells ≤ length (now marks)) ⌝ }
     requires { ⌜ 2 * (length (now requests) / 128) ≤ length (now answers) ⌝ }
-    ensures { λ _. ⌜ Left (done (fine (serveAll (roomIn (now (case .entry)) (now (words .entry)) (now (floats .entry)) place) (length (now (answers .entry))) (requestsIn (now (requests .entry))))) (valuesOf (now (case .entry))) (countsIn place .cells) (now (answers .entry)) (now (marks .entry))) 0 (now (answers .exit)) (now (marks .exit)) ⌝ }
+    ensures { λ _. ⌜ Left (done (fine (serveAll (roomIn (now (case .entry)) (now (words .entry)) (now (floats .entry))
+        place) (length (now (answers .entry))) (requestsIn (now (requests .entry))))) (valuesOf (now (case .entry)))
+        (countsIn place .cells) (now (answers .entry)) (now (marks .entry))) 0 (now (answers .exit))
+        (now (marks .exit)) ⌝ }
 {
     clear_marks(marks, cells_of(place));
     let end = serve_all(case, requests, words, floats, place, marks, answers);

@@ -11,7 +11,8 @@ ghost use Rattle.job_buffers.specs.Placed.{Closed};
 // Stores the header at `at`: the refusal, or 0, and the count. Where the next answer goes.
 fn put_header(answers: &mut [u64], at: usize, refusal: u64, count: usize) -> usize
     requires { ⌜ at + 2 + count ≤ length (now answers) ⌝ }
-    ensures { λ r. ⌜ (r ≡ at + 2 + count) × (now (answers .exit) ≡ set (set (now (answers .entry)) at refusal) (at + 1) count) ⌝ }
+    ensures { λ r. ⌜ (r ≡ at + 2 + count)
+        × (now (answers .exit) ≡ set (set (now (answers .entry)) at refusal) (at + 1) count) ⌝ }
 {
     answers[at] = refusal;
     answers[at + 1] = count as u64;
@@ -51,7 +52,8 @@ pub fn clear_marks(marks: &mut [u8], cells: usize)
 // Zeros from `at` on.
 pub fn clear_from(answers: &mut [u64], at: usize)
     requires { ⌜ at ≤ length (now answers) ⌝ }
-    ensures { λ _. ⌜ now (answers .exit) ≡ take at (now (answers .entry)) ++ replicate (length (now (answers .entry)) - at) 0 ⌝ }
+    ensures { λ _. ⌜ now (answers .exit) ≡ take at (now (answers .entry)) ++ replicate
+        (length (now (answers .entry)) - at) 0 ⌝ }
 {
     let mut i = at;
     while i < answers.len() {

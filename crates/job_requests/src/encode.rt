@@ -8,7 +8,8 @@ ghost use Rattle.job_requests.specs.Encode.{wordBytes, bytesOf};
 // Stores the eight bytes of `w` at `at`.
 fn put_word(bytes: &mut [u8], at: usize, w: u64)
     requires { ⌜ at + 8 ≤ length (now bytes) ⌝ }
-    ensures { λ _. ⌜ (take (at + 8) (now (bytes .exit)) ≡ take at (now (bytes .entry)) ++ wordBytes w) × (length (now (bytes .exit)) ≡ length (now (bytes .entry))) ⌝ }
+    ensures { λ _. ⌜ (take (at + 8) (now (bytes .exit)) ≡ take at (now (bytes .entry)) ++ wordBytes w)
+        × (length (now (bytes .exit)) ≡ length (now (bytes .entry))) ⌝ }
 {
     let mut k = 0;
     let mut left = w;

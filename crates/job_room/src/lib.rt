@@ -33,7 +33,9 @@ pub enum Prepared {
 // The field of a 2D mesh; a 3D one needs none.
 fn add_field(case: &[u8], n: Counts, s: Sizes, words: &mut [u32], floats: &mut [f64]) -> Prepared
     requires { ⌜ FieldReady (now case) n s (now words) (now floats) ⌝ }
-    ensures { λ r. ⌜ Preparing (Room.roomFrom (n .dimension) (meshIn (pointsIn (now (case .entry)) (n .points)) s (now (words .entry)) (now (floats .entry)))) (now (case .entry)) (now (words .exit)) (now (floats .exit)) r ⌝ }
+    ensures { λ r. ⌜ Preparing (Room.roomFrom (n .dimension)
+        (meshIn (pointsIn (now (case .entry)) (n .points)) s (now (words .entry)) (now (floats .entry))))
+        (now (case .entry)) (now (words .exit)) (now (floats .exit)) r ⌝ }
 {
     if n.dimension != 2 {
         return Prepared::Ready(Place::Solid(n, s));
@@ -53,7 +55,9 @@ fn build_room(
     floats: &mut [f64],
 ) -> Prepared
     requires { ⌜ Buildable (now case) n faces (now words) (now floats) ⌝ }
-    ensures { λ r. ⌜ ((defs : List Definition) → definitions (n .cells) (wordsOf (now (case .entry)) n) ≡ fine defs → Preparing (Room.roomOf (now (case .entry)) (record { counts = n; definitions = defs })) (now (case .entry)) (now (words .exit)) (now (floats .exit)) r) ⌝ }
+    ensures { λ r. ⌜ ((defs : List Definition) → definitions (n .cells) (wordsOf (now (case .entry)) n) ≡ fine defs
+        → Preparing (Room.roomOf (now (case .entry)) (record { counts = n; definitions = defs })) (now (case .entry))
+        (now (words .exit)) (now (floats .exit)) r) ⌝ }
 {
     match mesh::build(case, n, faces, words, floats) {
         mesh::Built::Refused(k) => Prepared::Refused(k),
@@ -82,7 +86,8 @@ fn shortage(
     answers: usize,
 ) -> u64
     requires { ⌜ (faces ≤ 1048576) × (n .cells ≤ 16384) ⌝ }
-    ensures { λ r. ⌜ Shortage n faces requests (record { words = words; floats = floats; marks = marks; answers = answers }) r ⌝ }
+    ensures { λ r. ⌜ Shortage n faces requests
+        (record { words = words; floats = floats; marks = marks; answers = answers }) r ⌝ }
 {
     if words < 16 * faces + 96 * n.cells {
         return 4;
@@ -111,7 +116,14 @@ pub fn prepare(
     requests: usize,
     answers: usize,
 ) -> Prepared
-    ensures { λ r. ⌜ Preparing (Room.prepared (now (case .entry)) requests (record { words = length (now (words .entry)); floats = length (now (floats .entry)); marks = marks; answers = answers })) (now (case .entry)) (now (words .exit)) (now (floats .exit)) r ⌝ }
+    ensures { λ r. ⌜ Preparing (Room.prepared (now (case .entry)) requests
+        (record {
+          words = length (now (words .entry));
+          floats = length (now (floats .entry));
+          marks = marks;
+          answers =
+              answers;
+        })) (now (case .entry)) (now (words .exit)) (now (floats .exit)) r ⌝ }
 {
     match mesh::survey(case) {
         Surveyed::Refused(k) => Prepared::Refused(k),

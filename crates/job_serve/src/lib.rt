@@ -66,7 +66,8 @@ fn put_velocity(r: Vector, out: &mut [u64])
 
 // How many words, or the refusal.
 fn answered(r: Traced) -> Answered
-    ensures { λ a. ⌜ ((j : Result (Asks (List ℕ))) (f : ℕ → Values) → resultOf r ≡ countOf j f → a ≡ answeredOf (run (Serve.decided j) f)) ⌝ }
+    ensures { λ a. ⌜ ((j : Result (Asks (List ℕ))) (f : ℕ → Values) → resultOf r ≡ countOf j f → a ≡ answeredOf
+        (run (Serve.decided j) f)) ⌝ }
 {
     match r {
         Traced::Words(k) => Answered::Words(k),
@@ -84,7 +85,9 @@ fn serve_locate(
     p: Vec3,
 ) -> Answered
     requires { ⌜ LentWords s (now words) × LentFloats s (now floats) × Searchable g s (now words) (now floats) ⌝ }
-    ensures { λ r. ⌜ ((f : ℕ → Values) (m : List ℕ) → Replied (Serve.serveFlat (fieldIn g s (now (words .entry)) (now (floats .entry))) (Code.Locate p)) f (now (out .entry)) r (now (out .entry)) (now (out .exit)) m m) ⌝ }
+    ensures { λ r. ⌜ ((f : ℕ → Values) (m : List ℕ) → Replied
+        (Serve.serveFlat (fieldIn g s (now (words .entry)) (now (floats .entry))) (Code.Locate p)) f (now (out .entry))
+        r (now (out .entry)) (now (out .exit)) m m) ⌝ }
 {
     put_found(lines_locate::locate_cell(words, floats, s, g, p), out);
     Answered::Words(1)
@@ -103,7 +106,9 @@ fn serve_velocity(
     p: Vec3,
 ) -> Answered
     requires { ⌜ Tracer.Ready (now case) n (now words) (now floats) s g ⌝ }
-    ensures { λ r. ⌜ Replied (Serve.serveFlat (fieldIn g s (now (words .entry)) (now (floats .entry))) (Code.Velocity p)) (valuesOf (now (case .entry))) (now (out .entry)) r (now (out .entry)) (now (out .exit)) (now (marks .entry)) (now (marks .exit)) ⌝ }
+    ensures { λ r. ⌜ Replied (Serve.serveFlat (fieldIn g s (now (words .entry)) (now (floats .entry)))
+        (Code.Velocity p)) (valuesOf (now (case .entry))) (now (out .entry)) r (now (out .entry)) (now (out .exit))
+        (now (marks .entry)) (now (marks .exit)) ⌝ }
 {
     let v = interpolate::velocity_at(case, n, words, floats, s, g, marks, p);
     put_velocity(v, out);
@@ -126,7 +131,9 @@ fn serve_streamline(
 ) -> Answered
     requires { ⌜ Tracer.Ready (now case) n (now words) (now floats) s g ⌝ }
     requires { ⌜ options .«max_steps» ≤ 65536 ⌝ }
-    ensures { λ r. ⌜ Replied (Serve.serveFlat (fieldIn g s (now (words .entry)) (now (floats .entry))) (Code.Streamline p d options)) (valuesOf (now (case .entry))) (now (out .entry)) r (now (out .entry)) (now (out .exit)) (now (marks .entry)) (now (marks .exit)) ⌝ }
+    ensures { λ r. ⌜ Replied (Serve.serveFlat (fieldIn g s (now (words .entry)) (now (floats .entry)))
+        (Code.Streamline p d options)) (valuesOf (now (case .entry))) (now (out .entry)) r (now (out .entry))
+        (now (out .exit)) (now (marks .entry)) (now (marks .exit)) ⌝ }
 {
     let t = integrate::integrate(case, n, words, floats, s, g, marks, out, p, d, options);
     answered(t)
@@ -150,7 +157,9 @@ fn serve_rake(
 ) -> Answered
     requires { ⌜ Tracer.Ready (now case) n (now words) (now floats) s g ⌝ }
     requires { ⌜ (2 ≤ count) × (count ≤ 64) × (options .«max_steps» ≤ 65536) ⌝ }
-    ensures { λ r. ⌜ Replied (Serve.serveFlat (fieldIn g s (now (words .entry)) (now (floats .entry))) (Code.Rake a b count d options)) (valuesOf (now (case .entry))) (now (out .entry)) r (now (out .entry)) (now (out .exit)) (now (marks .entry)) (now (marks .exit)) ⌝ }
+    ensures { λ r. ⌜ Replied (Serve.serveFlat (fieldIn g s (now (words .entry)) (now (floats .entry)))
+        (Code.Rake a b count d options)) (valuesOf (now (case .entry))) (now (out .entry)) r (now (out .entry))
+        (now (out .exit)) (now (marks .entry)) (now (marks .exit)) ⌝ }
 {
     let t = rake::integrate_rake(
         case,
@@ -184,7 +193,9 @@ fn serve_flat(
 ) -> Answered
     requires { ⌜ Tracer.Ready (now case) n (now words) (now floats) s g ⌝ }
     requires { ⌜ Allowed q ⌝ }
-    ensures { λ r. ⌜ Replied (Serve.serveFlat (fieldIn g s (now (words .entry)) (now (floats .entry))) q) (valuesOf (now (case .entry))) (now (out .entry)) r (now (out .entry)) (now (out .exit)) (now (marks .entry)) (now (marks .exit)) ⌝ }
+    ensures { λ r. ⌜ Replied (Serve.serveFlat (fieldIn g s (now (words .entry)) (now (floats .entry))) q)
+        (valuesOf (now (case .entry))) (now (out .entry)) r (now (out .entry)) (now (out .exit)) (now (marks .entry))
+        (now (marks .exit)) ⌝ }
 {
     match q {
         Request::Refused(k) => Answered::Refused(k),
@@ -211,7 +222,11 @@ fn serve_solid(
     q: Request,
 ) -> Answered
     requires { ⌜ Planes.Ready (now case) n s (now words) (now marks) ⌝ }
-    ensures { λ r. ⌜ ((floats : List Float) → Replied (Serve.serveSolid (meshIn (pointsIn (now (case .entry)) (n .points)) s (now (words .entry)) floats) q) (valuesOf (now (case .entry))) (leftUnder (solid (meshIn (pointsIn (now (case .entry)) (n .points)) s (now (words .entry)) floats)) q (valuesOf (now (case .entry))) (now (out .entry))) r (now (out .entry)) (now (out .exit)) (now (marks .entry)) (now (marks .exit))) ⌝ }
+    ensures { λ r. ⌜ ((floats : List Float) → Replied
+        (Serve.serveSolid (meshIn (pointsIn (now (case .entry)) (n .points)) s (now (words .entry)) floats) q)
+        (valuesOf (now (case .entry))) (leftUnder (solid (meshIn (pointsIn (now (case .entry)) (n .points)) s
+        (now (words .entry)) floats)) q (valuesOf (now (case .entry))) (now (out .entry))) r (now (out .entry))
+        (now (out .exit)) (now (marks .entry)) (now (marks .exit))) ⌝ }
 {
     match q {
         Request::Refused(k) => Answered::Refused(k),
@@ -235,8 +250,12 @@ pub fn serve(
     out: &mut [u64],
     q: Request,
 ) -> Answered
-    requires { ⌜ Stands (now case) (now words) (now floats) place × (countsIn place .cells ≤ length (now marks)) × Allowed q ⌝ }
-    ensures { λ r. ⌜ Replied (Serve.serve (roomIn (now (case .entry)) (now (words .entry)) (now (floats .entry)) place) q) (valuesOf (now (case .entry))) (leftUnder (roomIn (now (case .entry)) (now (words .entry)) (now (floats .entry)) place) q (valuesOf (now (case .entry))) (now (out .entry))) r (now (out .entry)) (now (out .exit)) (now (marks .entry)) (now (marks .exit)) ⌝ }
+    requires { ⌜ Stands (now case) (now words) (now floats) place × (countsIn place .cells ≤ length (now marks))
+        × Allowed q ⌝ }
+    ensures { λ r. ⌜ Replied (Serve.serve (roomIn (now (case .entry)) (now (words .entry)) (now (floats .entry)) place)
+        q) (valuesOf (now (case .entry))) (leftUnder (roomIn (now (case .entry)) (now (words .entry))
+        (now (floats .entry)) place) q (valuesOf (now (case .entry))) (now (out .entry))) r (now (out .entry))
+        (now (out .exit)) (now (marks .entry)) (now (marks .exit)) ⌝ }
 {
     match place {
         Place::Flat(n, s, g) => serve_flat(case, words, floats, n, s, g, marks, out, q),

@@ -73,7 +73,9 @@ pub fn integrate(
 ) -> Traced
     requires { ⌜ Ready (now case) n (now words) (now floats) s g ⌝ }
     requires { ⌜ options .«max_steps» ≤ 65536 ⌝ }
-    ensures { λ r. ⌜ Answered (Line.integrate (fieldIn g s (now (words .entry)) (now (floats .entry))) seed d options) (valuesOf (now (case .entry))) (now (marks .entry)) (now (marks .exit)) (now (out .entry)) (now (out .exit)) r ⌝ }
+    ensures { λ r. ⌜ Answered (Line.integrate (fieldIn g s (now (words .entry)) (now (floats .entry))) seed d options)
+        (valuesOf (now (case .entry))) (now (marks .entry)) (now (marks .exit)) (now (out .entry)) (now (out .exit))
+        r ⌝ }
 {
     if are_good(options) {
         if is_nowhere(words, floats, s, g, seed) {

@@ -32,7 +32,9 @@ fn points_after(
 ) -> usize
     requires { ⌜ Ready (now case) n (now words) (now floats) s g ⌝ }
     requires { ⌜ (at ≤ 16777216) × (options .«max_steps» ≤ 65536) ⌝ }
-    ensures { λ r. ⌜ Drawn (Line.lineFrom (fieldIn g s (now (words .entry)) (now (floats .entry))) options h (options .«max_steps») seed 0·0) (valuesOf (now (case .entry))) (now (marks .entry)) (now (marks .exit)) (now (out .entry)) (now (out .exit)) at r × (r ≤ options .«max_steps») ⌝ }
+    ensures { λ r. ⌜ Drawn (Line.lineFrom (fieldIn g s (now (words .entry)) (now (floats .entry))) options h
+        (options .«max_steps») seed 0·0) (valuesOf (now (case .entry))) (now (marks .entry)) (now (marks .exit))
+        (now (out .entry)) (now (out .exit)) at r × (r ≤ options .«max_steps») ⌝ }
 {
     let most = options.max_steps;
     let mut total = 0.0;
@@ -82,7 +84,9 @@ pub fn trace(
 ) -> usize
     requires { ⌜ Ready (now case) n (now words) (now floats) s g ⌝ }
     requires { ⌜ (at ≤ 16000000) × (options .«max_steps» ≤ 65536) ⌝ }
-    ensures { λ r. ⌜ Written (Line.lineAnswer (fieldIn g s (now (words .entry)) (now (floats .entry))) options d seed) (valuesOf (now (case .entry))) (now (marks .entry)) (now (marks .exit)) (now (out .entry)) (now (out .exit)) at r × (r ≤ 196612) ⌝ }
+    ensures { λ r. ⌜ Written (Line.lineAnswer (fieldIn g s (now (words .entry)) (now (floats .entry))) options d seed)
+        (valuesOf (now (case .entry))) (now (marks .entry)) (now (marks .exit)) (now (out .entry)) (now (out .exit)) at
+        r × (r ≤ 196612) ⌝ }
 {
     let h = options.step_size * sign(d);
     answers::put_vec(out, at + 1, seed);

@@ -41,7 +41,8 @@ fn any_nowhere(
 ) -> bool
     requires { ⌜ LentWords s (now words) × LentFloats s (now floats) × Searchable g s (now words) (now floats) ⌝ }
     requires { ⌜ (2 ≤ count) × (count ≤ 64) ⌝ }
-    ensures { λ r. ⌜ r ≡ anyOf (nowhere (fieldIn g s (now (words .entry)) (now (floats .entry)))) (Rake.seeds start end count) ⌝ }
+    ensures { λ r. ⌜ r ≡ anyOf (nowhere (fieldIn g s (now (words .entry)) (now (floats .entry))))
+        (Rake.seeds start end count) ⌝ }
 {
     let mut i = 0;
     while i < count {
@@ -71,7 +72,9 @@ fn trace_all(
 ) -> usize
     requires { ⌜ Ready (now case) n (now words) (now floats) s g ⌝ }
     requires { ⌜ (2 ≤ count) × (count ≤ 64) × (options .«max_steps» ≤ 65536) ⌝ }
-    ensures { λ r. ⌜ Written (Rake.linesWords (fieldIn g s (now (words .entry)) (now (floats .entry))) options d (Rake.seeds start end count)) (valuesOf (now (case .entry))) (now (marks .entry)) (now (marks .exit)) (now (out .entry)) (now (out .exit)) 1 r × (r ≤ 12583168) ⌝ }
+    ensures { λ r. ⌜ Written (Rake.linesWords (fieldIn g s (now (words .entry)) (now (floats .entry))) options d
+        (Rake.seeds start end count)) (valuesOf (now (case .entry))) (now (marks .entry)) (now (marks .exit))
+        (now (out .entry)) (now (out .exit)) 1 r × (r ≤ 12583168) ⌝ }
 {
     let mut written = 0;
     let mut i = 0;
@@ -115,7 +118,9 @@ pub fn integrate_rake(
 ) -> Traced
     requires { ⌜ Ready (now case) n (now words) (now floats) s g ⌝ }
     requires { ⌜ (2 ≤ count) × (count ≤ 64) × (options .«max_steps» ≤ 65536) ⌝ }
-    ensures { λ r. ⌜ Answered (Rake.integrateRake (fieldIn g s (now (words .entry)) (now (floats .entry))) start end count d options) (valuesOf (now (case .entry))) (now (marks .entry)) (now (marks .exit)) (now (out .entry)) (now (out .exit)) r ⌝ }
+    ensures { λ r. ⌜ Answered (Rake.integrateRake (fieldIn g s (now (words .entry)) (now (floats .entry))) start end
+        count d options) (valuesOf (now (case .entry))) (now (marks .entry)) (now (marks .exit)) (now (out .entry))
+        (now (out .exit)) r ⌝ }
 {
     if integrate::are_good(options) {
         if any_nowhere(words, floats, s, g, start, end, count) {

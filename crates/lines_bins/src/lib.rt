@@ -24,7 +24,8 @@ pub fn pool(words: &[u32], base: usize, n: usize, p: usize) -> usize
 }
 
 fn set_pool(words: &mut [u32], base: usize, n: usize, p: usize, v: usize)
-    requires { ⌜ (base + 88 * n ≤ length (now words)) × (base ≤ 16908288) × (n ≤ 16384) × (p < 72 * n) × (v < 4294967296) ⌝ }
+    requires { ⌜ (base + 88 * n ≤ length (now words)) × (base ≤ 16908288) × (n ≤ 16384) × (p < 72 * n)
+        × (v < 4294967296) ⌝ }
     ensures { λ _. ⌜ PoolSet (now (words .entry)) (now (words .exit)) base n p v ⌝ }
 {
     words[base + 8 * n + 1 + p] = narrow(v);
@@ -47,7 +48,8 @@ fn set_flag(words: &mut [u32], base: usize, n: usize, v: u32)
 
 // A node for a cell, before the others of its bin.
 fn push(words: &mut [u32], base: usize, n: usize, bin: usize, cell: usize, top: usize)
-    requires { ⌜ (base + 88 * n ≤ length (now words)) × (base ≤ 16908288) × (n ≤ 16384) × (top + 2 ≤ 72 * n) × (bin < top) × (cell < n) ⌝ }
+    requires { ⌜ (base + 88 * n ≤ length (now words)) × (base ≤ 16908288) × (n ≤ 16384) × (top + 2 ≤ 72 * n)
+        × (bin < top) × (cell < n) ⌝ }
     ensures { λ _. ⌜ Pushed (now (words .entry)) (now (words .exit)) base n bin cell top ⌝ }
 {
     let old = pool(words, base, n, bin);

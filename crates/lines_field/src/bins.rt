@@ -93,7 +93,8 @@ pub fn grid_for(b: Box, n: Bin) -> Built
 
 // Stores two bins from `at` on.
 fn put_bins(words: &mut [u32], at: usize, first: Bin, last: Bin)
-    requires { ⌜ (at + 4 ≤ length (now words)) × (first .x < 65536) × (first .y < 65536) × (last .x < 65536) × (last .y < 65536) ⌝ }
+    requires { ⌜ (at + 4 ≤ length (now words)) × (first .x < 65536) × (first .y < 65536) × (last .x < 65536)
+        × (last .y < 65536) ⌝ }
     ensures { λ _. ⌜ now (words .exit) ≡ puts (now (words .entry)) at (first .x ∷ first .y ∷ last .x ∷ last .y ∷ []) ⌝ }
 {
     words[at] = first.x as u32;
@@ -134,7 +135,8 @@ fn list_cell(words: &mut [u32], floats: &[f64], s: Sizes, g: Grid, i: usize)
 // Lists every cell.
 fn list_cells(words: &mut [u32], floats: &[f64], s: Sizes, g: Grid)
     requires { ⌜ LentWords s (now words) × LentFloats s (now floats) × Binned g ⌝ }
-    ensures { λ _. ⌜ (cellPolygonsIn s (now (words .exit)) (now (floats .entry)) ≡ map (listedIn g) (polygonsIn s (now (words .entry)) (now (floats .entry))))
+    ensures { λ _. ⌜ (cellPolygonsIn s (now (words .exit)) (now (floats .entry)) ≡ map (listedIn g)
+        (polygonsIn s (now (words .entry)) (now (floats .entry))))
         × (take (wordsEnd s) (now (words .exit)) ≡ take (wordsEnd s) (now (words .entry))) ⌝ }
 {
     let mut i = 0;
@@ -147,7 +149,8 @@ fn list_cells(words: &mut [u32], floats: &[f64], s: Sizes, g: Grid)
 // Lists every cell, and builds the index of the bins.
 pub fn index_cells(words: &mut [u32], floats: &[f64], s: Sizes, g: Grid)
     requires { ⌜ LentWords s (now words) × LentFloats s (now floats) × Binned g × Limited s (now words) (now floats) ⌝ }
-    ensures { λ _. ⌜ (cellPolygonsIn s (now (words .exit)) (now (floats .entry)) ≡ map (listedIn g) (polygonsIn s (now (words .entry)) (now (floats .entry))))
+    ensures { λ _. ⌜ (cellPolygonsIn s (now (words .exit)) (now (floats .entry)) ≡ map (listedIn g)
+        (polygonsIn s (now (words .entry)) (now (floats .entry))))
         × (take (wordsEnd s) (now (words .exit)) ≡ take (wordsEnd s) (now (words .entry)))
         × Searchable g s (now (words .exit)) (now (floats .entry)) ⌝ }
 {

@@ -33,8 +33,10 @@ fn angles_about(
     quarters: &mut [u64],
     slopes: &mut [f64],
 )
-    requires { ⌜ (n ≤ 24) × (length (now xs) ≡ 24) × (length (now ys) ≡ 24) × (length (now quarters) ≡ 24) × (length (now slopes) ≡ 24) ⌝ }
-    ensures { λ _. ⌜ AnglesAbout centre (now (xs .entry)) (now (ys .entry)) (now (quarters .exit)) (now (slopes .exit)) n ⌝ }
+    requires { ⌜ (n ≤ 24) × (length (now xs) ≡ 24) × (length (now ys) ≡ 24) × (length (now quarters) ≡ 24)
+        × (length (now slopes) ≡ 24) ⌝ }
+    ensures { λ _. ⌜ AnglesAbout centre (now (xs .entry)) (now (ys .entry)) (now (quarters .exit)) (now (slopes .exit))
+        n ⌝ }
 {
     let mut k = 0;
     while k < n {
@@ -51,7 +53,8 @@ fn angles_about(
 // The places of the first n points in angle order about a centre.
 fn sort_corners(xs: &[f64], ys: &[f64], n: usize, centre: Vec3, places: &mut [usize])
     requires { ⌜ (n ≤ 24) × (length (now xs) ≡ 24) × (length (now ys) ≡ 24) × (length (now places) ≡ 24) ⌝ }
-    ensures { λ _. ⌜ (map (cornerIn (now (xs .entry)) (now (ys .entry))) (take n (now (places .exit))) ≡ Lists.sort (turnsAbout centre) (cornersIn (now (xs .entry)) (now (ys .entry)) n))
+    ensures { λ _. ⌜ (map (cornerIn (now (xs .entry)) (now (ys .entry))) (take n (now (places .exit))) ≡ Lists.sort
+        (turnsAbout centre) (cornersIn (now (xs .entry)) (now (ys .entry)) n))
         × ((k : ℕ) → k < n → getD (now (places .exit)) k 0 < n) ⌝ }
 {
     let mut quarters = [0u64; 24];
@@ -62,8 +65,10 @@ fn sort_corners(xs: &[f64], ys: &[f64], n: usize, centre: Vec3, places: &mut [us
 
 // Stores the points at their places, as x and y from `at` on.
 fn store_corners(floats: &mut [f64], at: usize, xs: &[f64], ys: &[f64], places: &[usize], n: usize)
-    requires { ⌜ (at + 48 ≤ length (now floats)) × (n ≤ 24) × (length (now xs) ≡ 24) × (length (now ys) ≡ 24) × (length (now places) ≡ 24) × ((k : ℕ) → k < n → getD (now places) k 0 < n) ⌝ }
-    ensures { λ _. ⌜ (pairsFrom (now (floats .exit)) at n ≡ map (cornerIn (now (xs .entry)) (now (ys .entry))) (take n (now (places .entry))))
+    requires { ⌜ (at + 48 ≤ length (now floats)) × (n ≤ 24) × (length (now xs) ≡ 24) × (length (now ys) ≡ 24)
+        × (length (now places) ≡ 24) × ((k : ℕ) → k < n → getD (now places) k 0 < n) ⌝ }
+    ensures { λ _. ⌜ (pairsFrom (now (floats .exit)) at n ≡ map (cornerIn (now (xs .entry)) (now (ys .entry)))
+        (take n (now (places .entry))))
         × (take at (now (floats .exit)) ≡ take at (now (floats .entry))) ⌝ }
 {
     let mut k = 0;
@@ -88,10 +93,14 @@ fn polygon(
     ys: &mut [f64],
     places: &mut [usize],
 ) -> usize
-    requires { ⌜ (points ≤ 65536) × (24 * points ≤ length (now case)) × LentWords s (now words) × LentFloats s (now floats) ⌝ }
+    requires { ⌜ (points ≤ 65536) × (24 * points ≤ length (now case)) × LentWords s (now words)
+        × LentFloats s (now floats) ⌝ }
     requires { ⌜ (length (now xs) ≡ 24) × (length (now ys) ≡ 24) × (length (now places) ≡ 24) ⌝ }
-    requires { ⌜ length (cornersOf (meshIn (pointsIn (now case) points) s (now words) (now floats)) (cellAt (cellsIn s (now words) (now floats)) i)) ≤ 24 ⌝ }
-    ensures { λ r. ⌜ Placed (polygonOf (meshIn (pointsIn (now (case .entry)) points) s (now (words .entry)) (now (floats .entry))) (cellAt (cellsIn s (now (words .entry)) (now (floats .entry))) i)) (now (xs .exit)) (now (ys .exit)) (now (places .exit)) r ⌝ }
+    requires { ⌜ length (cornersOf (meshIn (pointsIn (now case) points) s (now words) (now floats))
+        (cellAt (cellsIn s (now words) (now floats)) i)) ≤ 24 ⌝ }
+    ensures { λ r. ⌜ Placed (polygonOf (meshIn (pointsIn (now (case .entry)) points) s (now (words .entry))
+        (now (floats .entry))) (cellAt (cellsIn s (now (words .entry)) (now (floats .entry))) i)) (now (xs .exit))
+        (now (ys .exit)) (now (places .exit)) r ⌝ }
 {
     let n = corners::corners(case, points, words, s, i, xs, ys);
     sort_corners(xs, ys, n, mesh_area::centre_of(floats, s, i), places);
@@ -110,8 +119,10 @@ fn store_polygon(
     n: usize,
 )
     requires { ⌜ LentWords s (now words) × LentFloats s (now floats) × (i < s .cells) ⌝ }
-    requires { ⌜ (length (now xs) ≡ 24) × (length (now ys) ≡ 24) × (length (now places) ≡ 24) × (n ≤ 24) × ((k : ℕ) → k < n → getD (now places) k 0 < n) ⌝ }
-    ensures { λ _. ⌜ Stored (map (cornerIn (now (xs .entry)) (now (ys .entry))) (take n (now (places .entry)))) s (now (words .entry)) (now (words .exit)) (now (floats .entry)) (now (floats .exit)) i ⌝ }
+    requires { ⌜ (length (now xs) ≡ 24) × (length (now ys) ≡ 24) × (length (now places) ≡ 24) × (n ≤ 24)
+        × ((k : ℕ) → k < n → getD (now places) k 0 < n) ⌝ }
+    ensures { λ _. ⌜ Stored (map (cornerIn (now (xs .entry)) (now (ys .entry))) (take n (now (places .entry)))) s
+        (now (words .entry)) (now (words .exit)) (now (floats .entry)) (now (floats .exit)) i ⌝ }
 {
     store_corners(floats, lines_locate::floats_at(s, i), xs, ys, places, n);
     let at = lines_locate::words_at(s, i);
@@ -127,9 +138,13 @@ fn put_polygon(
     s: Sizes,
     i: usize,
 )
-    requires { ⌜ (points ≤ 65536) × (24 * points ≤ length (now case)) × LentWords s (now words) × LentFloats s (now floats) × (i < s .cells) ⌝ }
-    requires { ⌜ length (cornersOf (meshIn (pointsIn (now case) points) s (now words) (now floats)) (cellAt (cellsIn s (now words) (now floats)) i)) ≤ 24 ⌝ }
-    ensures { λ _. ⌜ Stored (polygonOf (meshIn (pointsIn (now (case .entry)) points) s (now (words .entry)) (now (floats .entry))) (cellAt (cellsIn s (now (words .entry)) (now (floats .entry))) i)) s (now (words .entry)) (now (words .exit)) (now (floats .entry)) (now (floats .exit)) i ⌝ }
+    requires { ⌜ (points ≤ 65536) × (24 * points ≤ length (now case)) × LentWords s (now words)
+        × LentFloats s (now floats) × (i < s .cells) ⌝ }
+    requires { ⌜ length (cornersOf (meshIn (pointsIn (now case) points) s (now words) (now floats))
+        (cellAt (cellsIn s (now words) (now floats)) i)) ≤ 24 ⌝ }
+    ensures { λ _. ⌜ Stored (polygonOf (meshIn (pointsIn (now (case .entry)) points) s (now (words .entry))
+        (now (floats .entry))) (cellAt (cellsIn s (now (words .entry)) (now (floats .entry))) i)) s (now (words .entry))
+        (now (words .exit)) (now (floats .entry)) (now (floats .exit)) i ⌝ }
 {
     let mut xs = [0.0; 24];
     let mut ys = [0.0; 24];
@@ -150,9 +165,11 @@ fn put_polygon(
 
 // Stores the polygons of all cells.
 fn put_polygons(case: &[u8], points: usize, words: &mut [u32], floats: &mut [f64], s: Sizes)
-    requires { ⌜ (points ≤ 65536) × (24 * points ≤ length (now case)) × LentWords s (now words) × LentFloats s (now floats) ⌝ }
+    requires { ⌜ (points ≤ 65536) × (24 * points ≤ length (now case)) × LentWords s (now words)
+        × LentFloats s (now floats) ⌝ }
     requires { ⌜ Few (meshIn (pointsIn (now case) points) s (now words) (now floats)) ⌝ }
-    ensures { λ _. ⌜ (polygonsIn s (now (words .exit)) (now (floats .exit)) ≡ polygonsOf (meshIn (pointsIn (now (case .entry)) points) s (now (words .entry)) (now (floats .entry))))
+    ensures { λ _. ⌜ (polygonsIn s (now (words .exit)) (now (floats .exit)) ≡ polygonsOf
+        (meshIn (pointsIn (now (case .entry)) points) s (now (words .entry)) (now (floats .entry))))
         × Kept s (now (words .entry)) (now (words .exit)) (now (floats .entry)) (now (floats .exit)) ⌝ }
 {
     let mut i = 0;
@@ -185,7 +202,8 @@ fn limit_cell(words: &[u32], floats: &mut [f64], s: Sizes, i: usize)
 // Stores the limits of every polygon with it.
 fn limit_cells(words: &[u32], floats: &mut [f64], s: Sizes)
     requires { ⌜ LentWords s (now words) × LentFloats s (now floats) ⌝ }
-    ensures { λ _. ⌜ (polygonsIn s (now (words .entry)) (now (floats .exit)) ≡ polygonsIn s (now (words .entry)) (now (floats .entry)))
+    ensures { λ _. ⌜ (polygonsIn s (now (words .entry)) (now (floats .exit)) ≡ polygonsIn s (now (words .entry))
+        (now (floats .entry)))
         × (take (floatsEnd s) (now (floats .exit)) ≡ take (floatsEnd s) (now (floats .entry)))
         × Limited s (now (words .entry)) (now (floats .exit)) ⌝ }
 {
@@ -198,9 +216,11 @@ fn limit_cells(words: &[u32], floats: &mut [f64], s: Sizes)
 
 // Stores the polygons of all cells, with their limits.
 fn put_cells(case: &[u8], points: usize, words: &mut [u32], floats: &mut [f64], s: Sizes)
-    requires { ⌜ (points ≤ 65536) × (24 * points ≤ length (now case)) × LentWords s (now words) × LentFloats s (now floats) ⌝ }
+    requires { ⌜ (points ≤ 65536) × (24 * points ≤ length (now case)) × LentWords s (now words)
+        × LentFloats s (now floats) ⌝ }
     requires { ⌜ Few (meshIn (pointsIn (now case) points) s (now words) (now floats)) ⌝ }
-    ensures { λ _. ⌜ (polygonsIn s (now (words .exit)) (now (floats .exit)) ≡ polygonsOf (meshIn (pointsIn (now (case .entry)) points) s (now (words .entry)) (now (floats .entry))))
+    ensures { λ _. ⌜ (polygonsIn s (now (words .exit)) (now (floats .exit)) ≡ polygonsOf
+        (meshIn (pointsIn (now (case .entry)) points) s (now (words .entry)) (now (floats .entry))))
         × Kept s (now (words .entry)) (now (words .exit)) (now (floats .entry)) (now (floats .exit))
         × Limited s (now (words .exit)) (now (floats .exit)) ⌝ }
 {
@@ -216,9 +236,11 @@ pub fn from_dataset(
     floats: &mut [f64],
     s: Sizes,
 ) -> Built
-    requires { ⌜ (points ≤ 65536) × (24 * points ≤ length (now case)) × LentWords s (now words) × LentFloats s (now floats) ⌝ }
+    requires { ⌜ (points ≤ 65536) × (24 * points ≤ length (now case)) × LentWords s (now words)
+        × LentFloats s (now floats) ⌝ }
     requires { ⌜ Few (meshIn (pointsIn (now case) points) s (now words) (now floats)) ⌝ }
-    ensures { λ r. ⌜ Traceable (meshIn (pointsIn (now (case .entry)) points) s (now (words .entry)) (now (floats .entry))) s (now (words .exit)) (now (floats .exit)) r
+    ensures { λ r. ⌜ Traceable (meshIn (pointsIn (now (case .entry)) points) s (now (words .entry))
+        (now (floats .entry))) s (now (words .exit)) (now (floats .exit)) r
         × Kept s (now (words .entry)) (now (words .exit)) (now (floats .entry)) (now (floats .exit)) ⌝ }
 {
     put_cells(case, points, words, floats, s);

@@ -72,8 +72,10 @@ fn add_face(
     ys: &mut [f64],
     from: usize,
 ) -> usize
-    requires { ⌜ (points ≤ 65536) × (24 * points ≤ length (now case)) × LentWords s (now words) × (from ≤ 24) × (length (now xs) ≡ 24) × (length (now ys) ≡ 24) ⌝ }
-    requires { ⌜ length (addCorners (meshIn (pointsIn (now case) points) s (now words) []) (cornersIn (now xs) (now ys) from) f) ≤ 24 ⌝ }
+    requires { ⌜ (points ≤ 65536) × (24 * points ≤ length (now case)) × LentWords s (now words) × (from ≤ 24)
+        × (length (now xs) ≡ 24) × (length (now ys) ≡ 24) ⌝ }
+    requires { ⌜ length (addCorners (meshIn (pointsIn (now case) points) s (now words) [])
+        (cornersIn (now xs) (now ys) from) f) ≤ 24 ⌝ }
     ensures { λ r. ⌜ Collected (addCorners (meshIn (pointsIn (now (case .entry)) points) s (now (words .entry)) [])
         (cornersIn (now (xs .entry)) (now (ys .entry)) from) f)
         (now (xs .entry)) (now (xs .exit)) (now (ys .entry)) (now (ys .exit)) r × (from ≤ r) ⌝ }
@@ -99,8 +101,10 @@ pub fn corners(
     xs: &mut [f64],
     ys: &mut [f64],
 ) -> usize
-    requires { ⌜ (points ≤ 65536) × (24 * points ≤ length (now case)) × LentWords s (now words) × (length (now xs) ≡ 24) × (length (now ys) ≡ 24) ⌝ }
-    requires { ⌜ length (cornersOf (meshIn (pointsIn (now case) points) s (now words) []) (cellAt (cellsIn s (now words) []) i)) ≤ 24 ⌝ }
+    requires { ⌜ (points ≤ 65536) × (24 * points ≤ length (now case)) × LentWords s (now words) × (length (now xs) ≡ 24)
+        × (length (now ys) ≡ 24) ⌝ }
+    requires { ⌜ length (cornersOf (meshIn (pointsIn (now case) points) s (now words) [])
+        (cellAt (cellsIn s (now words) []) i)) ≤ 24 ⌝ }
     ensures { λ r. ⌜ Collected (cornersOf (meshIn (pointsIn (now (case .entry)) points) s (now (words .entry)) [])
         (cellAt (cellsIn s (now (words .entry)) []) i))
         (now (xs .entry)) (now (xs .exit)) (now (ys .entry)) (now (ys .exit)) r ⌝ }

@@ -55,7 +55,8 @@ fn bin_along(low: f64, high: f64, n: usize, a: f64) -> usize
 // The bin of a point.
 pub fn bin_for(g: Grid, p: Vec2) -> Bin
     requires { ⌜ Binned g ⌝ }
-    ensures { λ r. ⌜ (r ≡ Bins.binFor g p) × (r .x < 65536) × (r .y < 65536) × (r .x < g .bins .x) × (r .y < g .bins .y) ⌝ }
+    ensures { λ r. ⌜ (r ≡ Bins.binFor g p) × (r .x < 65536) × (r .y < 65536) × (r .x < g .bins .x)
+        × (r .y < g .bins .y) ⌝ }
 {
     Bin {
         x: bin_along(g.bounds.left, g.bounds.right, g.bins.x, p.x),
@@ -109,7 +110,8 @@ fn reaches(first: usize, last: usize, b: usize) -> bool
 // Cell i is listed in bin b.
 fn is_listed(words: &[u32], s: Sizes, i: usize, b: Bin) -> bool
     requires { ⌜ LentWords s (now words) × (i < s .cells) ⌝ }
-    ensures { λ r. ⌜ ((floats : List Float) → r ≡ Bins.isListed b (Layout.cellPolygonIn s (now (words .entry)) floats i)) ⌝ }
+    ensures { λ r. ⌜ ((floats : List Float) → r ≡ Bins.isListed b
+        (Layout.cellPolygonIn s (now (words .entry)) floats i)) ⌝ }
 {
     let at = words_at(s, i);
     let first = bin_at(words, at);
@@ -123,7 +125,8 @@ fn is_listed(words: &[u32], s: Sizes, i: usize, b: Bin) -> bool
 
 // Cell i contains q.
 fn has_point(words: &[u32], floats: &[f64], s: Sizes, q: Vec2, i: usize) -> bool
-    requires { ⌜ LentWords s (now words) × LentFloats s (now floats) × Layout.Limited s (now words) (now floats) × (i < s .cells) ⌝ }
+    requires { ⌜ LentWords s (now words) × LentFloats s (now floats) × Layout.Limited s (now words) (now floats)
+        × (i < s .cells) ⌝ }
     ensures { λ r. ⌜ r ≡ contains q (Layout.polygonIn s (now (words .entry)) (now (floats .entry)) i) ⌝ }
 {
     let at = floats_at(s, i);
@@ -137,7 +140,8 @@ fn has_point(words: &[u32], floats: &[f64], s: Sizes, q: Vec2, i: usize) -> bool
 
 // Cell i is listed in bin b, and contains q.
 fn holds(words: &[u32], floats: &[f64], s: Sizes, b: Bin, q: Vec2, i: usize) -> bool
-    requires { ⌜ LentWords s (now words) × LentFloats s (now floats) × Layout.Limited s (now words) (now floats) × (i < s .cells) ⌝ }
+    requires { ⌜ LentWords s (now words) × LentFloats s (now floats) × Layout.Limited s (now words) (now floats)
+        × (i < s .cells) ⌝ }
     ensures { λ r. ⌜ r ≡ Locate.holds b q (Layout.cellPolygonIn s (now (words .entry)) (now (floats .entry)) i) ⌝ }
 {
     if is_listed(words, s, i, b) {
@@ -150,7 +154,8 @@ fn holds(words: &[u32], floats: &[f64], s: Sizes, b: Bin, q: Vec2, i: usize) -> 
 // The lowest cell that is listed in bin b and contains q: over all cells.
 fn first_holding(words: &[u32], floats: &[f64], s: Sizes, b: Bin, q: Vec2) -> Found
     requires { ⌜ LentWords s (now words) × LentFloats s (now floats) × Layout.Limited s (now words) (now floats) ⌝ }
-    ensures { λ r. ⌜ r ≡ firstFrom (Locate.holds b q) 0 (Layout.cellPolygonsIn s (now (words .entry)) (now (floats .entry))) ⌝ }
+    ensures { λ r. ⌜ r ≡ firstFrom (Locate.holds b q) 0
+        (Layout.cellPolygonsIn s (now (words .entry)) (now (floats .entry))) ⌝ }
 {
     let mut i = 0;
     while i < s.cells {
@@ -173,9 +178,11 @@ fn first_listed(
     y: usize,
     q: Vec2,
 ) -> Found
-    requires { ⌜ LentWords s (now words) × LentFloats s (now floats) × Layout.Limited s (now words) (now floats) × (x < nx) × (y < ny) ⌝ }
+    requires { ⌜ LentWords s (now words) × LentFloats s (now floats) × Layout.Limited s (now words) (now floats)
+        × (x < nx) × (y < ny) ⌝ }
     requires { ⌜ Indexed (now words) (wordsEnd s) (s .cells) nx ny ⌝ }
-    ensures { λ r. ⌜ r ≡ firstFrom (Locate.holds (record { x = x; y = y }) q) 0 (Layout.cellPolygonsIn s (now (words .entry)) (now (floats .entry))) ⌝ }
+    ensures { λ r. ⌜ r ≡ firstFrom (Locate.holds (record { x = x; y = y }) q) 0
+        (Layout.cellPolygonsIn s (now (words .entry)) (now (floats .entry))) ⌝ }
 {
     let base = 16 * s.slots + 8 * s.cells;
     let mut h = lines_bins::pool(words, base, s.cells, lines_bins::bin_of(nx, ny, x, y));
@@ -203,8 +210,10 @@ fn is_indexed(words: &[u32], s: Sizes) -> bool
 
 // The lowest cell that is listed in q's bin and contains q.
 fn first_at(words: &[u32], floats: &[f64], s: Sizes, g: Grid, q: Vec2) -> Found
-    requires { ⌜ LentWords s (now words) × LentFloats s (now floats) × Layout.Searchable g s (now words) (now floats) ⌝ }
-    ensures { λ r. ⌜ r ≡ firstFrom (Locate.holds (Bins.binFor g q) q) 0 (Layout.cellPolygonsIn s (now (words .entry)) (now (floats .entry))) ⌝ }
+    requires { ⌜ LentWords s (now words) × LentFloats s (now floats)
+        × Layout.Searchable g s (now words) (now floats) ⌝ }
+    ensures { λ r. ⌜ r ≡ firstFrom (Locate.holds (Bins.binFor g q) q) 0
+        (Layout.cellPolygonsIn s (now (words .entry)) (now (floats .entry))) ⌝ }
 {
     let b = bin_for(g, q);
     if is_indexed(words, s) {
@@ -216,7 +225,8 @@ fn first_at(words: &[u32], floats: &[f64], s: Sizes, g: Grid, q: Vec2) -> Found
 
 // The lowest listed cell that contains p; nowhere for an x or y that is not finite.
 pub fn locate_cell(words: &[u32], floats: &[f64], s: Sizes, g: Grid, p: Vec3) -> Found
-    requires { ⌜ LentWords s (now words) × LentFloats s (now floats) × Layout.Searchable g s (now words) (now floats) ⌝ }
+    requires { ⌜ LentWords s (now words) × LentFloats s (now floats)
+        × Layout.Searchable g s (now words) (now floats) ⌝ }
     ensures { λ r. ⌜ r ≡ Locate.locate g (Layout.cellPolygonsIn s (now (words .entry)) (now (floats .entry))) p ⌝ }
 {
     if float::is_finite(p.x) {

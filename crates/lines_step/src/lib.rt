@@ -54,7 +54,9 @@ fn fourth(
     k3: Vec3,
 ) -> Vector
     requires { ⌜ Ready (now case) n (now words) (now floats) s g ⌝ }
-    ensures { λ r. ⌜ Served (RungeKutta.fourth (directionAt (fieldIn g s (now (words .entry)) (now (floats .entry))) still) h p k1 k2 k3) (valuesOf (now (case .entry))) (now (marks .entry)) (now (marks .exit)) r ⌝ }
+    ensures { λ r. ⌜ Served (RungeKutta.fourth
+        (directionAt (fieldIn g s (now (words .entry)) (now (floats .entry))) still) h p k1 k2 k3)
+        (valuesOf (now (case .entry))) (now (marks .entry)) (now (marks .exit)) r ⌝ }
 {
     let q = p.add(k3.scale(h));
     let Vector::Here(k4) = direction_at(case, n, words, floats, s, g, marks, q, still) else {
@@ -79,7 +81,9 @@ fn third(
     k2: Vec3,
 ) -> Vector
     requires { ⌜ Ready (now case) n (now words) (now floats) s g ⌝ }
-    ensures { λ r. ⌜ Served (RungeKutta.third (directionAt (fieldIn g s (now (words .entry)) (now (floats .entry))) still) h p k1 k2) (valuesOf (now (case .entry))) (now (marks .entry)) (now (marks .exit)) r ⌝ }
+    ensures { λ r. ⌜ Served (RungeKutta.third
+        (directionAt (fieldIn g s (now (words .entry)) (now (floats .entry))) still) h p k1 k2)
+        (valuesOf (now (case .entry))) (now (marks .entry)) (now (marks .exit)) r ⌝ }
 {
     let q = p.add(k2.scale(h * 0.5));
     let Vector::Here(k3) = direction_at(case, n, words, floats, s, g, marks, q, still) else {
@@ -103,7 +107,9 @@ fn second(
     k1: Vec3,
 ) -> Vector
     requires { ⌜ Ready (now case) n (now words) (now floats) s g ⌝ }
-    ensures { λ r. ⌜ Served (RungeKutta.second (directionAt (fieldIn g s (now (words .entry)) (now (floats .entry))) still) h p k1) (valuesOf (now (case .entry))) (now (marks .entry)) (now (marks .exit)) r ⌝ }
+    ensures { λ r. ⌜ Served (RungeKutta.second
+        (directionAt (fieldIn g s (now (words .entry)) (now (floats .entry))) still) h p k1)
+        (valuesOf (now (case .entry))) (now (marks .entry)) (now (marks .exit)) r ⌝ }
 {
     let q = p.add(k1.scale(h * 0.5));
     let Vector::Here(k2) = direction_at(case, n, words, floats, s, g, marks, q, still) else {
@@ -126,7 +132,9 @@ fn runge_kutta(
     p: Vec3,
 ) -> Vector
     requires { ⌜ Ready (now case) n (now words) (now floats) s g ⌝ }
-    ensures { λ r. ⌜ Served (RungeKutta.rungeKutta (directionAt (fieldIn g s (now (words .entry)) (now (floats .entry))) still) h p) (valuesOf (now (case .entry))) (now (marks .entry)) (now (marks .exit)) r ⌝ }
+    ensures { λ r. ⌜ Served (RungeKutta.rungeKutta
+        (directionAt (fieldIn g s (now (words .entry)) (now (floats .entry))) still) h p) (valuesOf (now (case .entry)))
+        (now (marks .entry)) (now (marks .exit)) r ⌝ }
 {
     let Vector::Here(k1) = direction_at(case, n, words, floats, s, g, marks, p, still) else {
         return Vector::Nowhere;
@@ -148,7 +156,8 @@ fn rk4_step(
     p: Vec3,
 ) -> Vector
     requires { ⌜ Ready (now case) n (now words) (now floats) s g ⌝ }
-    ensures { λ r. ⌜ Served (Steps.rk4Step (fieldIn g s (now (words .entry)) (now (floats .entry))) still h p) (valuesOf (now (case .entry))) (now (marks .entry)) (now (marks .exit)) r ⌝ }
+    ensures { λ r. ⌜ Served (Steps.rk4Step (fieldIn g s (now (words .entry)) (now (floats .entry))) still h p)
+        (valuesOf (now (case .entry))) (now (marks .entry)) (now (marks .exit)) r ⌝ }
 {
     let Vector::Here(q) = runge_kutta(case, n, words, floats, s, g, marks, still, h, p) else {
         return Vector::Nowhere;
@@ -188,7 +197,8 @@ pub fn line_step(
     total: f64,
 ) -> Step
     requires { ⌜ Ready (now case) n (now words) (now floats) s g ⌝ }
-    ensures { λ r. ⌜ Served (Steps.step (fieldIn g s (now (words .entry)) (now (floats .entry))) options h p total) (valuesOf (now (case .entry))) (now (marks .entry)) (now (marks .exit)) r ⌝ }
+    ensures { λ r. ⌜ Served (Steps.step (fieldIn g s (now (words .entry)) (now (floats .entry))) options h p total)
+        (valuesOf (now (case .entry))) (now (marks .entry)) (now (marks .exit)) r ⌝ }
 {
     let Vector::Here(q) = rk4_step(
         case,

@@ -45,16 +45,21 @@ fn read_cell(case: &[u8], n: Counts, marks: &mut [u8], i: usize) -> Values
 // The squared distance of cell i's centre from p.
 fn distance_squared(floats: &[f64], s: Sizes, p: Vec3, i: usize) -> f64
     requires { ⌜ LentFloats s (now floats) ⌝ }
-    ensures { λ r. ⌜ ((g : Grid) (words : List ℕ) → r ≡ Velocity.distanceSquared (fieldIn g s words (now (floats .entry))) p i) ⌝ }
+    ensures { λ r. ⌜ ((g : Grid) (words : List ℕ) → r ≡ Velocity.distanceSquared
+        (fieldIn g s words (now (floats .entry))) p i) ⌝ }
 {
     p.sub(mesh_area::centre_of(floats, s, i)).norm_squared()
 }
 
 // The nearer one of two cells, with its squared distance; of equal distances the first.
 fn nearer_of(floats: &[f64], s: Sizes, p: Vec3, best: Near, i: usize) -> Near
-    requires { ⌜ LentFloats s (now floats) × ((g : Grid) (words : List ℕ) → best .«distance_squared» ≡ Velocity.distanceSquared (fieldIn g s words (now floats)) p (best .cell)) ⌝ }
-    ensures { λ r. ⌜ ((g : Grid) (words : List ℕ) → r .cell ≡ Velocity.nearerOf (fieldIn g s words (now (floats .entry))) p (best .cell) i)
-        × ((g : Grid) (words : List ℕ) → r .«distance_squared» ≡ Velocity.distanceSquared (fieldIn g s words (now (floats .entry))) p (r .cell)) ⌝ }
+    requires { ⌜ LentFloats s (now floats)
+        × ((g : Grid) (words : List ℕ) → best .«distance_squared» ≡ Velocity.distanceSquared
+        (fieldIn g s words (now floats)) p (best .cell)) ⌝ }
+    ensures { λ r. ⌜ ((g : Grid) (words : List ℕ) → r .cell ≡ Velocity.nearerOf
+        (fieldIn g s words (now (floats .entry))) p (best .cell) i)
+        × ((g : Grid) (words : List ℕ) → r .«distance_squared» ≡ Velocity.distanceSquared
+        (fieldIn g s words (now (floats .entry))) p (r .cell)) ⌝ }
 {
     let d = distance_squared(floats, s, p, i);
     if float::nearer(d, best.distance_squared) {
@@ -70,7 +75,8 @@ fn nearer_of(floats: &[f64], s: Sizes, p: Vec3, best: Near, i: usize) -> Near
 // The nearest neighbour of cell i, which has one.
 fn nearest(words: &[u32], floats: &[f64], s: Sizes, p: Vec3, i: usize) -> usize
     requires { ⌜ LentWords s (now words) × LentFloats s (now floats) ⌝ }
-    ensures { λ r. ⌜ ((g : Grid) → r ≡ fold (Velocity.nearerOf (fieldIn g s (now (words .entry)) (now (floats .entry))) p)
+    ensures { λ r. ⌜ ((g : Grid) → r ≡ fold
+        (Velocity.nearerOf (fieldIn g s (now (words .entry)) (now (floats .entry))) p)
         (getD (Velocity.neighboursOf (fieldIn g s (now (words .entry)) (now (floats .entry))) i) 0 0)
         (drop 1 (Velocity.neighboursOf (fieldIn g s (now (words .entry)) (now (floats .entry))) i))) ⌝ }
 {
@@ -125,7 +131,10 @@ fn beside(
     k: usize,
 ) -> Vec3
     requires { ⌜ (opened (now case) ≡ Case n) × LentFloats s (now floats) ⌝ }
-    ensures { λ r. ⌜ ((g : Grid) (words : List ℕ) → Served (Velocity.beside (Velocity.apart (minus (Velocity.centreOf (fieldIn g s words (now (floats .entry))) k) (Velocity.centreOf (fieldIn g s words (now (floats .entry))) i))) (fieldIn g s words (now (floats .entry))) p i base k) (valuesOf (now (case .entry))) (now (marks .entry)) (now (marks .exit)) r) ⌝ }
+    ensures { λ r. ⌜ ((g : Grid) (words : List ℕ) → Served
+        (Velocity.beside (Velocity.apart (minus (Velocity.centreOf (fieldIn g s words (now (floats .entry))) k)
+        (Velocity.centreOf (fieldIn g s words (now (floats .entry))) i))) (fieldIn g s words (now (floats .entry))) p i
+        base k) (valuesOf (now (case .entry))) (now (marks .entry)) (now (marks .exit)) r) ⌝ }
 {
     let centre = mesh_area::centre_of(floats, s, i);
     let offset = mesh_area::centre_of(floats, s, k).sub(centre);
@@ -149,7 +158,9 @@ fn toward(
     base: Vec3,
 ) -> Vec3
     requires { ⌜ (opened (now case) ≡ Case n) × LentWords s (now words) × LentFloats s (now floats) ⌝ }
-    ensures { λ r. ⌜ ((g : Grid) → Served (Velocity.toward (fieldIn g s (now (words .entry)) (now (floats .entry))) p i base (Velocity.neighboursOf (fieldIn g s (now (words .entry)) (now (floats .entry))) i)) (valuesOf (now (case .entry))) (now (marks .entry)) (now (marks .exit)) r) ⌝ }
+    ensures { λ r. ⌜ ((g : Grid) → Served (Velocity.toward (fieldIn g s (now (words .entry)) (now (floats .entry))) p i
+        base (Velocity.neighboursOf (fieldIn g s (now (words .entry)) (now (floats .entry))) i))
+        (valuesOf (now (case .entry))) (now (marks .entry)) (now (marks .exit)) r) ⌝ }
 {
     if mesh_area::neighbour_count(words, s, i) == 0 {
         return base;
@@ -170,7 +181,8 @@ fn velocity_in(
     i: usize,
 ) -> Vec3
     requires { ⌜ (opened (now case) ≡ Case n) × LentWords s (now words) × LentFloats s (now floats) ⌝ }
-    ensures { λ r. ⌜ ((g : Grid) → Served (Velocity.velocityIn (fieldIn g s (now (words .entry)) (now (floats .entry))) p i) (valuesOf (now (case .entry))) (now (marks .entry)) (now (marks .exit)) r) ⌝ }
+    ensures { λ r. ⌜ ((g : Grid) → Served (Velocity.velocityIn (fieldIn g s (now (words .entry)) (now (floats .entry)))
+        p i) (valuesOf (now (case .entry))) (now (marks .entry)) (now (marks .exit)) r) ⌝ }
 {
     let v = read_cell(case, n, marks, i);
     toward(case, n, words, floats, s, marks, p, i, v.velocity)
@@ -188,7 +200,8 @@ pub fn velocity_at(
     p: Vec3,
 ) -> Vector
     requires { ⌜ Ready (now case) n (now words) (now floats) s g ⌝ }
-    ensures { λ r. ⌜ Served (Velocity.velocityAt (fieldIn g s (now (words .entry)) (now (floats .entry))) p) (valuesOf (now (case .entry))) (now (marks .entry)) (now (marks .exit)) r ⌝ }
+    ensures { λ r. ⌜ Served (Velocity.velocityAt (fieldIn g s (now (words .entry)) (now (floats .entry))) p)
+        (valuesOf (now (case .entry))) (now (marks .entry)) (now (marks .exit)) r ⌝ }
 {
     let Found::At(i) = lines_locate::locate_cell(words, floats, s, g, p) else {
         return Vector::Nowhere;
@@ -223,7 +236,8 @@ pub fn direction_at(
     stagnation_speed: f64,
 ) -> Vector
     requires { ⌜ Ready (now case) n (now words) (now floats) s g ⌝ }
-    ensures { λ r. ⌜ Served (Velocity.directionAt (fieldIn g s (now (words .entry)) (now (floats .entry))) «stagnation_speed» p) (valuesOf (now (case .entry))) (now (marks .entry)) (now (marks .exit)) r ⌝ }
+    ensures { λ r. ⌜ Served (Velocity.directionAt (fieldIn g s (now (words .entry)) (now (floats .entry)))
+        «stagnation_speed» p) (valuesOf (now (case .entry))) (now (marks .entry)) (now (marks .exit)) r ⌝ }
 {
     let Vector::Here(v) = velocity_at(case, n, words, floats, s, g, marks, p) else {
         return Vector::Nowhere;

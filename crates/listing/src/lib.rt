@@ -7,7 +7,8 @@ ghost use Rattle.listing.specs.Written.{endIn, Written, Listed};
 
 // Byte `at` of the text, where there is one. Where the next one goes: no further than one past the end.
 fn put(text: &mut [u8], at: usize, b: u8) -> usize
-    ensures { λ r. ⌜ (now (text .exit) ≡ set (now (text .entry)) at b) × (r ≡ endIn (length (now (text .entry))) (at + 1)) ⌝ }
+    ensures { λ r. ⌜ (now (text .exit) ≡ set (now (text .entry)) at b)
+        × (r ≡ endIn (length (now (text .entry))) (at + 1)) ⌝ }
 {
     if at < text.len() {
         text[at] = b;
@@ -126,7 +127,8 @@ pub fn put_refusal(text: &mut [u8], k: u64) -> usize
 
 // The text of a job that was done. How long it is, or one more than the room for it.
 pub fn put_done(text: &mut [u8], answers: &[u64], count: usize, marks: &[u8]) -> usize
-    ensures { λ r. ⌜ Listed (doneText (now (answers .entry)) count (now (marks .entry))) (now (text .entry)) (now (text .exit)) r ⌝ }
+    ensures { λ r. ⌜ Listed (doneText (now (answers .entry)) count (now (marks .entry))) (now (text .entry))
+        (now (text .exit)) r ⌝ }
 {
     let to = put_answers(text, 0, answers, count);
     let to = put_all(text, to, b"read");

@@ -54,7 +54,8 @@ pub fn survey(case: &[u8]) -> Surveyed
 fn join(words: &mut [u32], floats: &[f64], s: Sizes) -> Built
     requires { ⌜ Joinable s (now words) (now floats) ⌝ }
     ensures { λ r. ⌜ ((ps : List Vec3) → Building (joined ps (facesIn s (now (words .entry)) (now (floats .entry)))
-        (cellsIn s (now (words .entry)) (now (floats .entry)))) (s .slots) ps (now (words .exit)) (now (floats .entry)) r) ⌝ }
+        (cellsIn s (now (words .entry)) (now (floats .entry)))) (s .slots) ps (now (words .exit)) (now (floats .entry))
+        r) ⌝ }
 {
     if mesh_measure::any_misplaced(words, floats, s) {
         return Built::Refused(16);
@@ -114,7 +115,8 @@ fn fill(case: &[u8], n: Counts, ws: &[u8], words: &mut [u32], floats: &mut [f64]
 // Refusal 8, 9 or 10, or 0.
 fn unacceptable(case: &[u8], n: Counts) -> u64
     requires { ⌜ Points (now case) (n .points) ⌝ }
-    ensures { λ r. ⌜ ((defs : List Definition) → length defs ≡ n .cells → acceptedAs r ≡ acceptable (pointsIn (now (case .entry)) (n .points)) defs) ⌝ }
+    ensures { λ r. ⌜ ((defs : List Definition) → length defs ≡ n .cells → acceptedAs r ≡ acceptable
+        (pointsIn (now (case .entry)) (n .points)) defs) ⌝ }
 {
     if n.cells == 0 {
         return 8;
@@ -159,7 +161,8 @@ pub fn from_cells(case: &[u8], words: &mut [u32], floats: &mut [f64]) -> Built
     ensures { λ r. ⌜ Building
         (meshFrom (now (case .entry)) (length (now (words .entry))) (length (now (floats .entry))))
         (caseFaces (surveyOf (now (case .entry))))
-        (pointsIn (now (case .entry)) (countsOf (now (case .entry)) .points)) (now (words .exit)) (now (floats .exit)) r ⌝ }
+        (pointsIn (now (case .entry)) (countsOf (now (case .entry)) .points)) (now (words .exit)) (now (floats .exit))
+        r ⌝ }
 {
     match survey(case) {
         Surveyed::Refused(k) => Built::Refused(k),

@@ -93,7 +93,8 @@ fn face_vec(floats: &[f64], s: Sizes, f: usize, k: usize) -> Vec3
 // How many vertices face f has.
 pub fn vertex_count(words: &[u32], s: Sizes, f: usize) -> usize
     requires { ⌜ LentWords s (now words) ⌝ }
-    ensures { λ r. ⌜ ((floats : List Float) → r ≡ length (faceAt (facesIn s (now (words .entry)) floats) f .vertices)) × (r < 4294967296) ⌝ }
+    ensures { λ r. ⌜ ((floats : List Float) → r ≡ length (faceAt (facesIn s (now (words .entry)) floats) f .vertices))
+        × (r < 4294967296) ⌝ }
 {
     if f < s.faces {
         face_word(words, s, f, 0)
@@ -105,7 +106,8 @@ pub fn vertex_count(words: &[u32], s: Sizes, f: usize) -> usize
 // Vertex k of face f: a point's number.
 pub fn vertex(words: &[u32], s: Sizes, f: usize, k: usize) -> usize
     requires { ⌜ LentWords s (now words) ⌝ }
-    ensures { λ r. ⌜ ((floats : List Float) → r ≡ getD (faceAt (facesIn s (now (words .entry)) floats) f .vertices) k 0) × (r < 4294967296) ⌝ }
+    ensures { λ r. ⌜ ((floats : List Float) → r ≡ getD (faceAt (facesIn s (now (words .entry)) floats) f .vertices) k 0)
+        × (r < 4294967296) ⌝ }
 {
     if f < s.faces {
         if k < face_word(words, s, f, 0) {
@@ -121,7 +123,8 @@ pub fn vertex(words: &[u32], s: Sizes, f: usize, k: usize) -> usize
 // The cell that has face f first.
 pub fn owner_of(words: &[u32], s: Sizes, f: usize) -> usize
     requires { ⌜ LentWords s (now words) ⌝ }
-    ensures { λ r. ⌜ ((floats : List Float) → r ≡ faceAt (facesIn s (now (words .entry)) floats) f .owner) × (r < 4294967296) ⌝ }
+    ensures { λ r. ⌜ ((floats : List Float) → r ≡ faceAt (facesIn s (now (words .entry)) floats) f .owner)
+        × (r < 4294967296) ⌝ }
 {
     if f < s.faces {
         face_word(words, s, f, 9)
@@ -206,7 +209,8 @@ fn cell_word(words: &[u32], s: Sizes, i: usize, k: usize) -> usize
 // How many faces cell i has.
 pub fn face_count(words: &[u32], s: Sizes, i: usize) -> usize
     requires { ⌜ LentWords s (now words) ⌝ }
-    ensures { λ r. ⌜ ((floats : List Float) → r ≡ length (cellAt (cellsIn s (now (words .entry)) floats) i .faces)) × (r < 4294967296) ⌝ }
+    ensures { λ r. ⌜ ((floats : List Float) → r ≡ length (cellAt (cellsIn s (now (words .entry)) floats) i .faces))
+        × (r < 4294967296) ⌝ }
 {
     if i < s.cells {
         cell_word(words, s, i, 2)
@@ -218,7 +222,8 @@ pub fn face_count(words: &[u32], s: Sizes, i: usize) -> usize
 // Face k of cell i: its number.
 pub fn cell_face(words: &[u32], s: Sizes, i: usize, k: usize) -> usize
     requires { ⌜ LentWords s (now words) ⌝ }
-    ensures { λ r. ⌜ ((floats : List Float) → r ≡ getD (cellAt (cellsIn s (now (words .entry)) floats) i .faces) k 0) × (r < 4294967296) ⌝ }
+    ensures { λ r. ⌜ ((floats : List Float) → r ≡ getD (cellAt (cellsIn s (now (words .entry)) floats) i .faces) k 0)
+        × (r < 4294967296) ⌝ }
 {
     if i < s.cells {
         if k < cell_word(words, s, i, 2) {
@@ -235,7 +240,8 @@ pub fn cell_face(words: &[u32], s: Sizes, i: usize, k: usize) -> usize
 // How many neighbours cell i has.
 pub fn neighbour_count(words: &[u32], s: Sizes, i: usize) -> usize
     requires { ⌜ LentWords s (now words) ⌝ }
-    ensures { λ r. ⌜ ((floats : List Float) → r ≡ length (cellAt (cellsIn s (now (words .entry)) floats) i .neighbours)) × (r < 4294967296) ⌝ }
+    ensures { λ r. ⌜ ((floats : List Float) → r ≡ length (cellAt (cellsIn s (now (words .entry)) floats) i .neighbours))
+        × (r < 4294967296) ⌝ }
 {
     if i < s.cells {
         cell_word(words, s, i, 3)
@@ -247,7 +253,8 @@ pub fn neighbour_count(words: &[u32], s: Sizes, i: usize) -> usize
 // Neighbour k of cell i, in face order.
 pub fn neighbour(words: &[u32], s: Sizes, i: usize, k: usize) -> usize
     requires { ⌜ LentWords s (now words) ⌝ }
-    ensures { λ r. ⌜ ((floats : List Float) → r ≡ getD (cellAt (cellsIn s (now (words .entry)) floats) i .neighbours) k 0) × (r < 4294967296) ⌝ }
+    ensures { λ r. ⌜ ((floats : List Float) → r ≡ getD (cellAt (cellsIn s (now (words .entry)) floats) i .neighbours) k
+        0) × (r < 4294967296) ⌝ }
 {
     if i < s.cells {
         if k < cell_word(words, s, i, 3) {

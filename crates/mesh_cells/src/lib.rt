@@ -62,7 +62,13 @@ enum CellAdded {
 
 // What was measured of a face that is turned outward.
 fn measured(g: FaceGeometry) -> Measured
-    ensures { λ r. ⌜ r ≡ record { centre = g .centre; area = g .area; normal = g .normal; «area_vector» = g .«area_vector» } ⌝ }
+    ensures { λ r. ⌜ r ≡ record {
+      centre = g .centre;
+      area = g .area;
+      normal = g .normal;
+      «area_vector» =
+          g .«area_vector»;
+    } ⌝ }
 {
     let centre = g.centre;
     let normal = g.normal;
@@ -87,8 +93,10 @@ fn place_face(
     reference: Vec3,
     vertices: &mut [u32],
 ) -> FacePlaced
-    requires { ⌜ Placeable s (now words) (now floats) (now vertices) cell × (points ≤ 65536) × (24 * points ≤ length (now case)) ⌝ }
-    ensures { λ r. ⌜ Placing dimension (pointsIn (now (case .entry)) points) cell reference s (now (words .entry)) (now (words .exit)) (now (floats .entry)) (now (floats .exit)) (now (vertices .entry)) r ⌝ }
+    requires { ⌜ Placeable s (now words) (now floats) (now vertices) cell × (points ≤ 65536)
+        × (24 * points ≤ length (now case)) ⌝ }
+    ensures { λ r. ⌜ Placing dimension (pointsIn (now (case .entry)) points) cell reference s (now (words .entry))
+        (now (words .exit)) (now (floats .entry)) (now (floats .exit)) (now (vertices .entry)) r ⌝ }
 {
     let turned = mesh_geometry::oriented_face(dimension, case, points, vertices, reference);
     let TurnedFace::Face(g) = turned else {
@@ -117,8 +125,10 @@ fn add_face(
     first: usize,
     c: FaceCursor,
 ) -> FaceAdded
-    requires { ⌜ FaceReady (wordsIn (now ws)) s (now words) (now floats) h cell first c × (points ≤ 65536) × (24 * points ≤ length (now case)) ⌝ }
-    ensures { λ r. ⌜ FaceAdding dimension (pointsIn (now (case .entry)) points) (wordsIn (now (ws .entry))) cell reference s (now (words .entry)) (now (words .exit)) (now (floats .entry)) (now (floats .exit)) h first c r ⌝ }
+    requires { ⌜ FaceReady (wordsIn (now ws)) s (now words) (now floats) h cell first c × (points ≤ 65536)
+        × (24 * points ≤ length (now case)) ⌝ }
+    ensures { λ r. ⌜ FaceAdding dimension (pointsIn (now (case .entry)) points) (wordsIn (now (ws .entry))) cell
+        reference s (now (words .entry)) (now (words .exit)) (now (floats .entry)) (now (floats .exit)) h first c r ⌝ }
 {
     let mut vertices = [0u32; 8];
     let copied = face_lists::copy_face(ws, h, c, &mut vertices);
@@ -159,8 +169,10 @@ fn add_faces(
     h: Head,
     first: usize,
 ) -> Drafted
-    requires { ⌜ FacesReady (wordsIn (now ws)) s (now words) (now floats) h cell first × (points ≤ 65536) × (24 * points ≤ length (now case)) ⌝ }
-    ensures { λ r. ⌜ FacesAdding dimension (pointsIn (now (case .entry)) points) (wordsIn (now (ws .entry))) cell reference s (now (words .entry)) (now (words .exit)) (now (floats .entry)) (now (floats .exit)) h first r ⌝ }
+    requires { ⌜ FacesReady (wordsIn (now ws)) s (now words) (now floats) h cell first × (points ≤ 65536)
+        × (24 * points ≤ length (now case)) ⌝ }
+    ensures { λ r. ⌜ FacesAdding dimension (pointsIn (now (case .entry)) points) (wordsIn (now (ws .entry))) cell
+        reference s (now (words .entry)) (now (words .exit)) (now (floats .entry)) (now (floats .exit)) h first r ⌝ }
 {
     let mut n = s.faces;
     let mut c = face_lists::first_face(h);
@@ -208,8 +220,10 @@ fn put_cell(
     count: u32,
     reference: Vec3,
 )
-    requires { ⌜ (s .slots ≤ 1048576) × (i < 16384) × (16 * s .slots + 8 * i + 8 ≤ length (now words)) × (12 * s .slots + 4 * i + 4 ≤ length (now floats)) ⌝ }
-    ensures { λ _. ⌜ CellPut s (now (words .entry)) (now (words .exit)) (now (floats .entry)) (now (floats .exit)) i at first count reference ⌝ }
+    requires { ⌜ (s .slots ≤ 1048576) × (i < 16384) × (16 * s .slots + 8 * i + 8 ≤ length (now words))
+        × (12 * s .slots + 4 * i + 4 ≤ length (now floats)) ⌝ }
+    ensures { λ _. ⌜ CellPut s (now (words .entry)) (now (words .exit)) (now (floats .entry)) (now (floats .exit)) i at
+        first count reference ⌝ }
 {
     let w = 16 * s.slots + 8 * i;
     words[w] = at;
@@ -236,8 +250,10 @@ fn fill_cell(
     h: Head,
     first: usize,
 ) -> Drafted
-    requires { ⌜ CellReady (wordsIn (now ws)) s (now words) (now floats) h i first × (points ≤ 65536) × (24 * points ≤ length (now case)) ⌝ }
-    ensures { λ r. ⌜ CellFilling dimension (pointsIn (now (case .entry)) points) (wordsIn (now (ws .entry))) reference s (now (words .entry)) (now (words .exit)) (now (floats .entry)) (now (floats .exit)) h i first r ⌝ }
+    requires { ⌜ CellReady (wordsIn (now ws)) s (now words) (now floats) h i first × (points ≤ 65536)
+        × (24 * points ≤ length (now case)) ⌝ }
+    ensures { λ r. ⌜ CellFilling dimension (pointsIn (now (case .entry)) points) (wordsIn (now (ws .entry))) reference s
+        (now (words .entry)) (now (words .exit)) (now (floats .entry)) (now (floats .exit)) h i first r ⌝ }
 {
     put_cell(
         words,
@@ -276,8 +292,10 @@ fn add_cell(
     i: usize,
     p: Progress,
 ) -> CellAdded
-    requires { ⌜ CellTurn dimension (pointsIn (now case) points) (now case) points (wordsIn (now ws)) (now words) (now floats) s i p ⌝ }
-    ensures { λ r. ⌜ CellAdding dimension (pointsIn (now (case .entry)) points) (wordsIn (now (ws .entry))) s (now (words .exit)) (now (floats .exit)) i r ⌝ }
+    requires { ⌜ CellTurn dimension (pointsIn (now case) points) (now case) points (wordsIn (now ws)) (now words)
+        (now floats) s i p ⌝ }
+    ensures { λ r. ⌜ CellAdding dimension (pointsIn (now (case .entry)) points) (wordsIn (now (ws .entry))) s
+        (now (words .exit)) (now (floats .exit)) i r ⌝ }
 {
     let at = p.at;
     let step = walker::record_at(ws, Cursor { at });
@@ -332,8 +350,11 @@ fn fill_cells(
     floats: &mut [f64],
     s: Sizes,
 ) -> Drafted
-    requires { ⌜ Addable (now case) points (wordsIn (now ws)) (now words) (now floats) s × Chained (sized s 0) (now words) ⌝ }
-    ensures { λ r. ⌜ ((defs : List Definition) → definitions (s .cells) (wordsIn (now (ws .entry))) ≡ fine defs → Adding dimension (pointsIn (now (case .entry)) points) (wordsIn (now (ws .entry))) defs s (now (words .exit)) (now (floats .exit)) r) ⌝ }
+    requires { ⌜ Addable (now case) points (wordsIn (now ws)) (now words) (now floats) s
+        × Chained (sized s 0) (now words) ⌝ }
+    ensures { λ r. ⌜ ((defs : List Definition) → definitions (s .cells) (wordsIn (now (ws .entry))) ≡ fine defs → Adding
+        dimension (pointsIn (now (case .entry)) points) (wordsIn (now (ws .entry))) defs s (now (words .exit))
+        (now (floats .exit)) r) ⌝ }
 {
     let mut p = Progress {
         at: 0,
@@ -363,7 +384,9 @@ pub fn add_cells(
     s: Sizes,
 ) -> Drafted
     requires { ⌜ Addable (now case) points (wordsIn (now ws)) (now words) (now floats) s ⌝ }
-    ensures { λ r. ⌜ ((defs : List Definition) → definitions (s .cells) (wordsIn (now (ws .entry))) ≡ fine defs → Adding dimension (pointsIn (now (case .entry)) points) (wordsIn (now (ws .entry))) defs s (now (words .exit)) (now (floats .exit)) r) ⌝ }
+    ensures { λ r. ⌜ ((defs : List Definition) → definitions (s .cells) (wordsIn (now (ws .entry))) ≡ fine defs → Adding
+        dimension (pointsIn (now (case .entry)) points) (wordsIn (now (ws .entry))) defs s (now (words .exit))
+        (now (floats .exit)) r) ⌝ }
 {
     mesh_faces::clear(words, s);
     fill_cells(case, points, dimension, ws, words, floats, s)

@@ -59,7 +59,8 @@ fn finish_record(
     h: Head,
 ) -> Finished
     requires { ⌜ RecordReady (now case) points (wordsIn (now ws)) (now floats) s i h ⌝ }
-    ensures { λ r. ⌜ RecordFinishing dimension (pointsIn (now (case .entry)) points) (wordsIn (now (ws .entry))) s (now (floats .entry)) (now (floats .exit)) i (h .at) r ⌝ }
+    ensures { λ r. ⌜ RecordFinishing dimension (pointsIn (now (case .entry)) points) (wordsIn (now (ws .entry))) s
+        (now (floats .entry)) (now (floats .exit)) i (h .at) r ⌝ }
 {
     let base = 12 * s.slots;
     let at = base + 4 * i;
@@ -85,7 +86,8 @@ fn finish_cell(
     c: Cursor,
 ) -> CellFinished
     requires { ⌜ CellReady (now case) points (wordsIn (now ws)) (now floats) s i c ⌝ }
-    ensures { λ r. ⌜ CellFinishing dimension (pointsIn (now (case .entry)) points) (wordsIn (now (ws .entry))) s (now (floats .entry)) (now (floats .exit)) i (c .at) r ⌝ }
+    ensures { λ r. ⌜ CellFinishing dimension (pointsIn (now (case .entry)) points) (wordsIn (now (ws .entry))) s
+        (now (floats .entry)) (now (floats .exit)) i (c .at) r ⌝ }
 {
     match walker::record_at(ws, c) {
         // This cannot come: a right record is at c, since all of them were walked over before the
@@ -111,7 +113,8 @@ pub fn finish_cells(
     s: Sizes,
 ) -> Finished
     requires { ⌜ Finishable (now case) points (wordsIn (now ws)) (now words) (now floats) s ⌝ }
-    ensures { λ r. ⌜ Finishing dimension (pointsIn (now (case .entry)) points) (wordsIn (now (ws .entry))) s (now (words .entry)) (now (floats .entry)) (now (floats .exit)) r ⌝ }
+    ensures { λ r. ⌜ Finishing dimension (pointsIn (now (case .entry)) points) (wordsIn (now (ws .entry))) s
+        (now (words .entry)) (now (floats .entry)) (now (floats .exit)) r ⌝ }
 {
     let mut c = Cursor { at: 0 };
     let mut i = 0;

@@ -68,7 +68,8 @@ fn add_beyond(words: &mut [u32], s: Sizes, cell: usize, f: usize, at: usize, n: 
 
 // Writes the list of cell i at a place, over its faces; how many words it has.
 fn list_at(words: &mut [u32], s: Sizes, i: usize, at: usize) -> usize
-    requires { ⌜ LentWords s (now words) × Laid s (now words) × (i < s .cells) × (at ≡ 14 * s .slots + firstIn s (now words) i) ⌝ }
+    requires { ⌜ LentWords s (now words) × Laid s (now words) × (i < s .cells)
+        × (at ≡ 14 * s .slots + firstIn s (now words) i) ⌝ }
     ensures { λ r. ⌜ Written s (now (words .entry)) (now (words .exit)) i at r ⌝ }
 {
     let end = mesh_area::face_count(words, s, i);
@@ -122,7 +123,8 @@ fn queue_at(words: &[u32], base: usize, k: usize) -> usize
 
 // Cell d is visited, and goes to the queue's end.
 fn mark(words: &mut [u32], base: usize, d: usize, tail: usize)
-    requires { ⌜ (base + 2 * d + 2 ≤ length (now words)) × (base + 2 * tail + 2 ≤ length (now words)) × (d < 4294967296) ⌝ }
+    requires { ⌜ (base + 2 * d + 2 ≤ length (now words)) × (base + 2 * tail + 2 ≤ length (now words))
+        × (d < 4294967296) ⌝ }
     ensures { λ _. ⌜ Marked (now (words .entry)) (now (words .exit)) base d tail ⌝ }
 {
     words[base + 2 * d] = 1;

@@ -29,7 +29,8 @@ fn add(
     cell: u32,
 )
     requires { ⌜ Ready (now words) (now floats) slots n (now vertices) cell ⌝ }
-    ensures { λ _. ⌜ Extended (now (words .entry)) (now (words .exit)) (now (floats .entry)) (now (floats .exit)) slots n (now (vertices .entry)) m cell ⌝ }
+    ensures { λ _. ⌜ Extended (now (words .entry)) (now (words .exit)) (now (floats .entry)) (now (floats .exit)) slots
+        n (now (vertices .entry)) m cell ⌝ }
 {
     let b = mesh_keys::sum(vertices) % slots;
     let link = mesh_face_table::head_of(words, slots, b);
@@ -49,7 +50,8 @@ fn settle(
     cell: u32,
 ) -> Added
     requires { ⌜ Ready (now words) (now floats) slots n (now vertices) cell ⌝ }
-    ensures { λ r. ⌜ Settled (now (words .entry)) (now (words .exit)) (now (floats .entry)) (now (floats .exit)) slots n (now (vertices .entry)) m cell r ⌝ }
+    ensures { λ r. ⌜ Settled (now (words .entry)) (now (words .exit)) (now (floats .entry)) (now (floats .exit)) slots n
+        (now (vertices .entry)) m cell r ⌝ }
 {
     let at = mesh_face_table::find(words, slots, n, vertices);
     if at == 0 {
@@ -76,7 +78,8 @@ pub fn use_face(
     m: Measured,
 ) -> Added
     requires { ⌜ Usable s (now words) (now floats) (now vertices) cell ⌝ }
-    ensures { λ r. ⌜ Used s (now (words .entry)) (now (words .exit)) (now (floats .entry)) (now (floats .exit)) (now (vertices .entry)) m cell r ⌝ }
+    ensures { λ r. ⌜ Used s (now (words .entry)) (now (words .exit)) (now (floats .entry)) (now (floats .exit))
+        (now (vertices .entry)) m cell r ⌝ }
 {
     let words_end = 16 * s.slots + 8 * s.cells;
     let floats_end = 12 * s.slots + 4 * s.cells;

@@ -96,7 +96,8 @@ fn add_edge(
 ) -> Weighed
     requires { ⌜ Points (now case) points ⌝ }
     requires { ⌜ FaceTaken (wordsIn (now words)) h c ⌝ }
-    ensures { λ r. ⌜ EdgeAdded (pointsIn (now (case .entry)) points) (wordsIn (now (words .entry))) h c reference weight r ⌝ }
+    ensures { λ r. ⌜ EdgeAdded (pointsIn (now (case .entry)) points) (wordsIn (now (words .entry))) h c reference weight
+        r ⌝ }
 {
     let mut face = [0u32; 8];
     let copied = face_lists::copy_face(words, h, c, &mut face);
@@ -112,7 +113,8 @@ fn add_edge(
 fn add_edges(case: &[u8], points: usize, words: &[u8], h: Head, reference: Vec3) -> Weight
     requires { ⌜ Points (now case) points ⌝ }
     requires { ⌜ Headed (wordsIn (now words)) h ⌝ }
-    ensures { λ r. ⌜ r ≡ fold (addTriangle (pointsIn (now (case .entry)) points) reference) weightless (facesAt (wordsIn (now (words .entry))) h) ⌝ }
+    ensures { λ r. ⌜ r ≡ fold (addTriangle (pointsIn (now (case .entry)) points) reference) weightless
+        (facesAt (wordsIn (now (words .entry))) h) ⌝ }
 {
     let mut sum = mesh_volumes::weightless();
     let mut c = face_lists::first_face(h);
@@ -134,7 +136,8 @@ fn add_turned(
 ) -> Fans
     requires { ⌜ Points (now case) points ⌝ }
     requires { ⌜ length (now vertices) ≤ 8 ⌝ }
-    ensures { λ r. ⌜ fansOf r ≡ addFace3D (pointsIn (now (case .entry)) points) reference weight (now (vertices .entry)) ⌝ }
+    ensures { λ r. ⌜ fansOf r ≡ addFace3D (pointsIn (now (case .entry)) points) reference weight
+        (now (vertices .entry)) ⌝ }
 {
     match mesh_geometry::oriented_face(3, case, points, vertices, reference) {
         TurnedFace::Degenerate => Fans::Degenerate,
@@ -160,7 +163,8 @@ fn add_face_3d(
 ) -> Fanned
     requires { ⌜ Points (now case) points ⌝ }
     requires { ⌜ FaceTaken (wordsIn (now words)) h c ⌝ }
-    ensures { λ r. ⌜ FanAdded (pointsIn (now (case .entry)) points) (wordsIn (now (words .entry))) h c reference weight r ⌝ }
+    ensures { λ r. ⌜ FanAdded (pointsIn (now (case .entry)) points) (wordsIn (now (words .entry))) h c reference weight
+        r ⌝ }
 {
     let mut face = [0u32; 8];
     let copied = face_lists::copy_face(words, h, c, &mut face);
@@ -176,7 +180,8 @@ fn add_face_3d(
 fn add_faces_3d(case: &[u8], points: usize, words: &[u8], h: Head, reference: Vec3) -> Fans
     requires { ⌜ Points (now case) points ⌝ }
     requires { ⌜ Headed (wordsIn (now words)) h ⌝ }
-    ensures { λ r. ⌜ fansOf r ≡ steps (addFace3D (pointsIn (now (case .entry)) points) reference) weightless (facesAt (wordsIn (now (words .entry))) h) ⌝ }
+    ensures { λ r. ⌜ fansOf r ≡ steps (addFace3D (pointsIn (now (case .entry)) points) reference) weightless
+        (facesAt (wordsIn (now (words .entry))) h) ⌝ }
 {
     let mut sum = mesh_volumes::weightless();
     let mut c = face_lists::first_face(h);
@@ -201,7 +206,8 @@ pub fn cell_geometry(
 ) -> CellMeasure
     requires { ⌜ Points (now case) points ⌝ }
     requires { ⌜ Headed (wordsIn (now words)) h ⌝ }
-    ensures { λ r. ⌜ cellOf r ≡ cellGeometry dimension (pointsIn (now (case .entry)) points) reference (facesAt (wordsIn (now (words .entry))) h) ⌝ }
+    ensures { λ r. ⌜ cellOf r ≡ cellGeometry dimension (pointsIn (now (case .entry)) points) reference
+        (facesAt (wordsIn (now (words .entry))) h) ⌝ }
 {
     if dimension == 2 {
         return mesh_volumes::centre_2d(reference, add_edges(case, points, words, h, reference));
@@ -225,7 +231,8 @@ fn behind(to: Vec3, from: Vec3, normal: Vec3) -> bool
 fn is_misplaced(words: &[u32], floats: &[f64], s: Sizes, f: usize) -> bool
     requires { ⌜ LentWords s (now words) ⌝ }
     requires { ⌜ LentFloats s (now floats) ⌝ }
-    ensures { λ r. ⌜ r ≡ Orientation.misplaced (cellsIn s (now (words .entry)) (now (floats .entry))) (faceAt (facesIn s (now (words .entry)) (now (floats .entry))) f) ⌝ }
+    ensures { λ r. ⌜ r ≡ Orientation.misplaced (cellsIn s (now (words .entry)) (now (floats .entry)))
+        (faceAt (facesIn s (now (words .entry)) (now (floats .entry))) f) ⌝ }
 {
     let centre = mesh_area::face_centre(floats, s, f);
     let normal = mesh_area::face_normal(floats, s, f);
@@ -243,7 +250,8 @@ fn is_misplaced(words: &[u32], floats: &[f64], s: Sizes, f: usize) -> bool
 pub fn any_misplaced(words: &[u32], floats: &[f64], s: Sizes) -> bool
     requires { ⌜ LentWords s (now words) ⌝ }
     requires { ⌜ LentFloats s (now floats) ⌝ }
-    ensures { λ r. ⌜ r ≡ anyOf (Orientation.misplaced (cellsIn s (now (words .entry)) (now (floats .entry)))) (facesIn s (now (words .entry)) (now (floats .entry))) ⌝ }
+    ensures { λ r. ⌜ r ≡ anyOf (Orientation.misplaced (cellsIn s (now (words .entry)) (now (floats .entry))))
+        (facesIn s (now (words .entry)) (now (floats .entry))) ⌝ }
 {
     let mut f = 0;
     while f < s.faces {

@@ -110,7 +110,9 @@ fn add_tetrahedron(
     j: usize,
 ) -> Weight
     requires { ⌜ (points ≤ 65536) × (24 * points ≤ length (now case)) × (j + 2 < length (now vertices)) ⌝ }
-    ensures { λ r. ⌜ r ≡ Geometry.addTetrahedron (pointsIn (now (case .entry)) points) reference (pointAt (pointsIn (now (case .entry)) points) (getD (now (vertices .entry)) 0 0)) weight (record { from = getD (now (vertices .entry)) (j + 1) 0; to = getD (now (vertices .entry)) (j + 2) 0 }) ⌝ }
+    ensures { λ r. ⌜ r ≡ Geometry.addTetrahedron (pointsIn (now (case .entry)) points) reference
+        (pointAt (pointsIn (now (case .entry)) points) (getD (now (vertices .entry)) 0 0)) weight
+        (record { from = getD (now (vertices .entry)) (j + 1) 0; to = getD (now (vertices .entry)) (j + 2) 0 }) ⌝ }
 {
     let a = vertex_point(case, points, vertices, 0);
     let b = vertex_point(case, points, vertices, j + 1);
@@ -127,7 +129,8 @@ pub fn add_fan(
     vertices: &[u32],
 ) -> Weight
     requires { ⌜ (points ≤ 65536) × (24 * points ≤ length (now case)) ⌝ }
-    ensures { λ r. ⌜ r ≡ Geometry.addFan (pointsIn (now (case .entry)) points) reference weight (now (vertices .entry)) ⌝ }
+    ensures { λ r. ⌜ r ≡ Geometry.addFan (pointsIn (now (case .entry)) points) reference weight
+        (now (vertices .entry)) ⌝ }
 {
     let mut sum = weight;
     let mut j = 0;

@@ -231,7 +231,12 @@ pub fn section(
     marks: &mut [u8],
 ) -> Answered
     requires { ⌜ Ready (now case) n s (now words) (now marks) ⌝ }
-    ensures { λ r. ⌜ ((floats : List Float) → Replied (sectionOf (meshIn (pointsIn (now (case .entry)) (n .points)) s (now (words .entry)) floats) plane) (valuesOf (now (case .entry))) (leftBy (valuesOf (now (case .entry))) (intersect (meshIn (pointsIn (now (case .entry)) (n .points)) s (now (words .entry)) floats) plane) (now (answers .entry))) r (now (answers .entry)) (now (answers .exit)) (now (marks .entry)) (now (marks .exit))) ⌝ }
+    ensures { λ r. ⌜ ((floats : List Float) → Replied
+        (sectionOf (meshIn (pointsIn (now (case .entry)) (n .points)) s (now (words .entry)) floats) plane)
+        (valuesOf (now (case .entry))) (leftBy (valuesOf (now (case .entry)))
+        (intersect (meshIn (pointsIn (now (case .entry)) (n .points)) s (now (words .entry)) floats) plane)
+        (now (answers .entry))) r (now (answers .entry)) (now (answers .exit)) (now (marks .entry))
+        (now (marks .exit))) ⌝ }
 {
     let t = Tally::Section(0, 1);
     let r = walk::sample_all(case, n, words, s, plane, t, answers, marks);
@@ -249,7 +254,10 @@ pub fn integrals(
     marks: &mut [u8],
 ) -> Answered
     requires { ⌜ Ready (now case) n s (now words) (now marks) ⌝ }
-    ensures { λ r. ⌜ ((floats : List Float) → Replied (integralsOf (meshIn (pointsIn (now (case .entry)) (n .points)) s (now (words .entry)) floats) plane) (valuesOf (now (case .entry))) (now (answers .entry)) r (now (answers .entry)) (now (answers .exit)) (now (marks .entry)) (now (marks .exit))) ⌝ }
+    ensures { λ r. ⌜ ((floats : List Float) → Replied
+        (integralsOf (meshIn (pointsIn (now (case .entry)) (n .points)) s (now (words .entry)) floats) plane)
+        (valuesOf (now (case .entry))) (now (answers .entry)) r (now (answers .entry)) (now (answers .exit))
+        (now (marks .entry)) (now (marks .exit))) ⌝ }
 {
     let none = Integral {
         area: 0.0,
@@ -288,7 +296,10 @@ pub fn probe(
     marks: &mut [u8],
 ) -> Answered
     requires { ⌜ Ready (now case) n s (now words) (now marks) ⌝ }
-    ensures { λ r. ⌜ ((floats : List Float) → Replied (probeOf (meshIn (pointsIn (now (case .entry)) (n .points)) s (now (words .entry)) floats) plane p) (valuesOf (now (case .entry))) (now (answers .entry)) r (now (answers .entry)) (now (answers .exit)) (now (marks .entry)) (now (marks .exit))) ⌝ }
+    ensures { λ r. ⌜ ((floats : List Float) → Replied
+        (probeOf (meshIn (pointsIn (now (case .entry)) (n .points)) s (now (words .entry)) floats) plane p)
+        (valuesOf (now (case .entry))) (now (answers .entry)) r (now (answers .entry)) (now (answers .exit))
+        (now (marks .entry)) (now (marks .exit))) ⌝ }
 {
     let away = measures::off(plane, p);
     let q = measures::project(plane, p);
@@ -309,7 +320,10 @@ pub fn statistics(
     marks: &mut [u8],
 ) -> Answered
     requires { ⌜ Ready (now case) n s (now words) (now marks) ⌝ }
-    ensures { λ r. ⌜ ((floats : List Float) → Replied (statisticsOf (meshIn (pointsIn (now (case .entry)) (n .points)) s (now (words .entry)) floats) plane field) (valuesOf (now (case .entry))) (now (answers .entry)) r (now (answers .entry)) (now (answers .exit)) (now (marks .entry)) (now (marks .exit))) ⌝ }
+    ensures { λ r. ⌜ ((floats : List Float) → Replied
+        (statisticsOf (meshIn (pointsIn (now (case .entry)) (n .points)) s (now (words .entry)) floats) plane field)
+        (valuesOf (now (case .entry))) (now (answers .entry)) r (now (answers .entry)) (now (answers .exit))
+        (now (marks .entry)) (now (marks .exit))) ⌝ }
 {
     let top = f64::from_bits(0x7ff0_0000_0000_0000);
     let none = Sums {

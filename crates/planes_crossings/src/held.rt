@@ -23,7 +23,8 @@ pub fn held(x: &[f64], y: &[f64], z: &[f64], i: usize) -> Vec3
 // Puts p as point i.
 pub fn store(x: &mut [f64], y: &mut [f64], z: &mut [f64], i: usize, p: Vec3)
     requires { ⌜ Holds (now x) (now y) (now z) (i + 1) ⌝ }
-    ensures { λ _. ⌜ Stored (now (x .entry)) (now (y .entry)) (now (z .entry)) (now (x .exit)) (now (y .exit)) (now (z .exit)) i p ⌝ }
+    ensures { λ _. ⌜ Stored (now (x .entry)) (now (y .entry)) (now (z .entry)) (now (x .exit)) (now (y .exit))
+        (now (z .exit)) i p ⌝ }
 {
     x[i] = p.x;
     y[i] = p.y;
@@ -75,7 +76,8 @@ pub(crate) fn add_new(
 ) -> usize
     requires { ⌜ Holds (now x) (now y) (now z) (n + 1) ⌝ }
     ensures { λ r. ⌜ Listed (addNew (close cut) (heldIn (now (x .entry)) (now (y .entry)) (now (z .entry)) n) p)
-        (now (x .entry)) (now (y .entry)) (now (z .entry)) (now (x .exit)) (now (y .exit)) (now (z .exit)) n r (n + 1) ⌝ }
+        (now (x .entry)) (now (y .entry)) (now (z .entry)) (now (x .exit)) (now (y .exit)) (now (z .exit)) n r
+        (n + 1) ⌝ }
 {
     if has(cut, p, x, y, z, n) {
         return n;

@@ -86,8 +86,10 @@ fn add_meeting(
     n: usize,
 ) -> usize
     requires { ⌜ TrueHeight cut a × TrueHeight cut b × Holds (now x) (now y) (now z) (n + 1) ⌝ }
-    ensures { λ r. ⌜ Listed (addMeeting cut (heldIn (now (x .entry)) (now (y .entry)) (now (z .entry)) n) (a .point) (b .point))
-        (now (x .entry)) (now (y .entry)) (now (z .entry)) (now (x .exit)) (now (y .exit)) (now (z .exit)) n r (n + 1) ⌝ }
+    ensures { λ r. ⌜ Listed (addMeeting cut (heldIn (now (x .entry)) (now (y .entry)) (now (z .entry)) n) (a .point)
+        (b .point))
+        (now (x .entry)) (now (y .entry)) (now (z .entry)) (now (x .exit)) (now (y .exit)) (now (z .exit)) n r
+        (n + 1) ⌝ }
 {
     let m = meeting(cut, a, b);
     match m {
@@ -99,7 +101,8 @@ fn add_meeting(
 // Corner k of face f with its height.
 fn end_at(case: &[u8], points: usize, words: &[u32], s: Sizes, cut: Cut, f: usize, k: usize) -> End
     requires { ⌜ Lent (now case) points s (now words) ⌝ }
-    ensures { λ r. ⌜ (r .point ≡ cornerOf (bare (now (case .entry)) points s (now (words .entry))) f k) × TrueHeight cut r ⌝ }
+    ensures { λ r. ⌜ (r .point ≡ cornerOf (bare (now (case .entry)) points s (now (words .entry))) f k)
+        × TrueHeight cut r ⌝ }
 {
     let point = heights::corner(case, points, words, s, f, k);
     let height = heights::height(cut, point);
@@ -124,7 +127,8 @@ fn add_face(
     requires { ⌜ length (faceAt (bare (now case) points s (now words) .faces) f .vertices) ≤ 8 ⌝ }
     ensures { λ r. ⌜ Listed (addFace (bare (now (case .entry)) points s (now (words .entry))) cut
         (heldIn (now (x .entry)) (now (y .entry)) (now (z .entry)) from) f)
-        (now (x .entry)) (now (y .entry)) (now (z .entry)) (now (x .exit)) (now (y .exit)) (now (z .exit)) from r (from + 8) ⌝ }
+        (now (x .entry)) (now (y .entry)) (now (z .entry)) (now (x .exit)) (now (y .exit)) (now (z .exit)) from r
+        (from + 8) ⌝ }
 {
     let count = mesh_area::vertex_count(words, s, f);
     let mut n = from;
@@ -171,7 +175,8 @@ pub fn meetings(
 // Every corner of face f lies in the plane.
 fn on_plane(case: &[u8], points: usize, words: &[u32], s: Sizes, cut: Cut, f: usize) -> bool
     requires { ⌜ Lent (now case) points s (now words) ⌝ }
-    ensures { λ r. ⌜ r ≡ allOf (onPlane (bare (now (case .entry)) points s (now (words .entry))) cut) (faceAt (bare (now (case .entry)) points s (now (words .entry)) .faces) f .vertices) ⌝ }
+    ensures { λ r. ⌜ r ≡ allOf (onPlane (bare (now (case .entry)) points s (now (words .entry))) cut)
+        (faceAt (bare (now (case .entry)) points s (now (words .entry)) .faces) f .vertices) ⌝ }
 {
     let n = mesh_area::vertex_count(words, s, f);
     let mut k = 0;
@@ -220,7 +225,8 @@ pub fn has_foreign(
     cell: usize,
 ) -> bool
     requires { ⌜ Lent (now case) points s (now words) ⌝ }
-    ensures { λ r. ⌜ r ≡ anyOf (foreign (bare (now (case .entry)) points s (now (words .entry))) cut cell) (cellAt (bare (now (case .entry)) points s (now (words .entry)) .cells) cell .faces) ⌝ }
+    ensures { λ r. ⌜ r ≡ anyOf (foreign (bare (now (case .entry)) points s (now (words .entry))) cut cell)
+        (cellAt (bare (now (case .entry)) points s (now (words .entry)) .cells) cell .faces) ⌝ }
 {
     let count = mesh_area::face_count(words, s, cell);
     let mut j = 0;

@@ -77,7 +77,8 @@ pub fn validate(plane: Plane) -> u64
 // largest squares.
 fn reach_of(case: &[u8], points: usize, origin: Vec3) -> Reach
     requires { ⌜ (points ≤ 65536) × (24 * points ≤ length (now case)) ⌝ }
-    ensures { λ r. ⌜ (r .span ≡ fold (Cuts.widest origin) 0·0 (pointsIn (now (case .entry)) points)) × (r .location ≡ fold Cuts.farthest (norm origin) (pointsIn (now (case .entry)) points)) ⌝ }
+    ensures { λ r. ⌜ (r .span ≡ fold (Cuts.widest origin) 0·0 (pointsIn (now (case .entry)) points))
+        × (r .location ≡ fold Cuts.farthest (norm origin) (pointsIn (now (case .entry)) points)) ⌝ }
 {
     let mut span = 0.0;
     let mut location = origin.norm_squared();

@@ -56,7 +56,9 @@ fn take_sample(
 ) -> Tallied
     requires { ⌜ (opened (now case) ≡ Opened.Case n) × (cell < length (now marks)) ⌝ }
     requires { ⌜ Holds (now x) (now y) (now z) k × (1 ≤ k) × (k ≤ 192) × (sizeOf t < 1073741824) ⌝ }
-    ensures { λ r. ⌜ Stepped (stream cut (valuesOf (now (case .entry))) (cellIn cell centre k (now (x .entry)) (now (y .entry)) (now (z .entry)) ∷ []) t (now (answers .entry)) (now (marks .entry))) t r (now (answers .exit)) (now (marks .exit)) ⌝ }
+    ensures { λ r. ⌜ Stepped (stream cut (valuesOf (now (case .entry)))
+        (cellIn cell centre k (now (x .entry)) (now (y .entry)) (now (z .entry)) ∷ []) t (now (answers .entry))
+        (now (marks .entry))) t r (now (answers .exit)) (now (marks .exit)) ⌝ }
 {
     let v = read(case, n, marks, cell);
     if measures::sound(v) {
@@ -83,7 +85,10 @@ fn step(
 ) -> Tallied
     requires { ⌜ Ready (now case) n s (now words) (now marks) × (cell < s .cells) ⌝ }
     requires { ⌜ Holds (now x) (now y) (now z) 192 × (sizeOf t < 1073741824) ⌝ }
-    ensures { λ r. ⌜ Stepped (stream cut (valuesOf (now (case .entry))) (pieceOf (bare (now (case .entry)) (n .points) s (now (words .entry))) cut cell (cellAt (bare (now (case .entry)) (n .points) s (now (words .entry)) .cells) cell)) t (now (answers .entry)) (now (marks .entry))) t r (now (answers .exit)) (now (marks .exit)) ⌝ }
+    ensures { λ r. ⌜ Stepped (stream cut (valuesOf (now (case .entry)))
+        (pieceOf (bare (now (case .entry)) (n .points) s (now (words .entry))) cut cell
+        (cellAt (bare (now (case .entry)) (n .points) s (now (words .entry)) .cells) cell)) t (now (answers .entry))
+        (now (marks .entry))) t r (now (answers .exit)) (now (marks .exit)) ⌝ }
 {
     let piece = pieces::piece_of(case, n.points, words, s, cut, cell, x, y, z);
     match piece {
@@ -110,7 +115,10 @@ fn sample_each(
 ) -> Tallied
     requires { ⌜ Ready (now case) n s (now words) (now marks) × (s .cells ≤ 16384) ⌝ }
     requires { ⌜ Holds (now x) (now y) (now z) 192 × (sizeOf t ≤ 1) ⌝ }
-    ensures { λ r. ⌜ Streamed (stream cut (valuesOf (now (case .entry))) (piecesFrom (bare (now (case .entry)) (n .points) s (now (words .entry))) cut 0 (bare (now (case .entry)) (n .points) s (now (words .entry)) .cells)) t (now (answers .entry)) (now (marks .entry))) r (now (answers .exit)) (now (marks .exit)) ⌝ }
+    ensures { λ r. ⌜ Streamed (stream cut (valuesOf (now (case .entry)))
+        (piecesFrom (bare (now (case .entry)) (n .points) s (now (words .entry))) cut 0
+        (bare (now (case .entry)) (n .points) s (now (words .entry)) .cells)) t (now (answers .entry))
+        (now (marks .entry))) r (now (answers .exit)) (now (marks .exit)) ⌝ }
 {
     let mut tally = t;
     let mut i = 0;
@@ -137,7 +145,10 @@ pub fn sample_all(
     marks: &mut [u8],
 ) -> Tallied
     requires { ⌜ Ready (now case) n s (now words) (now marks) × (sizeOf t ≤ 1) ⌝ }
-    ensures { λ r. ⌜ ((floats : List Float) → Streamed (stream (cutOf (pointsIn (now (case .entry)) (n .points)) plane) (valuesOf (now (case .entry))) (intersect (meshIn (pointsIn (now (case .entry)) (n .points)) s (now (words .entry)) floats) plane) t (now (answers .entry)) (now (marks .entry))) r (now (answers .exit)) (now (marks .exit))) ⌝ }
+    ensures { λ r. ⌜ ((floats : List Float) → Streamed
+        (stream (cutOf (pointsIn (now (case .entry)) (n .points)) plane) (valuesOf (now (case .entry)))
+        (intersect (meshIn (pointsIn (now (case .entry)) (n .points)) s (now (words .entry)) floats) plane) t
+        (now (answers .entry)) (now (marks .entry))) r (now (answers .exit)) (now (marks .exit))) ⌝ }
 {
     let cut = axes::cut_of(case, n.points, plane);
     let mut x = [0.0; 192];

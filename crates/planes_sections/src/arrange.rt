@@ -35,8 +35,10 @@ fn angles_of(
     quarters: &mut [u64],
     slopes: &mut [f64],
 )
-    requires { ⌜ Holds (now x) (now y) (now z) (length (now quarters)) × (length (now slopes) ≡ length (now quarters)) ⌝ }
-    ensures { λ _. ⌜ Angled plane centre (pointIn (now (x .entry)) (now (y .entry)) (now (z .entry))) (length (now (quarters .entry))) (now (quarters .exit)) (now (slopes .exit)) ⌝ }
+    requires { ⌜ Holds (now x) (now y) (now z) (length (now quarters))
+        × (length (now slopes) ≡ length (now quarters)) ⌝ }
+    ensures { λ _. ⌜ Angled plane centre (pointIn (now (x .entry)) (now (y .entry)) (now (z .entry)))
+        (length (now (quarters .entry))) (now (quarters .exit)) (now (slopes .exit)) ⌝ }
 {
     let n = quarters.len();
     let mut i = 0;
@@ -58,10 +60,13 @@ fn gather(
     y: &mut [f64],
     z: &mut [f64],
 )
-    requires { ⌜ Gathered (now px) (now py) (now pz) (now places) × Holds (now x) (now y) (now z) (length (now places)) ⌝ }
+    requires { ⌜ Gathered (now px) (now py) (now pz) (now places)
+        × Holds (now x) (now y) (now z) (length (now places)) ⌝ }
     ensures { λ _. ⌜ (heldIn (now (x .exit)) (now (y .exit)) (now (z .exit)) (length (now (places .entry)))
-        ≡ tab (λ i. pointIn (now (px .entry)) (now (py .entry)) (now (pz .entry)) (getD (now (places .entry)) i 0)) (length (now (places .entry))))
-        × Rest (now (x .entry)) (now (y .entry)) (now (z .entry)) (now (x .exit)) (now (y .exit)) (now (z .exit)) (length (now (places .entry))) ⌝ }
+        ≡ tab (λ i. pointIn (now (px .entry)) (now (py .entry)) (now (pz .entry)) (getD (now (places .entry)) i 0))
+        (length (now (places .entry))))
+        × Rest (now (x .entry)) (now (y .entry)) (now (z .entry)) (now (x .exit)) (now (y .exit)) (now (z .exit))
+        (length (now (places .entry))) ⌝ }
 {
     let mut i = 0;
     while i < places.len() {
@@ -85,12 +90,14 @@ fn arrange_by(
     slopes: &mut [f64],
     places: &mut [usize],
 )
-    requires { ⌜ Holds (now px) (now py) (now pz) (length (now quarters)) × Holds (now x) (now y) (now z) (length (now quarters)) ⌝ }
+    requires { ⌜ Holds (now px) (now py) (now pz) (length (now quarters))
+        × Holds (now x) (now y) (now z) (length (now quarters)) ⌝ }
     requires { ⌜ (length (now slopes) ≡ length (now quarters)) × (length (now places) ≡ length (now quarters)) ⌝ }
     ensures { λ _. ⌜ (heldIn (now (x .exit)) (now (y .exit)) (now (z .exit)) (length (now (quarters .entry)))
         ≡ Lists.sort (earlierOn plane centre)
         (heldIn (now (px .entry)) (now (py .entry)) (now (pz .entry)) (length (now (quarters .entry)))))
-        × Rest (now (x .entry)) (now (y .entry)) (now (z .entry)) (now (x .exit)) (now (y .exit)) (now (z .exit)) (length (now (quarters .entry))) ⌝ }
+        × Rest (now (x .entry)) (now (y .entry)) (now (z .entry)) (now (x .exit)) (now (y .exit)) (now (z .exit))
+        (length (now (quarters .entry))) ⌝ }
 {
     angles_of(plane, centre, px, py, pz, quarters, slopes);
     sort::sort_by_angle(quarters, slopes, places);

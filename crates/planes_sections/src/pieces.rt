@@ -93,7 +93,8 @@ pub fn piece_of(
 ) -> Piece
     requires { ⌜ Lent (now case) points s (now words) × Holds (now x) (now y) (now z) 192 ⌝ }
     requires { ⌜ Bounded (bare (now case) points s (now words)) ⌝ }
-    ensures { λ r. ⌜ ((floats : List Float) → Pieced (meshIn (pointsIn (now (case .entry)) points) s (now (words .entry)) floats) cut cell r
+    ensures { λ r. ⌜ ((floats : List Float) → Pieced
+        (meshIn (pointsIn (now (case .entry)) points) s (now (words .entry)) floats) cut cell r
         (now (x .entry)) (now (y .entry)) (now (z .entry)) (now (x .exit)) (now (y .exit)) (now (z .exit))) ⌝ }
 {
     if heights::may_meet(case, points, words, s, cut, cell) {

@@ -127,7 +127,8 @@ fn add_summed(
     z: &[f64],
 ) -> Summed
     requires { ⌜ Holds (now x) (now y) (now z) n × (1 ≤ n) × (usedOf t < 4294967296) ⌝ }
-    ensures { λ r. ⌜ ((cell : ℕ) (centre : Vec3) → r ≡ addSummed normal field t (sampleIn cell centre n v (now (x .entry)) (now (y .entry)) (now (z .entry)))) ⌝ }
+    ensures { λ r. ⌜ ((cell : ℕ) (centre : Vec3) → r ≡ addSummed normal field t
+        (sampleIn cell centre n v (now (x .entry)) (now (y .entry)) (now (z .entry)))) ⌝ }
 {
     match t {
         Summed::Total(sums) => {
@@ -149,7 +150,8 @@ fn add_weighed(
     z: &[f64],
 ) -> Weighed
     requires { ⌜ Holds (now x) (now y) (now z) n × (1 ≤ n) ⌝ }
-    ensures { λ r. ⌜ ((cell : ℕ) (centre : Vec3) → r ≡ addWeighed normal t (sampleIn cell centre n v (now (x .entry)) (now (y .entry)) (now (z .entry)))) ⌝ }
+    ensures { λ r. ⌜ ((cell : ℕ) (centre : Vec3) → r ≡ addWeighed normal t
+        (sampleIn cell centre n v (now (x .entry)) (now (y .entry)) (now (z .entry)))) ⌝ }
 {
     match t {
         Weighed::Whole(sums) => {
@@ -173,7 +175,8 @@ fn add_probed(
     z: &[f64],
 ) -> Probed
     requires { ⌜ Holds (now x) (now y) (now z) n ⌝ }
-    ensures { λ r. ⌜ ((centre : Vec3) → r ≡ addProbed cut q t (sampleIn cell centre n v (now (x .entry)) (now (y .entry)) (now (z .entry)))) ⌝ }
+    ensures { λ r. ⌜ ((centre : Vec3) → r ≡ addProbed cut q t
+        (sampleIn cell centre n v (now (x .entry)) (now (y .entry)) (now (z .entry)))) ⌝ }
 {
     match t {
         Probed::Hit(i, w) => Probed::Hit(i, w),
@@ -201,7 +204,8 @@ pub fn add(
     answers: &mut [u64],
 ) -> Tally
     requires { ⌜ Holds (now x) (now y) (now z) n × (1 ≤ n) × (n ≤ 192) × (sizeOf t < 1073741824) ⌝ }
-    ensures { λ r. ⌜ Added cut t (sampleIn cell centre n v (now (x .entry)) (now (y .entry)) (now (z .entry))) r (now (answers .entry)) (now (answers .exit)) ⌝ }
+    ensures { λ r. ⌜ Added cut t (sampleIn cell centre n v (now (x .entry)) (now (y .entry)) (now (z .entry))) r
+        (now (answers .entry)) (now (answers .exit)) ⌝ }
 {
     match t {
         Tally::Section(polygons, at) => {

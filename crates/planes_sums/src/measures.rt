@@ -100,7 +100,12 @@ fn crosses(q: Vec2, a: Vec2, b: Vec2) -> bool
 // The line from q to the right crosses side i of the n points' polygon.
 fn side_crosses(plane: Plane, q: Vec2, x: &[f64], y: &[f64], z: &[f64], n: usize, i: usize) -> bool
     requires { ⌜ Holds (now x) (now y) (now z) n × (i < n) ⌝ }
-    ensures { λ r. ⌜ r ≡ Polygon.crosses q (record { from = Probe.project plane (pointIn (now (x .entry)) (now (y .entry)) (now (z .entry)) i); to = Probe.project plane (pointIn (now (x .entry)) (now (y .entry)) (now (z .entry)) (after n i)) }) ⌝ }
+    ensures { λ r. ⌜ r ≡ Polygon.crosses q
+        (record {
+          from = Probe.project plane (pointIn (now (x .entry)) (now (y .entry)) (now (z .entry)) i);
+          to =
+              Probe.project plane (pointIn (now (x .entry)) (now (y .entry)) (now (z .entry)) (after n i));
+        }) ⌝ }
 {
     let j = next_of(i, n);
     let a = project(plane, held::held(x, y, z, i));

@@ -12,7 +12,8 @@ ghost use Rattle.planes_sums.specs.Words.{sampleWords};
 // The n points of three slices, from `at` on.
 fn put_points(answers: &mut [u64], at: usize, x: &[f64], y: &[f64], z: &[f64], n: usize)
     requires { ⌜ Holds (now x) (now y) (now z) n × (n ≤ 192) × (at < 2147483648) ⌝ }
-    ensures { λ _. ⌜ now (answers .exit) ≡ sets (now (answers .entry)) at (pointWords (heldIn (now (x .entry)) (now (y .entry)) (now (z .entry)) n)) ⌝ }
+    ensures { λ _. ⌜ now (answers .exit) ≡ sets (now (answers .entry)) at
+        (pointWords (heldIn (now (x .entry)) (now (y .entry)) (now (z .entry)) n)) ⌝ }
 {
     let mut i = 0;
     while i < n {
@@ -34,7 +35,13 @@ pub(crate) fn put_sample(
     z: &[f64],
 )
     requires { ⌜ Holds (now x) (now y) (now z) n × (n ≤ 192) × (at < 1073741824) ⌝ }
-    ensures { λ _. ⌜ now (answers .exit) ≡ sets (now (answers .entry)) at (sampleWords (record { geometry = record { cell = cell; centre = centre; polygon = heldIn (now (x .entry)) (now (y .entry)) (now (z .entry)) n }; values = v })) ⌝ }
+    ensures { λ _. ⌜ now (answers .exit) ≡ sets (now (answers .entry)) at
+        (sampleWords (record {
+          geometry = record
+              { cell = cell; centre = centre; polygon = heldIn (now (x .entry)) (now (y .entry)) (now (z .entry)) n };
+          values
+              = v;
+        })) ⌝ }
 {
     answers::put(answers, at, cell as u64);
     answers::put(answers, at + 1, n as u64);

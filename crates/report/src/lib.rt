@@ -46,7 +46,12 @@ fn run(
 
 // The text of a job with this result. How long it is, or one more than the room for it.
 fn show(k: u64, answers: &[u64], count: usize, marks: &[u8], text: &mut [u8]) -> usize
-    ensures { λ r. ⌜ Listed (textOf count (record { result = k; answers = now (answers .entry); marks = now (marks .entry) }))
+    ensures { λ r. ⌜ Listed (textOf count (record {
+      result = k;
+      answers = now (answers .entry);
+      marks = now
+          (marks .entry);
+    }))
         (now (text .entry)) (now (text .exit)) r ⌝ }
 {
     if k == 0 {
@@ -69,7 +74,8 @@ pub fn report(
 ) -> usize
     ensures { λ r. ⌜ Reported (ended (now (case .entry)) (now (requests .entry))
         (length (now (words .entry))) (length (now (floats .entry))) (now (answers .entry)) (now (marks .entry)))
-        (length (now (requests .entry)) / 128) (now (text .entry)) (now (text .exit)) r (now (answers .exit)) (now (marks .exit)) ⌝ }
+        (length (now (requests .entry)) / 128) (now (text .entry)) (now (text .exit)) r (now (answers .exit))
+        (now (marks .exit)) ⌝ }
 {
     let k = run(case, requests, words, floats, marks, answers);
     show(k, answers, requests.len() / 128, marks, text)

@@ -10,7 +10,8 @@ ghost use Rattle.test_arith_exports.specs.Directions as Spec;
 // The quarters and the slopes of all directions.
 fn measure(dx: &[f64], dy: &[f64], quarters: &mut [u64], slopes: &mut [f64])
     requires { ⌜ Spec.Lent (now dx) (now dy) (now quarters) (now slopes) ⌝ }
-    ensures { λ _. ⌜ now (quarters .exit) ≡ Spec.quarters (now (dx .entry)) (now (dy .entry)) (length (now (dx .entry))) ⌝ }
+    ensures { λ _. ⌜ now (quarters .exit) ≡ Spec.quarters (now (dx .entry)) (now (dy .entry))
+        (length (now (dx .entry))) ⌝ }
     ensures { λ _. ⌜ now (slopes .exit) ≡ Spec.slopes (now (dx .entry)) (now (dy .entry)) (length (now (dx .entry))) ⌝ }
 {
     let mut i = 0;
@@ -33,7 +34,8 @@ fn order(dx: &[f64], dy: &[f64], quarters: &mut [u64], slopes: &mut [f64], place
 
 // The places of the directions in angle order.
 pub fn sort(dx: &[f64], dy: &[f64], places: &mut [usize])
-    requires { ⌜ (length (now dx) ≤ 192) × (length (now dy) ≡ length (now dx)) × (length (now places) ≡ length (now dx)) ⌝ }
+    requires { ⌜ (length (now dx) ≤ 192) × (length (now dy) ≡ length (now dx))
+        × (length (now places) ≡ length (now dx)) ⌝ }
     ensures { λ _. ⌜ now (places .exit) ≡ Spec.ordered (now (dx .entry)) (now (dy .entry)) ⌝ }
 {
     let n = dx.len();
