@@ -7,7 +7,7 @@ use lib.ListN.{length, take, drop, length-append, length-drop, drop-of-length-le
 use lib.Seq.{sets, sets-eq, take-all, take-at, drop-at, take-append-le, length-take-le, take-take}
 use Rattle.reading.specs.Result.{Result, refused, fine}
 use Rattle.planes.specs.declared.Answered.{Answered}
-use Rattle.planes.specs.Reply.{answeredOf, replied}
+use Rattle.planes.specs.Reply.{answerOf, lengthOf, replied}
 use Rattle.job_buffers.specs.Answer.{fitting, answerWords, headerOf}
 use Rattle.job_buffers.specs.Placed.{Behind, Placed, Closed}
 use Rattle.job_buffers.proofs.WordLaws.{closed-placed}
@@ -42,14 +42,14 @@ module _ (o out′ : List ℕ) (at : ℕ) (fits : at + 2 ≤ length o) where
       front : (ws d : List ℕ) → take (length ws) (ws ++ d) ≡ ws
       front ws d = take-at ws d (length ws) refl
 
-module _ (reply : Result (List ℕ)) (a : Answered) (left o out′ o′ : List ℕ) (at later e : ℕ) (tells : a ≡ answeredOf reply) (fits : at + 2 + 2 * later ≤ length o) where
+module _ (reply : Result (List ℕ)) (a : Answered) (left o out′ o′ : List ℕ) (at later e : ℕ) (tells : answerOf a ≡ lengthOf reply) (fits : at + 2 + 2 * later ≤ length o) where
   pub placed-behind : out′ ≡ replied (drop (at + 2) o) left reply → length out′ ≡ length (drop (at + 2) o)
       → Closed (headerOf (length (take (at + 2) o ++ out′) - at) later a) (take (at + 2) o ++ out′) o′ at e
       → Placed (answerWords (fitting (length o - at) later reply)) o o′ at later e
   placed-behind stored long c =
       let room : at + 2 ≤ length o = omega arith in
       let same : length (take (at + 2) o ++ out′) ≡ length o = lent-long o out′ at room long in
-      let p = closed-placed (take (at + 2) o ++ out′) o′ at later e (omega (arith, same)) reply (behind o out′ at room reply left stored long) (rw tells at c) in
+      let p = closed-placed (take (at + 2) o ++ out′) o′ at later e (omega (arith, same)) reply a tells (behind o out′ at room reply left stored long) c in
       let w : answerWords (fitting (length (take (at + 2) o ++ out′) - at) later reply) ≡ answerWords (fitting (length o - at) later reply) = ap (λ (k : ℕ). answerWords (fitting (k - at) later reply)) same in
       record {
         words = p .words ∙ ap (λ t. t ++ answerWords (fitting (length (take (at + 2) o ++ out′) - at) later reply)) (lent-before o out′ at room) ∙ ap (λ t. take at o ++ t) w;

@@ -12,7 +12,7 @@ use Rattle.reading.specs.Result.{Result, refused, fine}
 use Rattle.reading.specs.Marks.{cleared}
 use Rattle.planes.specs.declared.Answered.{Answered}
 use Rattle.planes.specs.declared.Answered.the-variants.{Words, Refused}
-use Rattle.planes.specs.Reply.{answeredOf}
+use Rattle.planes.specs.Reply.{answerOf, lengthOf}
 use Rattle.job_buffers.specs.Answer.{fitting, answerWords, headerOf}
 use Rattle.job_buffers.specs.Placed.{Behind, Placed, Closed}
 
@@ -172,8 +172,14 @@ module _ (o o′ : List ℕ) (at later e : ℕ) (h : at + 2 + 2 * later ≤ leng
       placed-words o o′ ws at later (length ws) e refl (omega arith) (b .words ws refl (omega arith)) (c .end) (c .answers)
   words-placed ws false q b c = placed-refused o o′ at later 44 e h (c .end) (c .answers)
 
-  pub closed-placed : (reply : Result (List ℕ)) → Behind reply o at → Closed (headerOf (length o - at) later (answeredOf reply)) o o′ at e
+  pub closed-placed : (reply : Result (List ℕ)) (r : Answered) → answerOf r ≡ lengthOf reply → Behind reply o at → Closed (headerOf (length o - at) later r) o o′ at e
       → Placed (answerWords (fitting (length o - at) later reply)) o o′ at later e
-  unfolding headerOf answeredOf fitting
-  closed-placed (refused n) b c = placed-refused o o′ at later n e h (c .end) (c .answers)
-  closed-placed (fine ws) b c = words-placed ws (leb (length ws + 2 + 2 * later) (length o - at)) refl b c
+  unfolding headerOf answerOf lengthOf fitting
+  closed-placed (refused n) (Refused k) q b c =
+      let same : k ≡ n = cc in
+      placed-refused o o′ at later n e h (c .end) (c .answers ∙ ap (λ (i : ℕ). set (set o at i) (at + 1) 0) same)
+  closed-placed (refused n) (Words k) q b c = absurd (let z : _≡_ {A = ℕ} 0 1 = cc in omega arith)
+  closed-placed (fine ws) (Refused k) q b c = absurd (let z : _≡_ {A = ℕ} 0 1 = cc in omega arith)
+  closed-placed (fine ws) (Words k) q b c =
+      let same : k ≡ length ws = cc in
+      words-placed ws (leb (length ws + 2 + 2 * later) (length o - at)) refl b (rw same at c)

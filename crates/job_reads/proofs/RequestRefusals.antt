@@ -17,8 +17,8 @@ use Rattle.lines_locate.specs.Field.{StreamlineField}
 use Rattle.planes_sections.specs.Intersect.{PlaneCell, intersect}
 use Rattle.planes_sums.specs.declared.Sums.{Sums}
 use Rattle.planes_sums.specs.Sample.{Sample}
-use Rattle.planes_sums.specs.Statistics.{summing, addSample, empty, statistics}
-use Rattle.planes_sums.specs.Integrals.{fit, addIntegral, vacant, integrals}
+use Rattle.planes_sums.specs.Statistics.{summing, addSample, empty, statisticsFrom, statistics}
+use Rattle.planes_sums.specs.Integrals.{fit, addIntegral, vacant, integralsFrom, integrals}
 use Rattle.planes_samples.specs.Sampling.{before, onward, sample}
 use Rattle.planes.specs.Answers.{sampled, sectionOf, statisticsOf, integralsOf, probeOf}
 use Rattle.lines_step.specs.declared.StreamlineOptions.{StreamlineOptions}
@@ -122,12 +122,12 @@ module _ (f : ℕ → Values) where
   summing-answer false s a b c = none
 
   statistics-answer : (normal : Vec3) (field : ℕ) (l : List Sample) → Answer (statistics normal field l)
-  unfolding statistics addSample
+  unfolding statistics statisticsFrom addSample
   statistics-answer normal field l =
       bind (through _ (λ t s. summing-answer _ t _ _ _) _ l) (λ t. either (empty t) (due 41 refl) none)
 
   integrals-answer : (normal : Vec3) (l : List Sample) → Answer (integrals normal l)
-  unfolding integrals addIntegral
+  unfolding integrals integralsFrom addIntegral
   integrals-answer normal l =
       bind (through _ (λ t s. either (fit _ _) none (due 42 refl)) _ l) (λ t. either (vacant t) (due 43 refl) none)
 

@@ -46,7 +46,7 @@ use Rattle.planes.specs.Answers.{sectionOf, statisticsOf, integralsOf, probeOf}
 use Rattle.answers.specs.Words.{vecWords}
 use Rattle.planes_sums.specs.Words.{sampleWords}
 use Rattle.planes_samples.specs.Stream as Planes
-use Rattle.planes.specs.Reply.{answeredOf, replied, goods, leftBy, Replied}
+use Rattle.planes.specs.Reply.{answerOf, lengthOf, replied, goods, leftBy, Replied}
 use Rattle.job_requests.specs.declared.Request.{Request}
 use Rattle.job_requests.specs.declared.Request.the-variants.{Refused, Locate, Velocity, Streamline, Rake, Section, Statistics, Integrals, Probe}
 use Rattle.job_requests.specs.Bounds.{Allowed}
@@ -64,28 +64,20 @@ use Rattle.job_serve.specs.Left.{leftUnder}
 
 module _ {f : ℕ → Values} {o m : List ℕ} where
   pub replied-no : (n : ℕ) → Replied (give (refused n)) f o (Answered.Refused n) o o m m
-  unfolding answeredOf replied
+  unfolding answerOf lengthOf replied
   replied-no n = record { result = refl; answers = refl; marks = refl }
 
   pub replied-yes : {left o′ : List ℕ} (ws : List ℕ) (n : ℕ) → length ws ≡ n → o′ ≡ sets o 0 ws → Replied (give (fine ws)) f left (Answered.Words n) o o′ m m
-  unfolding answeredOf replied
-  replied-yes ws n e h = record { result = rw (← e); answers = h; marks = refl }
+  unfolding answerOf lengthOf replied
+  replied-yes ws n e h = record { result = rw e; answers = h; marks = refl }
 
 -- ---- a job over lines
 
 module _ (f : ℕ → Values) where
-  pub run-decided : (j : Result (Asks (List ℕ))) → answeredOf (run (decided j) f) ≡ elim (countOf j f) [ fine k ↦ Answered.Words k | refused k ↦ Answered.Refused k ]
-  unfolding decided answeredOf countOf
+  pub run-decided : (j : Result (Asks (List ℕ))) → lengthOf (run (decided j) f) ≡ countOf j f
+  unfolding decided lengthOf countOf
   run-decided (refused n) = refl
   run-decided (fine t) = rw (run-bind t (λ ws. give (fine ws)) f)
-
-  pub traced-words : (j : Result (Asks (List ℕ))) (r : Traced) (k : ℕ) → resultOf r ≡ countOf j f → r ≡ Traced.Words k → Answered.Words k ≡ answeredOf (run (decided j) f)
-  unfolding resultOf
-  traced-words j r k e h = rw (run-decided j, ← e, h)
-
-  pub traced-refused : (j : Result (Asks (List ℕ))) (r : Traced) (k : ℕ) → resultOf r ≡ countOf j f → r ≡ Traced.Refused k → Answered.Refused k ≡ answeredOf (run (decided j) f)
-  unfolding resultOf
-  traced-refused j r k e h = rw (run-decided j, ← e, h)
 
   pub reads-decided : (j : Result (Asks (List ℕ))) → reads (decided j) f ≡ readsOf j f
   unfolding decided readsOf
@@ -98,10 +90,10 @@ module _ (f : ℕ → Values) where
   replied-decided o (fine t) = rw (run-bind t (λ ws. give (fine ws)) f)
 
   pub decided-replied : {j : Result (Asks (List ℕ))} {m m′ o o′ : List ℕ} {r : Traced} {a : Answered} → Lines.Answered j f m m′ o o′ r
-      → ((k : Result (Asks (List ℕ))) (h : ℕ → Values) → resultOf r ≡ countOf k h → a ≡ answeredOf (run (decided k) h)) → Replied (decided j) f o a o o′ m m′
+      → answerOf a ≡ resultOf r → Replied (decided j) f o a o o′ m m′
   decided-replied {j} {m} {o} w e =
       record {
-        result = e j f (w .result);
+        result = e ∙ w .result ∙ sym (run-decided j);
         answers = w .words ∙ sym (replied-decided o j);
         marks = w .marks ∙ ap (markAll m) (sym (reads-decided j));
       }
@@ -126,23 +118,23 @@ module _ {v : ℕ → Values} {o o′ m : List ℕ} where
 
   pub velocity-reply : (F : StreamlineField) {m′ : List ℕ} (p : Vec3) (r : Vector) → Served (velocityAt F p) v m m′ r → o′ ≡ sets o 0 (velocityWords r)
       → Replied (serveFlat F (Velocity p)) v o (Answered.Words 4) o o′ m m′
-  unfolding serveFlat answeredOf replied
+  unfolding serveFlat answerOf lengthOf replied
   velocity-reply F p r t h =
       let tail : Vector → Asks (Result (List ℕ)) = λ u. give (fine (velocityWords u)) in
       let answer : run (velocityAt F p >>= tail) v ≡ fine (velocityWords r) = run-bind (velocityAt F p) tail v ∙ ap (λ (u : Vector). fine (velocityWords u)) (sym (t .answer)) in
       record {
-        result = rw answer (ap Answered.Words (sym (velocity-four r)));
+        result = rw answer (ap fine (sym (velocity-four r)));
         answers = rw answer h;
         marks = t .marks ∙ ap (markAll m) (sym (reads-bind (velocityAt F p) tail v ∙ append-nil (reads (velocityAt F p) v)));
       }
 
   pub streamline-reply : {m′ : List ℕ} (F : StreamlineField) (p : Vec3) (d : StreamlineDirection) (x : StreamlineOptions) (r : Traced) (a : Answered) → Lines.Answered (integrate F p d x) v m m′ o o′ r
-      → ((k : Result (Asks (List ℕ))) (h : ℕ → Values) → resultOf r ≡ countOf k h → a ≡ answeredOf (run (decided k) h)) → Replied (serveFlat F (Streamline p d x)) v o a o o′ m m′
+      → answerOf a ≡ resultOf r → Replied (serveFlat F (Streamline p d x)) v o a o o′ m m′
   unfolding serveFlat
   streamline-reply F p d x r a w e = decided-replied v w e
 
   pub rake-reply : {m′ : List ℕ} (F : StreamlineField) (a b : Vec3) (n : ℕ) (d : StreamlineDirection) (x : StreamlineOptions) (r : Traced) (t : Answered) → Lines.Answered (integrateRake F a b n d x) v m m′ o o′ r
-      → ((k : Result (Asks (List ℕ))) (h : ℕ → Values) → resultOf r ≡ countOf k h → t ≡ answeredOf (run (decided k) h)) → Replied (serveFlat F (Rake a b n d x)) v o t o o′ m m′
+      → answerOf t ≡ resultOf r → Replied (serveFlat F (Rake a b n d x)) v o t o o′ m m′
   unfolding serveFlat
   rake-reply F a b n d x r t w e = decided-replied v w e
 

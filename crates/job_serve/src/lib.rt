@@ -22,15 +22,13 @@ ghost use lib.ListN.{length};
 ghost use lib.Seq.{sets};
 ghost use lib.Ieee.{Float};
 ghost use Rattle.reading.specs.declared.Values.{Values};
-ghost use Rattle.reading.specs.Result.{Result};
-ghost use Rattle.reading.specs.Asks.{Asks, run};
 ghost use Rattle.mesh_area.specs.Layout.{LentWords, LentFloats, pointsIn, meshIn};
 ghost use Rattle.case_file.specs.Field.{valuesOf};
 ghost use Rattle.lines_locate.specs.Layout.{fieldIn, Searchable};
 ghost use Rattle.lines_velocity.specs.Ready as Tracer;
-ghost use Rattle.lines.specs.Answered.{resultOf, countOf};
+ghost use Rattle.lines.specs.Answered.{resultOf};
 ghost use Rattle.planes_samples.specs.Stream as Planes;
-ghost use Rattle.planes.specs.Reply.{answeredOf, Replied};
+ghost use Rattle.planes.specs.Reply.{answerOf, Replied};
 ghost use Rattle.job_requests.specs.declared.Request.the-variants as Code;
 ghost use Rattle.job_requests.specs.Bounds.{Allowed};
 ghost use Rattle.job_room.specs.Room.{solid};
@@ -66,8 +64,7 @@ fn put_velocity(r: Vector, out: &mut [u64])
 
 // How many words, or the refusal.
 fn answered(r: Traced) -> Answered
-    ensures { λ a. ⌜ ((j : Result (Asks (List ℕ))) (f : ℕ → Values) → resultOf r ≡ countOf j f → a ≡ answeredOf
-        (run (Serve.decided j) f)) ⌝ }
+    ensures { λ a. ⌜ answerOf a ≡ resultOf r ⌝ }
 {
     match r {
         Traced::Words(k) => Answered::Words(k),

@@ -7,7 +7,7 @@ use lib.ListN.{length}
 use lib.Seq.{sets}
 use Rattle.arith.specs.F64.{_≺_, _⊖_, 0·0, word}
 use Rattle.arith.specs.declared.Vec2.{Vec2}
-use Rattle.reading.specs.Result.{refused, fine}
+use Rattle.reading.specs.Result.{Result, refused, fine, _>>=_}
 use Rattle.planes.specs.declared.Answered.{Answered}
 use Rattle.planes.specs.declared.Answered.the-variants.{Words, Refused}
 use Rattle.planes_sums.specs.declared.Sums.{Sums}
@@ -21,10 +21,12 @@ use Rattle.planes_sums.specs.declared.Tally.{Tally}
 use Rattle.planes_sums.specs.declared.Tally.the-variants.{Section, Statistics, Integrals, Probe}
 use Rattle.planes_samples.specs.declared.Tallied.{Tallied}
 use Rattle.planes_samples.specs.declared.Tallied.the-variants.{Done, Bad}
-use Rattle.planes_sums.specs.Statistics.{empty, statisticsWords, fractionWords}
-use Rattle.planes_sums.specs.Integrals.{vacant, integralWords}
+use Rattle.planes_sums.specs.Statistics.{empty, statisticsWords, statisticsFrom, fractionWords}
+use Rattle.planes_sums.specs.Integrals.{vacant, integralWords, integralsFrom}
+use Rattle.planes_sums.specs.Kept.{keptOf, sumsOf, integralOf}
+use Rattle.planes_samples.specs.Stream.{talliedOf}
 use Rattle.planes.specs.Answers.{probeWords}
-use Rattle.planes.specs.Reply.{answeredOf, wordsOf, statisticsEnd, integralsEnd, ended, lastWords, Ended, Closed}
+use Rattle.planes.specs.Reply.{answerOf, lengthOf, wordsOf, statisticsEnd, integralsEnd, ended, lastWords, Ended, Closed}
 
 pub no-word : word 0·0 ≡ 0
 unfolding lib.Ieee.toBits lib.Ieee.ofBits
@@ -32,29 +34,29 @@ no-word = refl
 
 module _ (o o′ : List ℕ) where
   pub ended-no : (n : ℕ) → Ended (refused n) (Refused n) o o
-  unfolding answeredOf wordsOf
+  unfolding answerOf lengthOf wordsOf
   ended-no n = record { result = refl; answers = refl }
 
   pub ended-yes : (ws : List ℕ) (n : ℕ) → length ws ≡ n → o′ ≡ sets o 0 ws → Ended (fine ws) (Words n) o o′
-  unfolding answeredOf wordsOf
-  ended-yes ws n e h = record { result = rw (← e); answers = h }
+  unfolding answerOf lengthOf wordsOf
+  ended-yes ws n e h = record { result = rw e; answers = h }
 
   module _ (r : Weighed) (t : Integral) (b : Bool) (e : r ≡ Whole t) (eb : b ≡ vacant t) where
-    pub integrals-refused : b ≡ true → Ended (integralsEnd r) (Refused 43) o o
-    unfolding integralsEnd
+    pub integrals-refused : b ≡ true → Ended (integralsEnd (integralOf r)) (Refused 43) o o
+    unfolding integralsEnd integralsFrom integralOf _>>=_
     integrals-refused h = rw (e, sym eb ∙ h) (ended-no 43)
 
-    pub integrals-put : b ≡ false → o′ ≡ sets o 0 (integralWords t) → Ended (integralsEnd r) (Words 4) o o′
-    unfolding integralsEnd integralWords
+    pub integrals-put : b ≡ false → o′ ≡ sets o 0 (integralWords t) → Ended (integralsEnd (integralOf r)) (Words 4) o o′
+    unfolding integralsEnd integralsFrom integralOf integralWords _>>=_
     integrals-put h eo = rw (e, sym eb ∙ h) (ended-yes (integralWords t) 4 refl eo)
 
-  pub integrals-none : (r : Weighed) → r ≡ Unweighed → Ended (integralsEnd r) (Refused 42) o o
-  unfolding integralsEnd
+  pub integrals-none : (r : Weighed) → r ≡ Unweighed → Ended (integralsEnd (integralOf r)) (Refused 42) o o
+  unfolding integralsEnd integralOf _>>=_
   integrals-none r e = rw e (ended-no 42)
 
   module _ (r : Summed) (t : Sums) (b : Bool) (e : r ≡ Total t) (eb : b ≡ empty t) where
-    pub statistics-refused : b ≡ true → Ended (statisticsEnd r) (Refused 41) o o
-    unfolding statisticsEnd
+    pub statistics-refused : b ≡ true → Ended (statisticsEnd (sumsOf r)) (Refused 41) o o
+    unfolding statisticsEnd statisticsFrom sumsOf _>>=_
     statistics-refused h = rw (e, sym eb ∙ h) (ended-no 41)
 
     three : (d : Bool) (a c : ℕ) → length (cond d (1 ∷ a ∷ c ∷ []) (0 ∷ 0 ∷ 0 ∷ [])) ≡ 3
@@ -65,31 +67,31 @@ module _ (o o′ : List ℕ) where
     unfolding statisticsWords fractionWords
     thirteen = rw (three (0·0 ≺ (t .positive ⊖ t .negative)))
 
-    pub statistics-put : b ≡ false → o′ ≡ sets o 0 (statisticsWords t) → Ended (statisticsEnd r) (Words 13) o o′
-    unfolding statisticsEnd
+    pub statistics-put : b ≡ false → o′ ≡ sets o 0 (statisticsWords t) → Ended (statisticsEnd (sumsOf r)) (Words 13) o o′
+    unfolding statisticsEnd statisticsFrom sumsOf _>>=_
     statistics-put h eo = rw (e, sym eb ∙ h) (ended-yes (statisticsWords t) 13 thirteen eo)
 
-  pub statistics-none : (r : Summed) → r ≡ Unsummed → Ended (statisticsEnd r) (Refused 40) o o
-  unfolding statisticsEnd
+  pub statistics-none : (r : Summed) → r ≡ Unsummed → Ended (statisticsEnd (sumsOf r)) (Refused 40) o o
+  unfolding statisticsEnd sumsOf _>>=_
   statistics-none r e = rw e (ended-no 40)
 
   module _ (r : Tallied) (t : Tally) (e : r ≡ Done t) where
-    pub close-section : (p at : ℕ) → t ≡ Section p at → o′ ≡ sets o 0 (p ∷ []) → Closed r (Words at) o o′
-    unfolding ended lastWords
+    pub close-section : (p at : ℕ) → t ≡ Section p at → o′ ≡ sets o 0 (p ∷ []) → Closed (talliedOf r) (Words at) o o′
+    unfolding ended lastWords talliedOf keptOf answerOf
     close-section p at w h = record { result = rw (e, w); answers = rw (e, w) h }
 
-    pub close-statistics : (a : Answered) (field : ℕ) (s : Summed) → t ≡ Statistics field s → Ended (statisticsEnd s) a o o′ → Closed r a o o′
-    unfolding ended lastWords
+    pub close-statistics : (a : Answered) (field : ℕ) (s : Summed) → t ≡ Statistics field s → Ended (statisticsEnd (sumsOf s)) a o o′ → Closed (talliedOf r) a o o′
+    unfolding ended lastWords talliedOf keptOf answerOf
     close-statistics a field s w h = record { result = rw (e, w) (h .result); answers = rw (e, w) (h .answers) }
 
-    pub close-integrals : (a : Answered) (s : Weighed) → t ≡ Integrals s → Ended (integralsEnd s) a o o′ → Closed r a o o′
-    unfolding ended lastWords
+    pub close-integrals : (a : Answered) (s : Weighed) → t ≡ Integrals s → Ended (integralsEnd (integralOf s)) a o o′ → Closed (talliedOf r) a o o′
+    unfolding ended lastWords talliedOf keptOf answerOf
     close-integrals a s w h = record { result = rw (e, w) (h .result); answers = rw (e, w) (h .answers) }
 
-    pub close-probe : (q : Vec2) (s : Probed) → t ≡ Probe q s → o′ ≡ sets o 0 (probeWords s) → Closed r (Words 5) o o′
-    unfolding ended lastWords
+    pub close-probe : (q : Vec2) (s : Probed) → t ≡ Probe q s → o′ ≡ sets o 0 (probeWords s) → Closed (talliedOf r) (Words 5) o o′
+    unfolding ended lastWords talliedOf keptOf answerOf
     close-probe q s w h = record { result = rw (e, w); answers = rw (e, w) h }
 
-  pub close-bad : (r : Tallied) → r ≡ Bad → Closed r (Refused 39) o o
-  unfolding ended lastWords
+  pub close-bad : (r : Tallied) → r ≡ Bad → Closed (talliedOf r) (Refused 39) o o
+  unfolding ended lastWords talliedOf answerOf
   close-bad r e = record { result = rw e; answers = rw e }

@@ -18,16 +18,13 @@ use Rattle.planes_cut.specs.declared.Cut.{Cut}
 use Rattle.planes_cut.specs.declared.Plane.{Plane}
 use Rattle.planes_sections.specs.Intersect.{PlaneCell, intersect}
 use Rattle.planes.specs.declared.Answered.{Answered}
-use Rattle.planes_sums.specs.declared.Tally.{Tally}
-use Rattle.planes_sums.specs.declared.Tally.the-variants.{Section}
 use Rattle.planes_samples.specs.declared.Tallied.{Tallied}
-use Rattle.planes_samples.specs.declared.Tallied.the-variants.{Done, Bad}
 use Rattle.planes_sums.specs.Sample.{Sample, sound}
 use Rattle.planes.specs.Answers.{sampled, sectionWords, sectionOf}
 use Rattle.planes_sums.specs.Words.{sampleWords}
-use Rattle.planes_samples.specs.Stream.{Stream, stream, Streamed}
-use Rattle.planes_sums.specs.Kept.{addTo, written}
-use Rattle.planes.specs.Reply.{answeredOf, replied, goods, leftBy, ended, lastWords, Closed, Replied}
+use Rattle.planes_samples.specs.Stream.{talliedOf, Stream, stream, Streamed}
+use Rattle.planes_sums.specs.Kept.{Kept, ofSection, addTo, written}
+use Rattle.planes.specs.Reply.{lengthOf, replied, goods, leftBy, ended, lastWords, Closed, Replied}
 use Rattle.answers.proofs.WordLaws.{sets-append, sets-set}
 use Rattle.planes_samples.proofs.StreamLaws.{at, stream-nil, stream-sound, stream-bad, stream-marks}
 use Rattle.planes.proofs.TreeLaws.{BadRun, GoodRun, goods-sound, goods-bad, stream-run, run-sampled, reads-sampled}
@@ -44,11 +41,11 @@ no-words : wordsFor [] ≡ []
 unfolding flatten
 no-words = refl
 
-added : (c : Cut) (n i : ℕ) (s : Sample) → addTo c (Section n i) s ≡ Section (suc n) (i + length (sampleWords s))
+added : (c : Cut) (n i : ℕ) (s : Sample) → addTo c (ofSection n i) s ≡ ofSection (suc n) (i + length (sampleWords s))
 unfolding addTo
 added c n i s = refl
 
-written-there : (n i : ℕ) (o : List ℕ) (s : Sample) → written (Section n i) o s ≡ sets o i (sampleWords s)
+written-there : (n i : ℕ) (o : List ℕ) (s : Sample) → written (ofSection n i) o s ≡ sets o i (sampleWords s)
 unfolding written
 written-there n i o s = refl
 
@@ -57,59 +54,59 @@ unfolding goods
 no-goods f = refl
 
 module _ (c : Cut) (f : ℕ → Values) where
-  pub stream-section : (l : List PlaneCell) (n i : ℕ) (o m : List ℕ) → stream c f l (Section n i) o m .answers ≡ sets o i (wordsFor (goods f l))
-  stream-section [] n i o m = ap (λ (s : Stream). s .answers) (stream-nil c f (Section n i) o m) ∙ rw (no-goods f, no-words)
+  pub stream-section : (l : List PlaneCell) (n i : ℕ) (o m : List ℕ) → stream c f l (ofSection n i) o m .answers ≡ sets o i (wordsFor (goods f l))
+  stream-section [] n i o m = ap (λ (s : Stream). s .answers) (stream-nil c f (ofSection n i) o m) ∙ rw (no-goods f, no-words)
   stream-section (p ∷ l) n i o m =
       by (stream-section l (suc n) (i + length (sampleWords (at c f p))) (sets o i (sampleWords (at c f p))) (set m (p .cell) 1)) (sound (f (p .cell))) refl
     where
       s : Sample
       s = at c f p
 
-      by : stream c f l (Section (suc n) (i + length (sampleWords s))) (sets o i (sampleWords s)) (set m (p .cell) 1) .answers
+      by : stream c f l (ofSection (suc n) (i + length (sampleWords s))) (sets o i (sampleWords s)) (set m (p .cell) 1) .answers
           ≡ sets (sets o i (sampleWords s)) (i + length (sampleWords s)) (wordsFor (goods f l)) →
-          (b : Bool) → sound (f (p .cell)) ≡ b → stream c f (p ∷ l) (Section n i) o m .answers ≡ sets o i (wordsFor (goods f (p ∷ l)))
+          (b : Bool) → sound (f (p .cell)) ≡ b → stream c f (p ∷ l) (ofSection n i) o m .answers ≡ sets o i (wordsFor (goods f (p ∷ l)))
       by rest true h =
-          ap (λ (t : Stream). t .answers) (stream-sound c f p l (Section n i) o m h)
-          ∙ ap₂ (λ (t : Tally) (w : List ℕ). stream c f l t w (set m (p .cell) 1) .answers) (added c n i s) (written-there n i o s)
+          ap (λ (t : Stream). t .answers) (stream-sound c f p l (ofSection n i) o m h)
+          ∙ ap₂ (λ (t : Kept) (w : List ℕ). stream c f l t w (set m (p .cell) 1) .answers) (added c n i s) (written-there n i o s)
           ∙ rest
           ∙ sym (sets-append o i (sampleWords s) (wordsFor (goods f l)))
           ∙ ap (sets o i) (sym (words-next s (goods f l)))
           ∙ ap (λ (t : List Sample). sets o i (wordsFor t)) (sym (goods-sound c f p l h))
       by rest false h =
-          ap (λ (t : Stream). t .answers) (stream-bad c f p l (Section n i) o m h)
+          ap (λ (t : Stream). t .answers) (stream-bad c f p l (ofSection n i) o m h)
           ∙ ap (sets o i) (sym no-words)
           ∙ ap (λ (t : List Sample). sets o i (wordsFor t)) (sym (goods-bad c f p l h))
 
-fold-section : (c : Cut) (n i : ℕ) (ss : List Sample) → fold (addTo c) (Section n i) ss ≡ Section (n + length ss) (i + length (wordsFor ss))
+fold-section : (c : Cut) (n i : ℕ) (ss : List Sample) → fold (addTo c) (ofSection n i) ss ≡ ofSection (n + length ss) (i + length (wordsFor ss))
 unfolding fold flatten
-fold-section c n i [] = ap₂ Section (omega arith) (omega arith)
+fold-section c n i [] = ap₂ ofSection (omega arith) (omega arith)
 fold-section c n i (s ∷ ss) =
-    ap (λ (t : Tally). fold (addTo c) t ss) (added c n i s)
+    ap (λ (t : Kept). fold (addTo c) t ss) (added c n i s)
     ∙ fold-section c (suc n) (i + length (sampleWords s)) ss
-    ∙ ap₂ Section (omega arith) (let e = length-append (sampleWords s) (wordsFor ss) in omega arith)
+    ∙ ap₂ ofSection (omega arith) (let e = length-append (sampleWords s) (wordsFor ss) in omega arith)
 
-bad-result : (t : Tallied) (e : Result (List ℕ)) → t ≡ Bad → e ≡ refused 39 → ended t ≡ answeredOf e
-unfolding ended answeredOf
+bad-result : (t : Result Kept) (e : Result (List ℕ)) → t ≡ refused 39 → e ≡ refused 39 → ended t ≡ lengthOf e
+unfolding ended lengthOf
 bad-result t e a b = rw (a, b)
 
-bad-answers : (t : Tallied) (e : Result (List ℕ)) (o o₁ left : List ℕ) → t ≡ Bad → e ≡ refused 39 → o₁ ≡ left → sets o₁ 0 (lastWords t) ≡ replied o left e
+bad-answers : (t : Result Kept) (e : Result (List ℕ)) (o o₁ left : List ℕ) → t ≡ refused 39 → e ≡ refused 39 → o₁ ≡ left → sets o₁ 0 (lastWords t) ≡ replied o left e
 unfolding lastWords replied
 bad-answers t e o o₁ left a b h = rw (a, b) h
 
-good-result : (t : Tallied) (e : Result (List ℕ)) (ss : List Sample) → t ≡ Done (Section (length ss) (suc (length (wordsFor ss)))) → e ≡ fine (sectionWords ss) → ended t ≡ answeredOf e
-unfolding ended answeredOf sectionWords
+good-result : (t : Result Kept) (e : Result (List ℕ)) (ss : List Sample) → t ≡ fine (ofSection (length ss) (suc (length (wordsFor ss)))) → e ≡ fine (sectionWords ss) → ended t ≡ lengthOf e
+unfolding ended lengthOf sectionWords
 good-result t e ss a b = rw (a, b)
 
-good-answers : (t : Tallied) (e : Result (List ℕ)) (ss : List Sample) (o o₁ left : List ℕ) → t ≡ Done (Section (length ss) (suc (length (wordsFor ss)))) →
+good-answers : (t : Result Kept) (e : Result (List ℕ)) (ss : List Sample) (o o₁ left : List ℕ) → t ≡ fine (ofSection (length ss) (suc (length (wordsFor ss)))) →
     e ≡ fine (sectionWords ss) → o₁ ≡ sets o 1 (wordsFor ss) → sets o₁ 0 (lastWords t) ≡ replied o left e
 unfolding lastWords replied sectionWords
 good-answers t e ss o o₁ left a b h = rw (a, b, h) (sets-set (wordsFor ss) o 0 1 (length ss) (omega arith))
 
 pub section-reply : (mesh : Mesh) (plane : Plane) (f : ℕ → Values) (c : Cut) (o o₁ o₂ m m₁ : List ℕ) (r : Tallied) (a : Answered) →
-    Streamed (stream c f (intersect mesh plane) (Section 0 1) o m) r o₁ m₁ → Closed r a o₁ o₂ →
+    Streamed (stream c f (intersect mesh plane) (ofSection 0 1) o m) r o₁ m₁ → Closed (talliedOf r) a o₁ o₂ →
     Replied (sectionOf mesh plane) f (leftBy f (intersect mesh plane) o) a o o₂ m m₁
 unfolding sectionOf leftBy
-section-reply mesh plane f c o o₁ o₂ m m₁ r a s d = by (stream-run c f l (Section 0 1) o m)
+section-reply mesh plane f c o o₁ o₂ m m₁ r a s d = by (stream-run c f l (ofSection 0 1) o m)
   where
     l : List PlaneCell
     l = intersect mesh plane
@@ -121,23 +118,23 @@ section-reply mesh plane f c o o₁ o₂ m m₁ r a s d = by (stream-run c f l (
     there = s .answers ∙ stream-section c f l 0 1 o m
 
     marked : m₁ ≡ markAll m (reads (sampled mesh plane answer) f)
-    marked = s .marks ∙ stream-marks c f l (Section 0 1) o m ∙ ap (markAll m) (sym (reads-sampled mesh plane answer f))
+    marked = s .marks ∙ stream-marks c f l (ofSection 0 1) o m ∙ ap (markAll m) (sym (reads-sampled mesh plane answer f))
 
-    by : BadRun c f l (Section 0 1) o m ⊎ GoodRun c f l (Section 0 1) o m → Replied (sampled mesh plane answer) f (sets o 1 (wordsFor (goods f l))) a o o₂ m m₁
+    by : BadRun c f l (ofSection 0 1) o m ⊎ GoodRun c f l (ofSection 0 1) o m → Replied (sampled mesh plane answer) f (sets o 1 (wordsFor (goods f l))) a o o₂ m m₁
     by (inl b) =
         let e : run (sampled mesh plane answer) f ≡ refused 39 = run-sampled mesh plane answer f ∙ rw (b .tree) (unfold result._>>=_ in refl) in
-        let k : r ≡ Bad = s .outcome ∙ b .outcome in
+        let k : talliedOf r ≡ refused 39 = s .outcome ∙ b .outcome in
         record {
-          result = d .result ∙ bad-result r _ k e;
-          answers = d .answers ∙ bad-answers r _ o o₁ _ k e there;
+          result = d .result ∙ bad-result (talliedOf r) _ k e;
+          answers = d .answers ∙ bad-answers (talliedOf r) _ o o₁ _ k e there;
           marks = marked;
         }
     by (inr g) =
         let e : run (sampled mesh plane answer) f ≡ fine (sectionWords (goods f l)) = run-sampled mesh plane answer f ∙ rw (g .tree) (unfold result._>>=_ in refl) in
-        let k : r ≡ Done (Section (length (goods f l)) (suc (length (wordsFor (goods f l))))) =
-        s .outcome ∙ g .outcome ∙ ap Done (fold-section c 0 1 (goods f l) ∙ ap₂ Section (omega arith) (omega arith)) in
+        let k : talliedOf r ≡ fine (ofSection (length (goods f l)) (suc (length (wordsFor (goods f l))))) =
+        s .outcome ∙ g .outcome ∙ ap fine (fold-section c 0 1 (goods f l) ∙ ap₂ ofSection (omega arith) (omega arith)) in
         record {
-          result = d .result ∙ good-result r _ (goods f l) k e;
-          answers = d .answers ∙ good-answers r _ (goods f l) o o₁ _ k e there;
+          result = d .result ∙ good-result (talliedOf r) _ (goods f l) k e;
+          answers = d .answers ∙ good-answers (talliedOf r) _ (goods f l) o o₁ _ k e there;
           marks = marked;
         }

@@ -1,15 +1,11 @@
 -- What the stream of samples leaves, against the trees. Assumes nothing.
 use Prim.Native.Nat.{ℕ}
-use native.Mathlib.Omega.{arith}
 use mathlib.Core.Path.{_≡_, refl, ap, sym, _∙_}
 use mathlib.Core.Logic.{_⊎_, inl, inr}
 use mathlib.Core.Bool.{Bool, true, false, cond}
 use mathlib.Core.List.{List, [], _∷_, append-nil}
 use lib.ListN.{length, set}
 use lib.Seq.{sets}
-use lib.Ieee.{Float}
-use Rattle.arith.specs.F64.{finite, _⊗_}
-use Rattle.arith.specs.Vec.{dot}
 use Rattle.arith.specs.Lists.{fold}
 use Rattle.arith.specs.declared.Vec2.{Vec2}
 use Rattle.arith.specs.declared.Vec3.{Vec3}
@@ -26,40 +22,32 @@ use Rattle.planes_cut.specs.Cut.{cutOf}
 use Rattle.planes_sections.specs.Intersect.{PlaneCell, intersect}
 use Rattle.planes_cut.specs.Plane.{normalOf}
 use Rattle.planes.specs.declared.Answered.{Answered}
-use Rattle.planes.specs.declared.Answered.the-variants.{Words}
 use Rattle.planes_sums.specs.declared.Sums.{Sums}
 use Rattle.planes_sums.specs.declared.Integral.{Integral}
-use Rattle.planes_sums.specs.declared.Summed.{Summed}
-use Rattle.planes_sums.specs.declared.Summed.the-variants.{Total, Unsummed}
-use Rattle.planes_sums.specs.declared.Weighed.{Weighed}
-use Rattle.planes_sums.specs.declared.Weighed.the-variants.{Whole, Unweighed}
 use Rattle.planes_sums.specs.declared.Probed.{Probed}
 use Rattle.planes_sums.specs.declared.Probed.the-variants.{Hit, Missed}
-use Rattle.planes_sums.specs.declared.Tally.{Tally}
-use Rattle.planes_sums.specs.declared.Tally.the-variants.{Section, Statistics, Integrals, Probe}
 use Rattle.planes_samples.specs.declared.Tallied.{Tallied}
-use Rattle.planes_samples.specs.declared.Tallied.the-variants.{Done, Bad}
-use Rattle.planes_sums.specs.Sample.{Sample, sound, measureOf}
+use Rattle.planes_sums.specs.Sample.{Sample, sound}
 use Rattle.planes_samples.specs.Sampling.{before, onward, sample}
-use Rattle.planes_sums.specs.Statistics.{noSums, summing, counted, including, scalarOf, addSample, statistics, empty, statisticsWords}
-use Rattle.planes_sums.specs.Integrals.{fit, weighing, addIntegral, noIntegral, integrals, vacant, integralWords}
+use Rattle.planes_sums.specs.Statistics.{noSums, addSample, statistics}
+use Rattle.planes_sums.specs.Integrals.{addIntegral, noIntegral, integrals}
 use Rattle.planes.specs.Answers.{sampled, integralsOf, statisticsOf, probeOf, probeWords}
 use Rattle.answers.specs.Words.{valuesWords, vecWords}
-use Rattle.planes_samples.specs.Stream.{Stream, stream, Streamed}
-use Rattle.planes_sums.specs.Kept.{addTo, written, addSummed, addWeighed, addProbed, summedOf, weighedOf}
-use Rattle.planes.specs.Reply.{answeredOf, wordsOf, replied, goods, missing, statisticsEnd, integralsEnd, ended, lastWords, Closed, Replied}
+use Rattle.planes_samples.specs.Stream.{talliedOf, Stream, stream, Streamed}
+use Rattle.planes_sums.specs.Kept.{Kept, ofSection, ofStatistics, ofIntegrals, ofProbe, addTo, written, addProbed}
+use Rattle.planes.specs.Reply.{lengthOf, wordsOf, replied, goods, missing, statisticsEnd, integralsEnd, ended, lastWords, Closed, Replied}
 use Rattle.planes_sums.specs.Probe.{project, covers, firstOver, off, probe}
 use Rattle.planes_samples.proofs.StreamLaws.{at, stream-nil, stream-sound, stream-bad, stream-marks}
 
 -- ---- the outcome: a bad sample, or all samples kept
 
 module _ (c : Cut) (f : ℕ → Values) where
-  pub record BadRun (l : List PlaneCell) (t : Tally) (o m : List ℕ) : Type 0 where
-    pub outcome : stream c f l t o m .outcome ≡ Bad
+  pub record BadRun (l : List PlaneCell) (t : Kept) (o m : List ℕ) : Type 0 where
+    pub outcome : stream c f l t o m .outcome ≡ refused 39
     pub tree : run (sample l) f ≡ refused 39
 
-  pub record GoodRun (l : List PlaneCell) (t : Tally) (o m : List ℕ) : Type 0 where
-    pub outcome : stream c f l t o m .outcome ≡ Done (fold (addTo c) t (goods f l))
+  pub record GoodRun (l : List PlaneCell) (t : Kept) (o m : List ℕ) : Type 0 where
+    pub outcome : stream c f l t o m .outcome ≡ fine (fold (addTo c) t (goods f l))
     pub tree : run (sample l) f ≡ fine (goods f l)
 
   sample-sound : (p : PlaneCell) (l : List PlaneCell) → sound (f (p .cell)) ≡ true → run (sample (p ∷ l)) f ≡ before (at c f p) (run (sample l) f)
@@ -78,11 +66,11 @@ module _ (c : Cut) (f : ℕ → Values) where
   unfolding goods
   goods-bad p l h = rw (h, goods)
 
-  pub stream-run : (l : List PlaneCell) (t : Tally) (o m : List ℕ) → BadRun l t o m ⊎ GoodRun l t o m
+  pub stream-run : (l : List PlaneCell) (t : Kept) (o m : List ℕ) → BadRun l t o m ⊎ GoodRun l t o m
   stream-run [] t o m = inr (record { outcome = unfold stream goods fold in refl; tree = unfold sample goods in refl })
   stream-run (p ∷ l) t o m = by (stream-run l (addTo c t (at c f p)) (written t o (at c f p)) (set m (p .cell) 1)) (sound (f (p .cell))) refl
     where
-      t′ : Tally
+      t′ : Kept
       t′ = addTo c t (at c f p)
 
       o′ : List ℕ
@@ -110,27 +98,27 @@ module _ (c : Cut) (f : ℕ → Values) where
 
 -- ---- codes 6 to 8 write nothing while they read
 
-abbrev pub Quiet : Tally → Type 0
-Quiet (Section p at) = ⊥
-Quiet (Statistics field r) = Unit
-Quiet (Integrals r) = Unit
-Quiet (Probe q r) = Unit
+abbrev pub Quiet : Kept → Type 0
+Quiet (ofSection p at) = ⊥
+Quiet (ofStatistics field r) = Unit
+Quiet (ofIntegrals r) = Unit
+Quiet (ofProbe q r) = Unit
 
-quiet-added : (c : Cut) (t : Tally) (s : Sample) → Quiet t → Quiet (addTo c t s)
+quiet-added : (c : Cut) (t : Kept) (s : Sample) → Quiet t → Quiet (addTo c t s)
 unfolding addTo
-quiet-added c (Section p at) s q = absurd q
-quiet-added c (Statistics field r) s q = tt
-quiet-added c (Integrals r) s q = tt
-quiet-added c (Probe q r) s w = tt
+quiet-added c (ofSection p at) s q = absurd q
+quiet-added c (ofStatistics field r) s q = tt
+quiet-added c (ofIntegrals r) s q = tt
+quiet-added c (ofProbe q r) s w = tt
 
-quiet-written : (t : Tally) (o : List ℕ) (s : Sample) → Quiet t → written t o s ≡ o
+quiet-written : (t : Kept) (o : List ℕ) (s : Sample) → Quiet t → written t o s ≡ o
 unfolding written
-quiet-written (Section p at) o s q = absurd q
-quiet-written (Statistics field r) o s q = refl
-quiet-written (Integrals r) o s q = refl
-quiet-written (Probe q r) o s w = refl
+quiet-written (ofSection p at) o s q = absurd q
+quiet-written (ofStatistics field r) o s q = refl
+quiet-written (ofIntegrals r) o s q = refl
+quiet-written (ofProbe q r) o s w = refl
 
-pub stream-quiet : (c : Cut) (f : ℕ → Values) (l : List PlaneCell) (t : Tally) (o m : List ℕ) → Quiet t → stream c f l t o m .answers ≡ o
+pub stream-quiet : (c : Cut) (f : ℕ → Values) (l : List PlaneCell) (t : Kept) (o m : List ℕ) → Quiet t → stream c f l t o m .answers ≡ o
 stream-quiet c f [] t o m q = ap (λ (s : Stream). s .answers) (stream-nil c f t o m)
 stream-quiet c f (p ∷ l) t o m q =
     by (stream-quiet c f l (addTo c t (at c f p)) (written t o (at c f p)) (set m (p .cell) 1) (quiet-added c t (at c f p) q)) (sound (f (p .cell))) refl
@@ -151,8 +139,8 @@ module _ (mesh : Mesh) (plane : Plane) (answer : List Sample → Result (List �
   reads-sampled = reads-bind (sample (intersect mesh plane)) (λ r. give (result._>>=_ r answer)) f ∙ append-nil _
 
   -- what is kept of the samples gives the answer
-  pub record Gives (r : Tallied) (ss : List Sample) : Type 0 where
-    pub result : ended r ≡ answeredOf (answer ss)
+  pub record Gives (r : Result Kept) (ss : List Sample) : Type 0 where
+    pub result : ended r ≡ lengthOf (answer ss)
     pub words : lastWords r ≡ wordsOf (answer ss)
 
   replied-words : (o : List ℕ) (e : Result (List ℕ)) → sets o 0 (wordsOf e) ≡ replied o o e
@@ -160,9 +148,9 @@ module _ (mesh : Mesh) (plane : Plane) (answer : List Sample → Result (List �
   replied-words o (refused n) = refl
   replied-words o (fine ws) = refl
 
-  pub reply : (c : Cut) (t : Tally) (o o₁ o₂ m m₁ : List ℕ) (r : Tallied) (a : Answered) (keep : Tallied → Tallied) → Quiet t → keep Bad ≡ Bad →
-      ((ss : List Sample) → Gives (keep (Done (fold (addTo c) t ss))) ss) →
-      Streamed (stream c f (intersect mesh plane) t o m) r o₁ m₁ → Closed (keep r) a o₁ o₂ → Replied (sampled mesh plane answer) f o a o o₂ m m₁
+  pub reply : (c : Cut) (t : Kept) (o o₁ o₂ m m₁ : List ℕ) (r : Tallied) (a : Answered) (keep : Result Kept → Result Kept) → Quiet t → keep (refused 39) ≡ refused 39 →
+      ((ss : List Sample) → Gives (keep (fine (fold (addTo c) t ss))) ss) →
+      Streamed (stream c f (intersect mesh plane) t o m) r o₁ m₁ → Closed (keep (talliedOf r)) a o₁ o₂ → Replied (sampled mesh plane answer) f o a o o₂ m m₁
   reply c t o o₁ o₂ m m₁ r a keep q kb gives s d = by (stream-run c f l t o m)
     where
       l : List PlaneCell
@@ -177,15 +165,15 @@ module _ (mesh : Mesh) (plane : Plane) (answer : List Sample → Result (List �
       by : BadRun c f l t o m ⊎ GoodRun c f l t o m → Replied (sampled mesh plane answer) f o a o o₂ m m₁
       by (inl b) =
           let e : run (sampled mesh plane answer) f ≡ refused 39 = run-sampled ∙ rw (b .tree) (unfold result._>>=_ in refl) in
-          let k : keep r ≡ Bad = ap keep (s .outcome ∙ b .outcome) ∙ kb in
+          let k : keep (talliedOf r) ≡ refused 39 = ap keep (s .outcome ∙ b .outcome) ∙ kb in
           record {
-            result = d .result ∙ rw (k, e) (unfold ended answeredOf in refl);
+            result = d .result ∙ rw (k, e) (unfold ended lengthOf in refl);
             answers = d .answers ∙ rw (k, e, still) (unfold lastWords replied in refl);
             marks = marked;
           }
       by (inr g) =
           let e : run (sampled mesh plane answer) f ≡ answer (goods f l) = run-sampled ∙ rw (g .tree) (unfold result._>>=_ in refl) in
-          let k : keep r ≡ keep (Done (fold (addTo c) t (goods f l))) = ap keep (s .outcome ∙ g .outcome) in
+          let k : keep (talliedOf r) ≡ keep (fine (fold (addTo c) t (goods f l))) = ap keep (s .outcome ∙ g .outcome) in
           let w = gives (goods f l) in
           record {
             result = d .result ∙ rw (k, e) (w .result);
@@ -193,170 +181,58 @@ module _ (mesh : Mesh) (plane : Plane) (answer : List Sample → Result (List �
             marks = marked;
           }
 
--- ---- one element more
-
-module _ {A B : Type 0} (f : B → A → Result B) (s : B) (a : A) (l : List A) where
-  steps-fine : (u : B) → f s a ≡ fine u → steps f s (a ∷ l) ≡ steps f u l
-  unfolding steps result._>>=_
-  steps-fine u h = ap (λ (e : Result B). result._>>=_ e (λ t. steps f t l)) h
-
-  steps-refused : (n : ℕ) → f s a ≡ refused n → steps f s (a ∷ l) ≡ refused n
-  unfolding steps result._>>=_
-  steps-refused n h = ap (λ (e : Result B). result._>>=_ e (λ t. steps f t l)) h
-
--- ---- the integrals
-
-refused-42 : (b : Bool) {A : Type 0} (t : A) (n : ℕ) → cond b (fine t) (refused 42) ≡ refused n → n ≡ 42
-refused-42 true t n e = let z : _≡_ {A = ℕ} 0 1 = cc in absurd (omega arith)
-refused-42 false t n e = cc
-
-integral-refused : (normal : Vec3) (t : Integral) (s : Sample) (n : ℕ) → addIntegral normal t s ≡ refused n → n ≡ 42
-unfolding addIntegral
-integral-refused normal t s n e =
-    let a = measureOf normal (s .geometry .polygon) in
-    refused-42 (fit a (s .values)) (weighing normal t a (s .values)) n e
+-- ---- sums: a refusal stays, as in `steps`
 
 module _ (c : Cut) where
-  fold-integrals : (r : Weighed) (ss : List Sample) → fold (addTo c) (Integrals r) ss ≡ Integrals (fold (addWeighed (c .normal)) r ss)
-  unfolding fold addTo
-  fold-integrals r [] = refl
-  fold-integrals r (s ∷ ss) = fold-integrals (addWeighed (c .normal) r s) ss
+  fold-integrals : (r : Result Integral) (ss : List Sample) →
+      fold (addTo c) (ofIntegrals r) ss ≡ ofIntegrals (result._>>=_ r (λ t. steps (addIntegral (c .normal)) t ss))
+  unfolding fold addTo steps result._>>=_
+  fold-integrals (fine t) [] = refl
+  fold-integrals (fine t) (s ∷ ss) = fold-integrals (addIntegral (c .normal) t s) ss
+  fold-integrals (refused n) [] = refl
+  fold-integrals (refused n) (s ∷ ss) = fold-integrals (refused n) ss
 
-  unweighed : (ss : List Sample) → fold (addWeighed (c .normal)) Unweighed ss ≡ Unweighed
-  unfolding fold addWeighed
-  unweighed [] = refl
-  unweighed (s ∷ ss) = unweighed ss
-
-  whole-next : (t u : Integral) (s : Sample) (ss : List Sample) → addIntegral (c .normal) t s ≡ fine u → fold (addWeighed (c .normal)) (Whole t) (s ∷ ss) ≡ fold (addWeighed (c .normal)) (Whole u) ss
-  unfolding fold addWeighed weighedOf
-  whole-next t u s ss h = ap (λ (e : Result Integral). fold (addWeighed (c .normal)) (weighedOf e) ss) h
-
-  whole-lost : (t : Integral) (s : Sample) (ss : List Sample) (n : ℕ) → addIntegral (c .normal) t s ≡ refused n → fold (addWeighed (c .normal)) (Whole t) (s ∷ ss) ≡ Unweighed
-  unfolding fold addWeighed weighedOf
-  whole-lost t s ss n h = ap (λ (e : Result Integral). fold (addWeighed (c .normal)) (weighedOf e) ss) h ∙ unweighed ss
-
-  abbrev endIntegral : Integral → Result (List ℕ)
-  endIntegral t = cond (vacant t) (refused 43) (fine (integralWords t))
-
-  nothing : (t : Integral) → integralsEnd (fold (addWeighed (c .normal)) (Whole t) []) ≡ result._>>=_ (steps (addIntegral (c .normal)) t []) endIntegral
-  unfolding fold integralsEnd steps result._>>=_
-  nothing t = refl
-
-  integrals-fold : (t : Integral) (ss : List Sample) →
-      integralsEnd (fold (addWeighed (c .normal)) (Whole t) ss) ≡ result._>>=_ (steps (addIntegral (c .normal)) t ss) endIntegral
-  unfolding integralsEnd result._>>=_
-  integrals-fold t [] = nothing t
-  integrals-fold t (s ∷ ss) = by (addIntegral (c .normal) t s) refl (λ u. integrals-fold u ss)
-    where
-      by : (e : Result Integral) → addIntegral (c .normal) t s ≡ e →
-          ((u : Integral) → integralsEnd (fold (addWeighed (c .normal)) (Whole u) ss) ≡ result._>>=_ (steps (addIntegral (c .normal)) u ss) endIntegral) →
-          integralsEnd (fold (addWeighed (c .normal)) (Whole t) (s ∷ ss)) ≡ result._>>=_ (steps (addIntegral (c .normal)) t (s ∷ ss)) endIntegral
-      by (fine u) h ih = ap integralsEnd (whole-next t u s ss h) ∙ ih u ∙ ap (λ e. result._>>=_ e endIntegral) (sym (steps-fine (addIntegral (c .normal)) t s ss u h))
-      by (refused n) h ih =
-          ap integralsEnd (whole-lost t s ss n h)
-          ∙ ap (λ (k : ℕ). refused k) (sym (integral-refused (c .normal) t s n h))
-          ∙ ap (λ e. result._>>=_ e endIntegral) (sym (steps-refused (addIntegral (c .normal)) t s ss n h))
-
-  integrals-end : (ss : List Sample) → integralsEnd (fold (addWeighed (c .normal)) (Whole noIntegral) ss) ≡ integrals (c .normal) ss
-  unfolding integrals
-  integrals-end ss = integrals-fold noIntegral ss
+  fold-statistics : (field : ℕ) (r : Result Sums) (ss : List Sample) →
+      fold (addTo c) (ofStatistics field r) ss ≡ ofStatistics field (result._>>=_ r (λ t. steps (addSample (c .normal) field) t ss))
+  unfolding fold addTo steps result._>>=_
+  fold-statistics field (fine t) [] = refl
+  fold-statistics field (fine t) (s ∷ ss) = fold-statistics field (addSample (c .normal) field t s) ss
+  fold-statistics field (refused n) [] = refl
+  fold-statistics field (refused n) (s ∷ ss) = fold-statistics field (refused n) ss
 
   pub integrals-give : (mesh : Mesh) (plane : Plane) (f : ℕ → Values) (ss : List Sample) →
-      Gives mesh plane (integrals (c .normal)) f (Done (fold (addTo c) (Integrals (Whole noIntegral)) ss)) ss
-  unfolding ended lastWords
+      Gives mesh plane (integrals (c .normal)) f (fine (fold (addTo c) (ofIntegrals (fine noIntegral)) ss)) ss
+  unfolding ended lastWords integralsEnd integrals result._>>=_
   integrals-give mesh plane f ss =
       record {
-        result = ap (λ (t : Tally). ended (Done t)) (fold-integrals (Whole noIntegral) ss) ∙ ap answeredOf (integrals-end ss);
-        words = ap (λ (t : Tally). lastWords (Done t)) (fold-integrals (Whole noIntegral) ss) ∙ ap wordsOf (integrals-end ss);
+        result = ap (λ (t : Kept). ended (fine t)) (fold-integrals (fine noIntegral) ss);
+        words = ap (λ (t : Kept). lastWords (fine t)) (fold-integrals (fine noIntegral) ss);
+      }
+
+  pub statistics-give : (field : ℕ) (mesh : Mesh) (plane : Plane) (f : ℕ → Values) (ss : List Sample) →
+      Gives mesh plane (statistics (c .normal) field) f (fine (fold (addTo c) (ofStatistics field (fine noSums)) ss)) ss
+  unfolding ended lastWords statisticsEnd statistics result._>>=_
+  statistics-give field mesh plane f ss =
+      record {
+        result = ap (λ (t : Kept). ended (fine t)) (fold-statistics field (fine noSums) ss);
+        words = ap (λ (t : Kept). lastWords (fine t)) (fold-statistics field (fine noSums) ss);
       }
 
 pub integrals-reply : (mesh : Mesh) (plane : Plane) (f : ℕ → Values) (ps : List Vec3) (o o₁ o₂ m m₁ : List ℕ) (r : Tallied) (a : Answered) →
-    Streamed (stream (cutOf ps plane) f (intersect mesh plane) (Integrals (Whole noIntegral)) o m) r o₁ m₁ → Closed r a o₁ o₂ → Replied (integralsOf mesh plane) f o a o o₂ m m₁
+    Streamed (stream (cutOf ps plane) f (intersect mesh plane) (ofIntegrals (fine noIntegral)) o m) r o₁ m₁ → Closed (talliedOf r) a o₁ o₂ → Replied (integralsOf mesh plane) f o a o o₂ m m₁
 unfolding integralsOf cutOf
 integrals-reply mesh plane f ps o o₁ o₂ m m₁ r a s d =
-    reply mesh plane (integrals (normalOf plane)) f (cutOf ps plane) (Integrals (Whole noIntegral)) o o₁ o₂ m m₁ r a (λ x. x) tt refl (integrals-give (cutOf ps plane) mesh plane f) s d
-
--- ---- the statistics
-
-refused-40 : (b : Bool) {A : Type 0} (t : A) (n : ℕ) → cond b (fine t) (refused 40) ≡ refused n → n ≡ 40
-refused-40 true t n e = let z : _≡_ {A = ℕ} 0 1 = cc in absurd (omega arith)
-refused-40 false t n e = cc
-
-summing-refused : (b : Bool) (t : Sums) (a u w : Float) (n : ℕ) → summing b t a u w ≡ refused n → n ≡ 40
-unfolding summing
-summing-refused false t a u w n e = let z : _≡_ {A = ℕ} 0 1 = cc in absurd (omega arith)
-summing-refused true t a u w n e = refused-40 (finite w) (including t a u w) n e
-
-sample-refused : (normal : Vec3) (field : ℕ) (t : Sums) (s : Sample) (n : ℕ) → addSample normal field t s ≡ refused n → n ≡ 40
-unfolding addSample
-sample-refused normal field t s n e =
-    let a = measureOf normal (s .geometry .polygon) in
-    let u = scalarOf normal field (s .values) in
-    summing-refused (counted a u) t a u (dot (s .values .velocity) normal ⊗ a) n e
-
-module _ (c : Cut) (field : ℕ) where
-  fold-statistics : (r : Summed) (ss : List Sample) → fold (addTo c) (Statistics field r) ss ≡ Statistics field (fold (addSummed (c .normal) field) r ss)
-  unfolding fold addTo
-  fold-statistics r [] = refl
-  fold-statistics r (s ∷ ss) = fold-statistics (addSummed (c .normal) field r s) ss
-
-  unsummed : (ss : List Sample) → fold (addSummed (c .normal) field) Unsummed ss ≡ Unsummed
-  unfolding fold addSummed
-  unsummed [] = refl
-  unsummed (s ∷ ss) = unsummed ss
-
-  total-next : (t u : Sums) (s : Sample) (ss : List Sample) → addSample (c .normal) field t s ≡ fine u → fold (addSummed (c .normal) field) (Total t) (s ∷ ss) ≡ fold (addSummed (c .normal) field) (Total u) ss
-  unfolding fold addSummed summedOf
-  total-next t u s ss h = ap (λ (e : Result Sums). fold (addSummed (c .normal) field) (summedOf e) ss) h
-
-  total-lost : (t : Sums) (s : Sample) (ss : List Sample) (n : ℕ) → addSample (c .normal) field t s ≡ refused n → fold (addSummed (c .normal) field) (Total t) (s ∷ ss) ≡ Unsummed
-  unfolding fold addSummed summedOf
-  total-lost t s ss n h = ap (λ (e : Result Sums). fold (addSummed (c .normal) field) (summedOf e) ss) h ∙ unsummed ss
-
-  abbrev endSums : Sums → Result (List ℕ)
-  endSums t = cond (empty t) (refused 41) (fine (statisticsWords t))
-
-  nothing-summed : (t : Sums) → statisticsEnd (fold (addSummed (c .normal) field) (Total t) []) ≡ result._>>=_ (steps (addSample (c .normal) field) t []) endSums
-  unfolding fold statisticsEnd steps result._>>=_
-  nothing-summed t = refl
-
-  statistics-fold : (t : Sums) (ss : List Sample) →
-      statisticsEnd (fold (addSummed (c .normal) field) (Total t) ss) ≡ result._>>=_ (steps (addSample (c .normal) field) t ss) endSums
-  unfolding statisticsEnd result._>>=_
-  statistics-fold t [] = nothing-summed t
-  statistics-fold t (s ∷ ss) = by (addSample (c .normal) field t s) refl (λ u. statistics-fold u ss)
-    where
-      by : (e : Result Sums) → addSample (c .normal) field t s ≡ e →
-          ((u : Sums) → statisticsEnd (fold (addSummed (c .normal) field) (Total u) ss) ≡ result._>>=_ (steps (addSample (c .normal) field) u ss) endSums) →
-          statisticsEnd (fold (addSummed (c .normal) field) (Total t) (s ∷ ss)) ≡ result._>>=_ (steps (addSample (c .normal) field) t (s ∷ ss)) endSums
-      by (fine u) h ih = ap statisticsEnd (total-next t u s ss h) ∙ ih u ∙ ap (λ e. result._>>=_ e endSums) (sym (steps-fine (addSample (c .normal) field) t s ss u h))
-      by (refused n) h ih =
-          ap statisticsEnd (total-lost t s ss n h)
-          ∙ ap (λ (k : ℕ). refused k) (sym (sample-refused (c .normal) field t s n h))
-          ∙ ap (λ e. result._>>=_ e endSums) (sym (steps-refused (addSample (c .normal) field) t s ss n h))
-
-  statistics-end : (ss : List Sample) → statisticsEnd (fold (addSummed (c .normal) field) (Total noSums) ss) ≡ statistics (c .normal) field ss
-  unfolding statistics
-  statistics-end ss = statistics-fold noSums ss
-
-  pub statistics-give : (mesh : Mesh) (plane : Plane) (f : ℕ → Values) (ss : List Sample) →
-      Gives mesh plane (statistics (c .normal) field) f (Done (fold (addTo c) (Statistics field (Total noSums)) ss)) ss
-  unfolding ended lastWords
-  statistics-give mesh plane f ss =
-      record {
-        result = ap (λ (t : Tally). ended (Done t)) (fold-statistics (Total noSums) ss) ∙ ap answeredOf (statistics-end ss);
-        words = ap (λ (t : Tally). lastWords (Done t)) (fold-statistics (Total noSums) ss) ∙ ap wordsOf (statistics-end ss);
-      }
+    reply mesh plane (integrals (normalOf plane)) f (cutOf ps plane) (ofIntegrals (fine noIntegral)) o o₁ o₂ m m₁ r a (λ x. x) tt refl (integrals-give (cutOf ps plane) mesh plane f) s d
 
 pub statistics-reply : (field : ℕ) (mesh : Mesh) (plane : Plane) (f : ℕ → Values) (ps : List Vec3) (o o₁ o₂ m m₁ : List ℕ) (r : Tallied) (a : Answered) →
-    Streamed (stream (cutOf ps plane) f (intersect mesh plane) (Statistics field (Total noSums)) o m) r o₁ m₁ → Closed r a o₁ o₂ → Replied (statisticsOf mesh plane field) f o a o o₂ m m₁
+    Streamed (stream (cutOf ps plane) f (intersect mesh plane) (ofStatistics field (fine noSums)) o m) r o₁ m₁ → Closed (talliedOf r) a o₁ o₂ → Replied (statisticsOf mesh plane field) f o a o o₂ m m₁
 unfolding statisticsOf cutOf
 statistics-reply field mesh plane f ps o o₁ o₂ m m₁ r a s d =
-    reply mesh plane (statistics (normalOf plane) field) f (cutOf ps plane) (Statistics field (Total noSums)) o o₁ o₂ m m₁ r a (λ x. x) tt refl (statistics-give (cutOf ps plane) field mesh plane f) s d
+    reply mesh plane (statistics (normalOf plane) field) f (cutOf ps plane) (ofStatistics field (fine noSums)) o o₁ o₂ m m₁ r a (λ x. x) tt refl (statistics-give (cutOf ps plane) field mesh plane f) s d
 
 -- ---- the probe
 
-fold-probe : (c : Cut) (q : Vec2) (r : Probed) (ss : List Sample) → fold (addTo c) (Probe q r) ss ≡ Probe q (fold (addProbed c q) r ss)
+fold-probe : (c : Cut) (q : Vec2) (r : Probed) (ss : List Sample) → fold (addTo c) (ofProbe q r) ss ≡ ofProbe q (fold (addProbed c q) r ss)
 unfolding fold addTo
 fold-probe c q r [] = refl
 fold-probe c q r (s ∷ ss) = fold-probe c q (addProbed c q r s) ss
@@ -381,30 +257,30 @@ unfolding probeWords valuesWords vecWords
 five (Hit i v) = refl
 five Missed = refl
 
-missing-bad : (b : Bool) (q : Vec2) → missing b q Bad ≡ Bad
+missing-bad : (b : Bool) (q : Vec2) → missing b q (refused 39) ≡ refused 39
 unfolding missing
 missing-bad true q = refl
 missing-bad false q = refl
 
 kept : (b : Bool) (c : Cut) (q : Vec2) (ss : List Sample) →
-    missing b q (Done (fold (addTo c) (Probe q Missed) ss)) ≡ Done (Probe q (cond b Missed (firstOver (c .plane) q ss)))
+    missing b q (fine (fold (addTo c) (ofProbe q Missed) ss)) ≡ fine (ofProbe q (cond b Missed (firstOver (c .plane) q ss)))
 unfolding missing
 kept true c q ss = refl
-kept false c q ss = ap Done (fold-probe c q Missed ss ∙ ap (Probe q) (first-over c q ss))
+kept false c q ss = ap fine (fold-probe c q Missed ss ∙ ap (ofProbe q) (first-over c q ss))
 
-probe-gives : (mesh : Mesh) (plane : Plane) (f : ℕ → Values) (answer : List Sample → Result (List ℕ)) (q : Vec2) (k : Tallied) (r : Probed) (ss : List Sample) →
-    k ≡ Done (Probe q r) → answer ss ≡ fine (probeWords r) → Gives mesh plane answer f k ss
-unfolding ended lastWords answeredOf wordsOf
+probe-gives : (mesh : Mesh) (plane : Plane) (f : ℕ → Values) (answer : List Sample → Result (List ℕ)) (q : Vec2) (k : Result Kept) (r : Probed) (ss : List Sample) →
+    k ≡ fine (ofProbe q r) → answer ss ≡ fine (probeWords r) → Gives mesh plane answer f k ss
+unfolding ended lastWords lengthOf wordsOf
 probe-gives mesh plane f answer q k r ss e w =
     record {
-      result = ap ended e ∙ ap Words (sym (five r)) ∙ sym (ap answeredOf w);
+      result = ap ended e ∙ ap fine (sym (five r)) ∙ sym (ap lengthOf w);
       words = ap lastWords e ∙ sym (ap wordsOf w);
     }
 
 pub probe-reply : (p : Vec3) (b : Bool) (q : Vec2) (mesh : Mesh) (plane : Plane) (f : ℕ → Values) (ps : List Vec3) (o o₁ o₂ m m₁ : List ℕ) (r k : Tallied) (a : Answered) →
     b ≡ off plane p → q ≡ project plane p →
-    Streamed (stream (cutOf ps plane) f (intersect mesh plane) (Probe q Missed) o m) r o₁ m₁ → k ≡ missing b q r → Closed k a o₁ o₂ → Replied (probeOf mesh plane p) f o a o o₂ m m₁
+    Streamed (stream (cutOf ps plane) f (intersect mesh plane) (ofProbe q Missed) o m) r o₁ m₁ → talliedOf k ≡ missing b q (talliedOf r) → Closed (talliedOf k) a o₁ o₂ → Replied (probeOf mesh plane p) f o a o o₂ m m₁
 unfolding probeOf cutOf probe
 probe-reply p b q mesh plane f ps o o₁ o₂ m m₁ r k a eb eq s ek d =
-    reply mesh plane (λ l. fine (probeWords (cond (off plane p) Missed (firstOver plane (project plane p) l)))) f (cutOf ps plane) (Probe q Missed) o o₁ o₂ m m₁ r a (missing b q) tt (missing-bad b q)
+    reply mesh plane (λ l. fine (probeWords (cond (off plane p) Missed (firstOver plane (project plane p) l)))) f (cutOf ps plane) (ofProbe q Missed) o o₁ o₂ m m₁ r a (missing b q) tt (missing-bad b q)
     (λ ss. probe-gives mesh plane f _ q _ _ ss (kept b (cutOf ps plane) q ss) (rw (eb, eq))) s (rw (← ek) d)

@@ -30,7 +30,8 @@ ghost use Rattle.planes_sums.specs.Statistics as Statistics;
 ghost use Rattle.planes_sums.specs.Integrals as Integrals;
 ghost use Rattle.planes_sums.specs.Probe as Probe;
 ghost use Rattle.planes.specs.Answers.{probeWords, sectionOf, statisticsOf, integralsOf, probeOf};
-ghost use Rattle.planes_samples.specs.Stream.{Ready};
+ghost use Rattle.planes_sums.specs.Kept.{sumsOf, integralOf};
+ghost use Rattle.planes_samples.specs.Stream.{talliedOf, Ready};
 ghost use Rattle.planes.specs.Reply.{statisticsEnd, integralsEnd, missing, leftBy, Ended, Closed, Replied};
 
 fn both(a: bool, b: bool) -> bool
@@ -74,7 +75,7 @@ fn put_integrals(answers: &mut [u64], t: Integral)
 
 // The answer by the integrals.
 fn end_integrals(r: Weighed, answers: &mut [u64]) -> Answered
-    ensures { λ a. ⌜ Ended (integralsEnd r) a (now (answers .entry)) (now (answers .exit)) ⌝ }
+    ensures { λ a. ⌜ Ended (integralsEnd (integralOf r)) a (now (answers .entry)) (now (answers .exit)) ⌝ }
 {
     match r {
         Weighed::Whole(t) => {
@@ -155,7 +156,7 @@ fn put_statistics(answers: &mut [u64], t: Sums)
 
 // The answer by the sums.
 fn end_statistics(r: Summed, answers: &mut [u64]) -> Answered
-    ensures { λ a. ⌜ Ended (statisticsEnd r) a (now (answers .entry)) (now (answers .exit)) ⌝ }
+    ensures { λ a. ⌜ Ended (statisticsEnd (sumsOf r)) a (now (answers .entry)) (now (answers .exit)) ⌝ }
 {
     match r {
         Summed::Total(t) => {
@@ -200,7 +201,7 @@ fn put_probed(r: Probed, answers: &mut [u64])
 
 // The answer by what was kept.
 fn finish(r: Tallied, answers: &mut [u64]) -> Answered
-    ensures { λ a. ⌜ Closed r a (now (answers .entry)) (now (answers .exit)) ⌝ }
+    ensures { λ a. ⌜ Closed (talliedOf r) a (now (answers .entry)) (now (answers .exit)) ⌝ }
 {
     match r {
         Tallied::Done(t) => match t {
@@ -272,7 +273,7 @@ pub fn integrals(
 
 // What was kept; nothing was found where the point is off the plane.
 fn unless_off(away: bool, q: Vec2, r: Tallied) -> Tallied
-    ensures { λ k. ⌜ k ≡ missing away q r ⌝ }
+    ensures { λ k. ⌜ talliedOf k ≡ missing away q (talliedOf r) ⌝ }
 {
     if away {
         match r {

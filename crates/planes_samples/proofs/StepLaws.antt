@@ -10,6 +10,7 @@ use lib.Ieee.{Float}
 use Rattle.arith.specs.declared.Vec3.{Vec3}
 use Rattle.arith.proofs.RecordLaws.{length-tab, drop-next, drop-end}
 use Rattle.reading.specs.declared.Values.{Values}
+use Rattle.reading.specs.Result.{Result, refused, fine}
 use Rattle.case_file.specs.declared.Counts.{Counts}
 use Rattle.mesh_area.specs.declared.Sizes.{Sizes}
 use Rattle.mesh_area.specs.Tables.{Mesh, Cell, cellAt, noCell}
@@ -29,15 +30,15 @@ use Rattle.planes_sums.specs.declared.Tally.{Tally}
 use Rattle.planes_samples.specs.declared.Tallied.{Tallied}
 use Rattle.planes_samples.specs.declared.Tallied.the-variants.{Done, Bad}
 use Rattle.planes_sums.specs.Sample.{sound}
-use Rattle.planes_samples.specs.Stream.{Stream, stream, Streamed, Stepped, Ready}
-use Rattle.planes_sums.specs.Kept.{addTo, written, cellIn, sampleIn, sizeOf, Added}
+use Rattle.planes_samples.specs.Stream.{talliedOf, Stream, stream, Streamed, Stepped, Ready}
+use Rattle.planes_sums.specs.Kept.{Kept, keptOf, addTo, written, cellIn, sampleIn, sizeOf, Added}
 use Rattle.planes_samples.proofs.StreamLaws.{stream-nil, stream-sound, stream-bad, stream-then, stream-stop}
 use Rattle.planes_sums.proofs.TallyLaws.{added-grows}
 
-pub as-record : (s : Stream) (r : Tallied) (o m : List ℕ) → Streamed s r o m → s ≡ record { outcome = r; answers = o; marks = m }
+pub as-record : (s : Stream) (r : Tallied) (o m : List ℕ) → Streamed s r o m → s ≡ record { outcome = talliedOf r; answers = o; marks = m }
 as-record s r o m h = rw (h .outcome, h .answers, h .marks)
 
-pub of-record : (s : Stream) (r : Tallied) (o m : List ℕ) → s ≡ record { outcome = r; answers = o; marks = m } → Streamed s r o m
+pub of-record : (s : Stream) (r : Tallied) (o m : List ℕ) → s ≡ record { outcome = talliedOf r; answers = o; marks = m } → Streamed s r o m
 of-record s r o m e =
     record {
       outcome = sym (ap (λ (s : Stream). s .outcome) e);
@@ -50,38 +51,40 @@ of-record s r o m e =
 module _ (c : Cut) (f : ℕ → Values) (t : Tally) (cell : ℕ) (centre : Vec3) (n : ℕ) (x y z : List Float) (o m m′ : List ℕ) (v : Values) (b : Bool)
     (ev : v ≡ f cell) (em : m′ ≡ set m cell 1) (eb : b ≡ sound v) where
   pub sample-taken : (t′ : Tally) (o′ : List ℕ) → b ≡ true → n ≤ 192 → Added c t (sampleIn cell centre n v x y z) t′ o o′ →
-      Stepped (stream c f (cellIn cell centre n x y z ∷ []) t o m) t (Done t′) o′ m′
+      Stepped (stream c f (cellIn cell centre n x y z ∷ []) (keptOf t) o m) t (Done t′) o′ m′
+  unfolding talliedOf
   sample-taken t′ o′ h few a₀ =
       let a : Added c t (sampleIn cell centre n (f cell) x y z) t′ o o′ = subst (λ (u : Values). Added c t (sampleIn cell centre n u x y z) t′ o o′) ev a₀ in
       let s = sampleIn cell centre n (f cell) x y z in
       let ok : sound (f cell) ≡ true = ap sound (sym ev) ∙ sym eb ∙ h in
-      let e : stream c f (cellIn cell centre n x y z ∷ []) t o m ≡ record { outcome = Done t′; answers = o′; marks = m′ } =
-      rw (a .tally, a .answers, em) (stream-sound c f (cellIn cell centre n x y z) [] t o m ok ∙ stream-nil c f (addTo c t s) (written t o s) (set m cell 1)) in
+      let e : stream c f (cellIn cell centre n x y z ∷ []) (keptOf t) o m ≡ record { outcome = talliedOf (Done t′); answers = o′; marks = m′ } =
+      rw (a .tally, a .answers, em) (stream-sound c f (cellIn cell centre n x y z) [] (keptOf t) o m ok ∙ stream-nil c f (addTo c (keptOf t) s) (written (keptOf t) o s) (set m cell 1)) in
       record {
         streamed = of-record _ _ _ _ e;
-        grown = rw (a .tally) (added-grows c t s (rw (length-held x y z n) few));
+        grown = rw (a .tally) (added-grows c (keptOf t) s (rw (length-held x y z n) few));
       }
 
-  pub sample-bad : b ≡ false → Stepped (stream c f (cellIn cell centre n x y z ∷ []) t o m) t Bad o m′
+  pub sample-bad : b ≡ false → Stepped (stream c f (cellIn cell centre n x y z ∷ []) (keptOf t) o m) t Bad o m′
+  unfolding talliedOf
   sample-bad h =
       let no : sound (f cell) ≡ false = ap sound (sym ev) ∙ sym eb ∙ h in
-      record { streamed = of-record _ _ _ _ (stream-bad c f (cellIn cell centre n x y z) [] t o m no ∙ rw em); grown = tt }
+      record { streamed = of-record _ _ _ _ (stream-bad c f (cellIn cell centre n x y z) [] (keptOf t) o m no ∙ rw em); grown = tt }
 
 -- ---- one cell
 
 module _ (c : Cut) (f : ℕ → Values) (mesh : Mesh) (cell : ℕ) (piece : Piece) {x₀ y₀ z₀ : List Float} (x y z : List Float) (t : Tally) (o m : List ℕ) (p : Pieced mesh c cell piece x₀ y₀ z₀ x y z) where
-  pub step-of : (centre : Vec3) (k : ℕ) (r : Tallied) (o′ m′ : List ℕ) → piece ≡ Of centre k → Stepped (stream c f (cellIn cell centre k x y z ∷ []) t o m) t r o′ m′ →
-      Stepped (stream c f (pieceOf mesh c cell (cellAt (mesh .cells) cell)) t o m) t r o′ m′
+  pub step-of : (centre : Vec3) (k : ℕ) (r : Tallied) (o′ m′ : List ℕ) → piece ≡ Of centre k → Stepped (stream c f (cellIn cell centre k x y z ∷ []) (keptOf t) o m) t r o′ m′ →
+      Stepped (stream c f (pieceOf mesh c cell (cellAt (mesh .cells) cell)) (keptOf t) o m) t r o′ m′
   unfolding pieceIn
   step-of centre k r o′ m′ e h =
       let w : cellIn cell centre k x y z ∷ [] ≡ pieceOf mesh c cell (cellAt (mesh .cells) cell) = rw e at (p .piece) in
       rw (← w) h
 
-  pub step-empty : piece ≡ Empty → Stepped (stream c f (pieceOf mesh c cell (cellAt (mesh .cells) cell)) t o m) t (Done t) o m
-  unfolding pieceIn
+  pub step-empty : piece ≡ Empty → Stepped (stream c f (pieceOf mesh c cell (cellAt (mesh .cells) cell)) (keptOf t) o m) t (Done t) o m
+  unfolding pieceIn talliedOf
   step-empty e =
       let w : [] ≡ pieceOf mesh c cell (cellAt (mesh .cells) cell) = rw e at (p .piece) in
-      rw (← w) (record { streamed = of-record _ _ _ _ (stream-nil c f t o m); grown = omega arith })
+      rw (← w) (record { streamed = of-record _ _ _ _ (stream-nil c f (keptOf t) o m); grown = omega arith })
 
 -- what is known of the piece
 module _ {mesh : Mesh} {c : Cut} {cell : ℕ} {piece : Piece} {x₀ y₀ z₀ x y z : List Float} (p : Pieced mesh c cell piece x₀ y₀ z₀ x y z) where
@@ -115,27 +118,29 @@ pieces-next mesh c i h =
     ∙ ap (λ (k : ℕ). pieceOf mesh c i (cellAt (mesh .cells) i) ++ piecesFrom mesh c k (drop (i + 1) (mesh .cells))) (sym (add-one i))
 
 module _ (case : List ℕ) (points : ℕ) (s : Sizes) (words : List ℕ) (c : Cut) (f : ℕ → Values) (i : ℕ) (t : Tally) (o m : List ℕ) {w : Stream} where
-  module _ (inv : stream c f (piecesFrom (bare case points s words) c i (drop i (bare case points s words .cells))) t o m ≡ w) (more : i < s .cells)
-      (r : Tallied) (o′ m′ : List ℕ) (h : Stepped (stream c f (pieceOf (bare case points s words) c i (cellAt (bare case points s words .cells) i)) t o m) t r o′ m′) where
-    split : stream c f (pieceOf (bare case points s words) c i (cellAt (bare case points s words .cells) i) ++ piecesFrom (bare case points s words) c (i + 1) (drop (i + 1) (bare case points s words .cells))) t o m ≡ w
-    split = sym (ap (λ (l : List PlaneCell). stream c f l t o m) (pieces-next (bare case points s words) c i (rw (length-cells case points s words) more))) ∙ inv
+  module _ (inv : stream c f (piecesFrom (bare case points s words) c i (drop i (bare case points s words .cells))) (keptOf t) o m ≡ w) (more : i < s .cells)
+      (r : Tallied) (o′ m′ : List ℕ) (h : Stepped (stream c f (pieceOf (bare case points s words) c i (cellAt (bare case points s words .cells) i)) (keptOf t) o m) t r o′ m′) where
+    split : stream c f (pieceOf (bare case points s words) c i (cellAt (bare case points s words .cells) i) ++ piecesFrom (bare case points s words) c (i + 1) (drop (i + 1) (bare case points s words .cells))) (keptOf t) o m ≡ w
+    split = sym (ap (λ (l : List PlaneCell). stream c f l (keptOf t) o m) (pieces-next (bare case points s words) c i (rw (length-cells case points s words) more))) ∙ inv
 
-    pub turn : (next : Tally) → r ≡ Done next → stream c f (piecesFrom (bare case points s words) c (i + 1) (drop (i + 1) (bare case points s words .cells))) next o′ m′ ≡ w
+    pub turn : (next : Tally) → r ≡ Done next → stream c f (piecesFrom (bare case points s words) c (i + 1) (drop (i + 1) (bare case points s words .cells))) (keptOf next) o′ m′ ≡ w
+    unfolding talliedOf
     turn next e =
-        sym (stream-then c f _ (piecesFrom (bare case points s words) c (i + 1) (drop (i + 1) (bare case points s words .cells))) t next o o′ m m′ (as-record _ _ _ _ (h .streamed) ∙ rw e)) ∙ split
+        sym (stream-then c f _ (piecesFrom (bare case points s words) c (i + 1) (drop (i + 1) (bare case points s words .cells))) (keptOf t) (keptOf next) o o′ m m′ (as-record _ _ _ _ (h .streamed) ∙ rw e)) ∙ split
 
-    pub turn-size : (next : Tally) → r ≡ Done next → sizeOf t ≤ 1 + 586 * i → sizeOf next ≤ 1 + 586 * (i + 1)
-    turn-size next e l = let g : sizeOf next ≤ sizeOf t + 586 = rw e at (h .grown) in omega arith
+    pub turn-size : (next : Tally) → r ≡ Done next → sizeOf (keptOf t) ≤ 1 + 586 * i → sizeOf (keptOf next) ≤ 1 + 586 * (i + 1)
+    turn-size next e l = let g : sizeOf (keptOf next) ≤ sizeOf (keptOf t) + 586 = rw e at (h .grown) in omega arith
 
     pub stopped : r ≡ Bad → Streamed w Bad o′ m′
+    unfolding talliedOf
     stopped e =
-        of-record _ _ _ _ (sym split ∙ stream-stop c f _ (piecesFrom (bare case points s words) c (i + 1) (drop (i + 1) (bare case points s words .cells))) t o o′ m m′ (as-record _ _ _ _ (h .streamed) ∙ rw e))
+        of-record _ _ _ _ (sym split ∙ stream-stop c f _ (piecesFrom (bare case points s words) c (i + 1) (drop (i + 1) (bare case points s words .cells))) (keptOf t) o o′ m m′ (as-record _ _ _ _ (h .streamed) ∙ rw e))
 
-  pub all-done : stream c f (piecesFrom (bare case points s words) c i (drop i (bare case points s words .cells))) t o m ≡ w → s .cells ≤ i → Streamed w (Done t) o m
-  unfolding piecesFrom
+  pub all-done : stream c f (piecesFrom (bare case points s words) c i (drop i (bare case points s words .cells))) (keptOf t) o m ≡ w → s .cells ≤ i → Streamed w (Done t) o m
+  unfolding piecesFrom talliedOf
   all-done inv h =
       let none : drop i (bare case points s words .cells) ≡ [] = drop-end (bare case points s words .cells) i (rw (length-cells case points s words) h) in
-      of-record _ _ _ _ (sym inv ∙ ap (λ (l : List Cell). stream c f (piecesFrom (bare case points s words) c i l) t o m) none ∙ stream-nil c f t o m)
+      of-record _ _ _ _ (sym inv ∙ ap (λ (l : List Cell). stream c f (piecesFrom (bare case points s words) c i l) (keptOf t) o m) none ∙ stream-nil c f (keptOf t) o m)
 
 -- ---- whatever the floats hold
 
@@ -161,7 +166,7 @@ module _ (case : List ℕ) (points : ℕ) (s : Sizes) (words : List ℕ) (floats
       ∙ ap (λ (l : List PlaneCell). pieceOf (bare case points s words) c i (cellAt (bare case points s words .cells) i) ++ l) q
       ∙ sym (pieces-next (bare case points s words) c i b)
 
-pub streamed-any : (case : List ℕ) (points : ℕ) (s : Sizes) (words : List ℕ) (plane : Plane) (f : ℕ → Values) (t : Tally) (o m : List ℕ) (c : Cut) (r : Tallied) (o′ m′ : List ℕ) →
+pub streamed-any : (case : List ℕ) (points : ℕ) (s : Sizes) (words : List ℕ) (plane : Plane) (f : ℕ → Values) (t : Kept) (o m : List ℕ) (c : Cut) (r : Tallied) (o′ m′ : List ℕ) →
     c ≡ cutOf (pointsIn case points) plane → Streamed (stream c f (piecesFrom (bare case points s words) c 0 (bare case points s words .cells)) t o m) r o′ m′ →
     (floats : List Float) → Streamed (stream (cutOf (pointsIn case points) plane) f (intersect (meshIn (pointsIn case points) s words floats) plane) t o m) r o′ m′
 unfolding intersect meshIn

@@ -5,6 +5,7 @@ use mathlib.Core.Bool.{true, false}
 use mathlib.Core.List.{List, [], _∷_}
 use lib.ListN.{length, set}
 use Rattle.reading.specs.declared.Values.{Values}
+use Rattle.reading.specs.Result.{Result, refused, fine}
 use Rattle.case_file.specs.declared.Counts.{Counts}
 use Rattle.case_file.specs.declared.Opened.the-variants.{Case}
 use Rattle.case_file.specs.Trailer.{opened}
@@ -15,29 +16,34 @@ use Rattle.planes_crossings.specs.Work.{Bounded}
 use Rattle.planes_sections.specs.Intersect.{PlaneCell}
 use Rattle.planes_sums.specs.declared.Tally.{Tally}
 use Rattle.planes_sums.specs.Sample.{Sample, sound}
-use Rattle.planes_sums.specs.Kept.{addTo, written, sizeOf}
+use Rattle.planes_sums.specs.Kept.{Kept, keptOf, addTo, written, sizeOf}
 use Rattle.planes_samples.specs.declared.Tallied.{Tallied}
 use Rattle.planes_samples.specs.declared.Tallied.the-variants.{Done, Bad}
 
+-- what was kept, or refusal 39, "non-finite sample"
+unfoldable pub talliedOf : Tallied → Result Kept
+talliedOf (Done t) = fine (keptOf t)
+talliedOf Bad = refused 39
+
 -- how the reading leaves things
 pub record Stream : Type 0 where
-  pub outcome : Tallied
+  pub outcome : Result Kept
   pub answers : List ℕ
   pub marks : List ℕ
 
 -- sample after sample, up to and including the first bad one
-unfoldable pub stream : Cut → (ℕ → Values) → List PlaneCell → Tally → List ℕ → List ℕ → Stream
-stream c f [] t o m = record { outcome = Done t; answers = o; marks = m }
+unfoldable pub stream : Cut → (ℕ → Values) → List PlaneCell → Kept → List ℕ → List ℕ → Stream
+stream c f [] t o m = record { outcome = fine t; answers = o; marks = m }
 stream c f (p ∷ ps) t o m =
     let s : Sample = record { geometry = p; values = f (p .cell) } in
     elim (sound (f (p .cell))) [
       | true ↦ stream c f ps (addTo c t s) (written t o s) (set m (p .cell) 1)
-      | false ↦ record { outcome = Bad; answers = o; marks = set m (p .cell) 1 }
+      | false ↦ record { outcome = refused 39; answers = o; marks = set m (p .cell) 1 }
     ]
 
 -- what a function that samples promises
 pub record Streamed (s : Stream) (r : Tallied) (o m : List ℕ) : Type 0 where
-  pub outcome : r ≡ s .outcome
+  pub outcome : talliedOf r ≡ s .outcome
   pub answers : o ≡ s .answers
   pub marks : m ≡ s .marks
 
@@ -50,7 +56,7 @@ pub record Ready (case : List ℕ) (n : Counts) (s : Sizes) (words marks : List 
 
 -- one sample adds at most 586 to the bound of the numbers that are kept
 abbrev pub Grown : Tally → Tallied → Type 0
-Grown t (Done t′) = sizeOf t′ ≤ sizeOf t + 586
+Grown t (Done t′) = sizeOf (keptOf t′) ≤ sizeOf (keptOf t) + 586
 Grown t Bad = Unit
 
 -- what a function that samples one piece at most promises

@@ -25,7 +25,7 @@ ghost use Rattle.planes_sections.specs.Intersect.{pieceOf, piecesFrom, intersec
 ghost use Rattle.planes_crossings.specs.Work.{Holds};
 ghost use Rattle.planes_cut.specs.Work.{bare};
 ghost use Rattle.planes_samples.specs.Stream.{stream, Streamed, Stepped, Ready};
-ghost use Rattle.planes_sums.specs.Kept.{cellIn, sizeOf};
+ghost use Rattle.planes_sums.specs.Kept.{keptOf, cellIn, sizeOf};
 ghost use lib.ListN.{length, set};
 ghost use Rattle.case_file.specs.Trailer.{opened};
 ghost use Rattle.case_file.specs.Field.{valuesOf};
@@ -55,9 +55,9 @@ fn take_sample(
     marks: &mut [u8],
 ) -> Tallied
     requires { ⌜ (opened (now case) ≡ Opened.Case n) × (cell < length (now marks)) ⌝ }
-    requires { ⌜ Holds (now x) (now y) (now z) k × (1 ≤ k) × (k ≤ 192) × (sizeOf t < 1073741824) ⌝ }
+    requires { ⌜ Holds (now x) (now y) (now z) k × (1 ≤ k) × (k ≤ 192) × (sizeOf (keptOf t) < 1073741824) ⌝ }
     ensures { λ r. ⌜ Stepped (stream cut (valuesOf (now (case .entry)))
-        (cellIn cell centre k (now (x .entry)) (now (y .entry)) (now (z .entry)) ∷ []) t (now (answers .entry))
+        (cellIn cell centre k (now (x .entry)) (now (y .entry)) (now (z .entry)) ∷ []) (keptOf t) (now (answers .entry))
         (now (marks .entry))) t r (now (answers .exit)) (now (marks .exit)) ⌝ }
 {
     let v = read(case, n, marks, cell);
@@ -84,11 +84,11 @@ fn step(
     marks: &mut [u8],
 ) -> Tallied
     requires { ⌜ Ready (now case) n s (now words) (now marks) × (cell < s .cells) ⌝ }
-    requires { ⌜ Holds (now x) (now y) (now z) 192 × (sizeOf t < 1073741824) ⌝ }
+    requires { ⌜ Holds (now x) (now y) (now z) 192 × (sizeOf (keptOf t) < 1073741824) ⌝ }
     ensures { λ r. ⌜ Stepped (stream cut (valuesOf (now (case .entry)))
         (pieceOf (bare (now (case .entry)) (n .points) s (now (words .entry))) cut cell
-        (cellAt (bare (now (case .entry)) (n .points) s (now (words .entry)) .cells) cell)) t (now (answers .entry))
-        (now (marks .entry))) t r (now (answers .exit)) (now (marks .exit)) ⌝ }
+        (cellAt (bare (now (case .entry)) (n .points) s (now (words .entry)) .cells) cell)) (keptOf t)
+        (now (answers .entry)) (now (marks .entry))) t r (now (answers .exit)) (now (marks .exit)) ⌝ }
 {
     let piece = pieces::piece_of(case, n.points, words, s, cut, cell, x, y, z);
     match piece {
@@ -114,10 +114,10 @@ fn sample_each(
     marks: &mut [u8],
 ) -> Tallied
     requires { ⌜ Ready (now case) n s (now words) (now marks) × (s .cells ≤ 16384) ⌝ }
-    requires { ⌜ Holds (now x) (now y) (now z) 192 × (sizeOf t ≤ 1) ⌝ }
+    requires { ⌜ Holds (now x) (now y) (now z) 192 × (sizeOf (keptOf t) ≤ 1) ⌝ }
     ensures { λ r. ⌜ Streamed (stream cut (valuesOf (now (case .entry)))
         (piecesFrom (bare (now (case .entry)) (n .points) s (now (words .entry))) cut 0
-        (bare (now (case .entry)) (n .points) s (now (words .entry)) .cells)) t (now (answers .entry))
+        (bare (now (case .entry)) (n .points) s (now (words .entry)) .cells)) (keptOf t) (now (answers .entry))
         (now (marks .entry))) r (now (answers .exit)) (now (marks .exit)) ⌝ }
 {
     let mut tally = t;
@@ -144,10 +144,10 @@ pub fn sample_all(
     answers: &mut [u64],
     marks: &mut [u8],
 ) -> Tallied
-    requires { ⌜ Ready (now case) n s (now words) (now marks) × (sizeOf t ≤ 1) ⌝ }
+    requires { ⌜ Ready (now case) n s (now words) (now marks) × (sizeOf (keptOf t) ≤ 1) ⌝ }
     ensures { λ r. ⌜ ((floats : List Float) → Streamed
         (stream (cutOf (pointsIn (now (case .entry)) (n .points)) plane) (valuesOf (now (case .entry)))
-        (intersect (meshIn (pointsIn (now (case .entry)) (n .points)) s (now (words .entry)) floats) plane) t
+        (intersect (meshIn (pointsIn (now (case .entry)) (n .points)) s (now (words .entry)) floats) plane) (keptOf t)
         (now (answers .entry)) (now (marks .entry))) r (now (answers .exit)) (now (marks .exit))) ⌝ }
 {
     let cut = axes::cut_of(case, n.points, plane);

@@ -1,5 +1,5 @@
 -- `plane_integrals::sample`. Refusals 42 and 43. The Rust passes over a polygon of fewer than three vertices; none comes, since a piece has three
--- points or more (`pieceAbout`, crates/planes_sections/specs/Intersect.antt).
+-- points or more (`pieceAbout`, crates/sections/specs/Intersect.antt).
 use Prim.Native.Nat.{ℕ}
 use mathlib.Core.Bool.{Bool, not, cond, _&&_, _||_}
 use mathlib.Core.List.{List, [], _∷_}
@@ -48,7 +48,10 @@ vacant t = (t .area ≼ 0·0) || not (finiteIntegral t)
 unfoldable pub integralWords : Integral → List ℕ
 integralWords t = word (t .area) ∷ word (t .pressure ⊘ t .area) ∷ word (t .speed ⊘ t .area) ∷ word (t .flux) ∷ []
 
--- refusals 42 and 43, or the answer
+-- refusal 43, or the answer
+unfoldable pub integralsFrom : Integral → Result (List ℕ)
+integralsFrom t = cond (vacant t) (refused 43) (fine (integralWords t))
+
+-- all samples in turn, with refusal 42
 unfoldable pub integrals : Vec3 → List Sample → Result (List ℕ)
-integrals normal l =
-    steps (addIntegral normal) noIntegral l >>= λ t. cond (vacant t) (refused 43) (fine (integralWords t))
+integrals normal l = steps (addIntegral normal) noIntegral l >>= integralsFrom

@@ -11,7 +11,7 @@ use Rattle.arith.specs.Vec.{dot}
 use Rattle.arith.specs.declared.Vec3.{Vec3}
 use Rattle.arith.specs.declared.Vec2.{Vec2}
 use Rattle.reading.specs.declared.Values.{Values}
-use Rattle.reading.specs.Result.{Result, refused, fine}
+use Rattle.reading.specs.Result.{Result, refused, fine, _>>=_}
 use Rattle.planes_cut.specs.declared.Cut.{Cut}
 use Rattle.planes_crossings.specs.Work.{heldIn}
 use Rattle.planes_sections.specs.Intersect.{PlaneCell}
@@ -31,50 +31,68 @@ use Rattle.planes_sums.specs.Integrals.{fit, weighing, addIntegral}
 use Rattle.planes_sums.specs.Probe.{covers}
 use Rattle.planes_sums.specs.Words.{sampleWords}
 
--- sums, or that refusal 40 was met: the reading goes on all the same
-unfoldable pub summedOf : Result Sums → Summed
-summedOf (refused n) = Unsummed
-summedOf (fine t) = Total t
+-- ---- 01's numbers
 
--- with a sample of this measure
+-- the sums, or refusal 40, "non-finite flux": the reading goes on all the same
+unfoldable pub sumsOf : Summed → Result Sums
+sumsOf (Total t) = fine t
+sumsOf Unsummed = refused 40
+
+-- the integrals, or refusal 42, "invalid sample"
+unfoldable pub integralOf : Weighed → Result Integral
+integralOf (Whole t) = fine t
+integralOf Unweighed = refused 42
+
+-- what is kept for each code: how many polygons were written and where the next one goes; the sums of a field; the integrals; the first
+-- sample over a point
+pub data Kept : Type 0 where
+  ofSection : ℕ → ℕ → Kept
+  ofStatistics : ℕ → Result Sums → Kept
+  ofIntegrals : Result Integral → Kept
+  ofProbe : Vec2 → Probed → Kept
+
+unfoldable pub keptOf : Tally → Kept
+keptOf (Section polygons at) = ofSection polygons at
+keptOf (Statistics field r) = ofStatistics field (sumsOf r)
+keptOf (Integrals r) = ofIntegrals (integralOf r)
+keptOf (Probe q r) = ofProbe q r
+
+-- ---- with one sample
+
+-- the sums with a sample of this measure
 unfoldable pub summingOf : Vec3 → ℕ → Sums → Float → Values → Result Sums
 summingOf normal field t measure v =
     summing (counted measure (scalarOf normal field v)) t measure (scalarOf normal field v) (dot (v .velocity) normal ⊗ measure)
 
-unfoldable pub addSummed : Vec3 → ℕ → Summed → Sample → Summed
-addSummed normal field (Total t) s = summedOf (addSample normal field t s)
-addSummed normal field Unsummed s = Unsummed
-
--- integrals, or that refusal 42 was met
-unfoldable pub weighedOf : Result Integral → Weighed
-weighedOf (refused n) = Unweighed
-weighedOf (fine t) = Whole t
-
+-- the integrals with a sample of this area
 unfoldable pub weighingOf : Vec3 → Integral → Float → Values → Result Integral
 weighingOf normal t a v = cond (fit a v) (fine (weighing normal t a v)) (refused 42)
 
-unfoldable pub addWeighed : Vec3 → Weighed → Sample → Weighed
-addWeighed normal (Whole t) s = weighedOf (addIntegral normal t s)
-addWeighed normal Unweighed s = Unweighed
+-- a refusal stays
+abbrev pub addSummed : Vec3 → ℕ → Result Sums → Sample → Result Sums
+addSummed normal field r s = r >>= λ t. addSample normal field t s
+
+abbrev pub addWeighed : Vec3 → Result Integral → Sample → Result Integral
+addWeighed normal r s = r >>= λ t. addIntegral normal t s
 
 -- the first sample over the point
 unfoldable pub addProbed : Cut → Vec2 → Probed → Sample → Probed
 addProbed c q (Hit i v) s = Hit i v
 addProbed c q Missed s = cond (covers (c .plane) q (s .geometry .polygon)) (Hit (s .geometry .cell) (s .values)) Missed
 
--- what each code keeps of the samples
-unfoldable pub addTo : Cut → Tally → Sample → Tally
-addTo c (Section polygons at) s = Section (suc polygons) (at + length (sampleWords s))
-addTo c (Statistics field r) s = Statistics field (addSummed (c .normal) field r s)
-addTo c (Integrals r) s = Integrals (addWeighed (c .normal) r s)
-addTo c (Probe q r) s = Probe q (addProbed c q r s)
+-- what each code keeps of it
+unfoldable pub addTo : Cut → Kept → Sample → Kept
+addTo c (ofSection polygons at) s = ofSection (suc polygons) (at + length (sampleWords s))
+addTo c (ofStatistics field r) s = ofStatistics field (addSummed (c .normal) field r s)
+addTo c (ofIntegrals r) s = ofIntegrals (addWeighed (c .normal) r s)
+addTo c (ofProbe q r) s = ofProbe q (addProbed c q r s)
 
 -- what it writes of a sample: "Code 5's polygons", as far as they fit
-unfoldable pub written : Tally → List ℕ → Sample → List ℕ
-written (Section polygons at) o s = sets o at (sampleWords s)
-written (Statistics field r) o s = o
-written (Integrals r) o s = o
-written (Probe q r) o s = o
+unfoldable pub written : Kept → List ℕ → Sample → List ℕ
+written (ofSection polygons at) o s = sets o at (sampleWords s)
+written (ofStatistics field r) o s = o
+written (ofIntegrals r) o s = o
+written (ofProbe q r) o s = o
 
 -- ---- the words of the contracts
 
@@ -86,18 +104,18 @@ abbrev pub sampleIn : ℕ → Vec3 → ℕ → Values → List Float → List Fl
 sampleIn cell centre n v x y z = record { geometry = cellIn cell centre n x y z; values = v }
 
 -- how many samples the sums have
-unfoldable pub usedOf : Summed → ℕ
-usedOf (Total t) = t .used
-usedOf Unsummed = 0
+unfoldable pub usedOf : Result Sums → ℕ
+usedOf (fine t) = t .used
+usedOf (refused n) = 0
 
 -- a bound of the numbers that are kept
-unfoldable pub sizeOf : Tally → ℕ
-sizeOf (Section polygons at) = polygons + at
-sizeOf (Statistics field r) = usedOf r
-sizeOf (Integrals r) = 0
-sizeOf (Probe q r) = 0
+unfoldable pub sizeOf : Kept → ℕ
+sizeOf (ofSection polygons at) = polygons + at
+sizeOf (ofStatistics field r) = usedOf r
+sizeOf (ofIntegrals r) = 0
+sizeOf (ofProbe q r) = 0
 
 -- what is kept and written of one sample
 pub record Added (c : Cut) (t : Tally) (s : Sample) (r : Tally) (o o′ : List ℕ) : Type 0 where
-  pub tally : r ≡ addTo c t s
-  pub answers : o′ ≡ written t o s
+  pub tally : keptOf r ≡ addTo c (keptOf t) s
+  pub answers : o′ ≡ written (keptOf t) o s

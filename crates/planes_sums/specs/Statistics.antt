@@ -1,5 +1,5 @@
 -- `section_statistics_csv` before formatting. Refusals 40 and 41. The Rust passes over a polygon of fewer than three vertices; none comes, since a
--- piece has three points or more (`pieceAbout`, crates/planes_sections/specs/Intersect.antt).
+-- piece has three points or more (`pieceAbout`, crates/sections/specs/Intersect.antt).
 use Prim.Native.Nat.{ℕ, suc}
 use mathlib.Core.Bool.{Bool, true, false, not, cond, _&&_, _||_}
 use mathlib.Core.List.{List, [], _∷_}
@@ -74,7 +74,10 @@ statisticsWords t =
     ∷ word (t .flux) ∷ word (t .positive) ∷ word (t .negative) ∷ word (t .positive ⊖ t .negative)
     ∷ fractionWords t (t .positive ⊖ t .negative)
 
--- refusals 40 and 41, or the answer
+-- refusal 41, or the answer
+unfoldable pub statisticsFrom : Sums → Result (List ℕ)
+statisticsFrom t = cond (empty t) (refused 41) (fine (statisticsWords t))
+
+-- all samples in turn, with refusal 40
 unfoldable pub statistics : Vec3 → ℕ → List Sample → Result (List ℕ)
-statistics normal field l =
-    steps (addSample normal field) noSums l >>= λ t. cond (empty t) (refused 41) (fine (statisticsWords t))
+statistics normal field l = steps (addSample normal field) noSums l >>= statisticsFrom

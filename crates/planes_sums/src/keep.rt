@@ -16,7 +16,7 @@ ghost use mathlib.Core.Path.{_≡_};
 ghost use Prim.Native.Nat.{ℕ, _≤_, _<_};
 ghost use Rattle.planes_sums.specs.Statistics as Statistics;
 ghost use Rattle.planes_sums.specs.Integrals as Integrals;
-ghost use Rattle.planes_sums.specs.Kept.{summedOf, weighedOf, summingOf, weighingOf, addSummed, addWeighed, addProbed, sampleIn, usedOf, sizeOf, Added};
+ghost use Rattle.planes_sums.specs.Kept.{keptOf, sumsOf, integralOf, summingOf, weighingOf, addSummed, addWeighed, addProbed, sampleIn, usedOf, sizeOf, Added};
 ghost use Rattle.planes_crossings.specs.Work.{Holds};
 
 // A sample with area and a finite value counts.
@@ -60,7 +60,7 @@ fn including(t: Sums, measure: f64, value: f64, flux: f64) -> Sums
 // The sums with a sample of this measure and these values.
 fn add_sample(normal: Vec3, field: u64, t: Sums, measure: f64, v: Values) -> Summed
     requires { ⌜ t .used < 4294967296 ⌝ }
-    ensures { λ r. ⌜ r ≡ summedOf (summingOf normal field t measure v) ⌝ }
+    ensures { λ r. ⌜ sumsOf r ≡ summingOf normal field t measure v ⌝ }
 {
     let value = measures::sample_scalar(normal, field, v);
     if counted(measure, value) {
@@ -106,7 +106,7 @@ fn weighing(normal: Vec3, t: Integral, a: f64, v: Values) -> Integral
 
 // The same, or that the sample is invalid.
 fn add_integral(normal: Vec3, t: Integral, a: f64, v: Values) -> Weighed
-    ensures { λ r. ⌜ r ≡ weighedOf (weighingOf normal t a v) ⌝ }
+    ensures { λ r. ⌜ integralOf r ≡ weighingOf normal t a v ⌝ }
 {
     if fit(a, v) {
         Weighed::Whole(weighing(normal, t, a, v))
@@ -126,8 +126,8 @@ fn add_summed(
     y: &[f64],
     z: &[f64],
 ) -> Summed
-    requires { ⌜ Holds (now x) (now y) (now z) n × (1 ≤ n) × (usedOf t < 4294967296) ⌝ }
-    ensures { λ r. ⌜ ((cell : ℕ) (centre : Vec3) → r ≡ addSummed normal field t
+    requires { ⌜ Holds (now x) (now y) (now z) n × (1 ≤ n) × (usedOf (sumsOf t) < 4294967296) ⌝ }
+    ensures { λ r. ⌜ ((cell : ℕ) (centre : Vec3) → sumsOf r ≡ addSummed normal field (sumsOf t)
         (sampleIn cell centre n v (now (x .entry)) (now (y .entry)) (now (z .entry)))) ⌝ }
 {
     match t {
@@ -150,7 +150,7 @@ fn add_weighed(
     z: &[f64],
 ) -> Weighed
     requires { ⌜ Holds (now x) (now y) (now z) n × (1 ≤ n) ⌝ }
-    ensures { λ r. ⌜ ((cell : ℕ) (centre : Vec3) → r ≡ addWeighed normal t
+    ensures { λ r. ⌜ ((cell : ℕ) (centre : Vec3) → integralOf r ≡ addWeighed normal (integralOf t)
         (sampleIn cell centre n v (now (x .entry)) (now (y .entry)) (now (z .entry)))) ⌝ }
 {
     match t {
@@ -203,7 +203,7 @@ pub fn add(
     z: &[f64],
     answers: &mut [u64],
 ) -> Tally
-    requires { ⌜ Holds (now x) (now y) (now z) n × (1 ≤ n) × (n ≤ 192) × (sizeOf t < 1073741824) ⌝ }
+    requires { ⌜ Holds (now x) (now y) (now z) n × (1 ≤ n) × (n ≤ 192) × (sizeOf (keptOf t) < 1073741824) ⌝ }
     ensures { λ r. ⌜ Added cut t (sampleIn cell centre n v (now (x .entry)) (now (y .entry)) (now (z .entry))) r
         (now (answers .entry)) (now (answers .exit)) ⌝ }
 {

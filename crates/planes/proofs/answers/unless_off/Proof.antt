@@ -1,3 +1,5 @@
+use Rattle.planes_samples.specs.Stream.{talliedOf}
+use Rattle.planes_sums.specs.Kept.{keptOf}
 use Rattle.planes.specs.Reply.{missing}
 use borrow.Author.Needs.{needs}
 use Rattle.planes.proofs.answers.unless_off.Statement.{statement}
@@ -10,11 +12,11 @@ enum-told-2 : tie.Need-enum-told-2
 enum-told-2 c = search needs
 
 returns : tie.Need-returns
-unfolding missing
+unfolding missing talliedOf keptOf
 returns c = rw (c .before .before .if1 .taken, c .enum-told .given .1)
 
 returns-2 : tie.Need-returns-2
-unfolding missing
+unfolding missing talliedOf
 returns-2 c = rw (c .before .before .if1 .taken, c .enum-told2 .given .1)
 
 returns-3 : tie.Need-returns-3

@@ -1,15 +1,15 @@
 use mathlib.Core.Path.{sym, _∙_}
-use Rattle.planes_sums.specs.Kept.{weighedOf, weighingOf}
+use Rattle.planes_sums.specs.Kept.{integralOf, weighingOf}
 use borrow.Author.Needs.{needs}
 use Rattle.planes_sums.proofs.keep.add_integral.Statement.{statement}
 use Rattle.planes_sums.proofs.keep.add_integral.Tie as tie
 
 returns : tie.Need-returns
-unfolding weighedOf weighingOf
+unfolding integralOf weighingOf
 returns c = rw (c .weighing .ensures, sym (c .before .before .fit .ensures) ∙ c .before .if1 .taken)
 
 returns-2 : tie.Need-returns-2
-unfolding weighedOf weighingOf
+unfolding integralOf weighingOf
 returns-2 c = rw (sym (c .before .fit .ensures) ∙ c .if1 .left)
 
 pub add-integral-spec : {M : Type 1} → statement M
