@@ -36,7 +36,7 @@ fn velocity_request_is_the_dump() {
 
 /// The words of each listed answer, and the cells of the last line.
 fn listed() -> (Vec<Vec<u64>>, Vec<usize>) {
-    let lines: Vec<&str> = block("`airjob` prints them as").lines().collect();
+    let lines: Vec<&str> = block("prints them as").lines().collect();
     let (read, answers) = lines.split_last().unwrap();
     let hexadecimal = |line: &str| line.split(' ').skip(2).map(|word| u64::from_str_radix(word, 16).unwrap()).collect();
     let cells = read.strip_prefix("read ").unwrap().split(' ').map(|cell| cell.parse().unwrap());
