@@ -7,7 +7,7 @@ use lib.ListN.{length, set}
 use lib.Ieee.{Float}
 use borrow.Author.Tests.{lt-ltb, le-ltb}
 use Rattle.arith.specs.declared.Vec3.{Vec3}
-use Rattle.reading.specs.Result.{Result, refused, fine, refusalOf}
+use Rattle.reading.specs.Result.{Result, refused, fine}
 use Rattle.mesh_area.specs.Tables.{Mesh}
 use Rattle.mesh_area.specs.Layout.{meshIn}
 use Rattle.mesh_area.specs.declared.Sizes.{Sizes}
@@ -15,7 +15,7 @@ use Rattle.mesh.specs.Case.{Building, sizesFor}
 use Rattle.mesh.specs.declared.Built.{Built}
 use Rattle.mesh.specs.declared.Built.the-variants as Built
 use Rattle.mesh.proofs.Laws.{Standing, building-refused, building-mesh, standing-sizes}
-use Rattle.test_mesh_exports.specs.Exported.{sizesOf, Exported}
+use Rattle.test_mesh_exports.specs.Exported.{refusalOf, sizesOf, Exported}
 
 module _ {m : Result Mesh} {n : ℕ} {ps : List Vec3} {words : List ℕ} {floats : List Float} {b : Built} (z : List ℕ) (h : Building m n ps words floats b) where
   pub refusal : (k : ℕ) → b ≡ Built.Refused k → Exported m n ps words floats z z k

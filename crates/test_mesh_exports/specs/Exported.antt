@@ -7,10 +7,15 @@ use lib.Dec.{ltb}
 use lib.ListN.{length, set}
 use lib.Ieee.{Float}
 use Rattle.arith.specs.declared.Vec3.{Vec3}
-use Rattle.reading.specs.Result.{Result, refused, fine, refusalOf}
+use Rattle.reading.specs.Result.{Result, refused, fine}
 use Rattle.mesh_area.specs.Tables.{Mesh}
 use Rattle.mesh_area.specs.Layout.{meshIn}
 use Rattle.mesh.specs.Case.{sizesFor}
+
+-- the number of the refusal, or 0
+unfoldable pub refusalOf : Result Mesh → ℕ
+refusalOf (refused k) = k
+refusalOf (fine m) = 0
 
 -- the three sizes of a mesh with f slots, where there is room for them: F, its faces and its cells
 unfoldable pub sizesOf : ℕ → Result Mesh → List ℕ → List ℕ
