@@ -14,7 +14,7 @@ use lines_velocity::Vector;
 use lines_velocity::interpolate;
 use mesh_area::Sizes;
 use planes::Answered;
-use planes::answers;
+use planes::codes;
 ghost use mathlib.Core.Path.{_≡_};
 ghost use mathlib.Core.List.{List};
 ghost use Prim.Native.Nat.{ℕ, _≤_};
@@ -227,12 +227,12 @@ fn serve_solid(
 {
     match q {
         Request::Refused(k) => Answered::Refused(k),
-        Request::Section(plane) => answers::section(case, n, words, s, plane, out, marks),
+        Request::Section(plane) => codes::section(case, n, words, s, plane, out, marks),
         Request::Statistics(plane, field) => {
-            answers::statistics(case, n, words, s, plane, field, out, marks)
+            codes::statistics(case, n, words, s, plane, field, out, marks)
         }
-        Request::Integrals(plane) => answers::integrals(case, n, words, s, plane, out, marks),
-        Request::Probe(plane, p) => answers::probe(case, n, words, s, plane, p, out, marks),
+        Request::Integrals(plane) => codes::integrals(case, n, words, s, plane, out, marks),
+        Request::Probe(plane, p) => codes::probe(case, n, words, s, plane, p, out, marks),
         _ => Answered::Refused(31), // request_of gave 31 already
     }
 }
