@@ -27,7 +27,7 @@ use Rattle.lines.specs.Line.{integrate}
 use Rattle.lines.specs.Rake.{integrateRake}
 use Rattle.job_requests.specs.declared.Request.{Request}
 use Rattle.job_requests.specs.declared.Request.the-variants as requests
-use Rattle.job_requests.specs.Requests.{number, barring, streamline, rakeOf, rake, statistics as fieldStatistics, overPlane, planar, byCode, requestOf}
+use Rattle.job_requests.specs.Requests.{number, refuseIf, streamline, rakeOf, rake, statistics as fieldStatistics, overPlane, planar, byCode, requestOf}
 use Rattle.job_room.specs.Room.{Room, flat, solid}
 use Rattle.job_serve.specs.Serve.{decided, serveFlat, serveSolid, serve}
 use Rattle.job_reads.proofs.Ranges.{among, Ranged, due, none, bind, barred, either, through}
@@ -52,28 +52,28 @@ good-either : (t : Bool) {q r : Request} → Good q → Good r → Good (cond t 
 good-either true x y = x
 good-either false x y = y
 
-good-barring : (n : ℕ) (t : Bool) {q : Request} → among 30 44 n ≡ true → Good q → Good (barring n t q)
-unfolding barring
-good-barring n t h g = good-either t (refusal n h) g
+good-unless : (n : ℕ) (t : Bool) {q : Request} → among 30 44 n ≡ true → Good q → Good (refuseIf n t q)
+unfolding refuseIf
+good-unless n t h g = good-either t (refusal n h) g
 
 module _ (r : List ℕ) where
-  good-lines : Good (streamline r) × Good (rake r)
+  good-lines : (k : ℕ) → Good (streamline r k) × Good (rake r k)
   unfolding streamline rake rakeOf
-  good-lines = (good-barring 33 _ refl line, good-barring 32 _ refl (good-barring 33 _ refl (good-barring 33 _ refl lines)))
+  good-lines k = (good-unless 33 _ refl line, good-unless 32 _ refl (good-unless 33 _ refl (good-unless 33 _ refl lines)))
 
   good-planes : (code : ℕ) → Good (planar r code)
   unfolding planar overPlane fieldStatistics
   good-planes code =
-      good-barring 36 _ refl (good-barring 37 _ refl
-      (good-either (eqb code 5) section (good-either (eqb code 6) (good-barring 38 _ refl sums) (good-either (eqb code 7) means probe))))
+      good-unless 36 _ refl (good-unless 37 _ refl
+      (good-either (eqb code 5) section (good-either (eqb code 6) (good-unless 38 _ refl sums) (good-either (eqb code 7) means probe))))
 
   good-request : (in-2D : Bool) → Good (requestOf in-2D r)
   unfolding requestOf byCode
   good-request in-2D =
       let code = number r 0 in
-      good-barring 30 _ refl (good-barring 31 _ refl
+      good-unless 30 _ refl (good-unless 31 _ refl
       (good-either (eqb code 1) locate (good-either (eqb code 2) velocity
-      (good-either (eqb code 3) (good-lines .0) (good-either (eqb code 4) (good-lines .1) (good-planes code))))))
+      (good-either (eqb code 3) (good-lines _ .0) (good-either (eqb code 4) (good-lines _ .1) (good-planes code))))))
 
 module _ (f : ℕ → Values) where
   -- a tree that gives what h makes of its answer

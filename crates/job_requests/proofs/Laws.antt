@@ -15,8 +15,10 @@ use Rattle.arith.proofs.RecordLaws.{drop-end}
 use Rattle.case_file.proofs.ReadLaws.{length-readAll, getD-readAll}
 use Rattle.planes_cut.specs.Plane.{planeRefusal}
 use Rattle.planes_cut.specs.declared.Plane.{Plane}
+use Rattle.job_requests.specs.declared.Code.{Code}
 use Rattle.job_requests.specs.declared.Request.{Request}
-use Rattle.job_requests.specs.Requests.{wordsAt, requestsIn, number, barring, illFormed, against, options, streamline, rakeOf, rake, planeOf, statistics, overPlane, planar, byCode, requestOf}
+use Rattle.job_requests.specs.Codes.{codeOf}
+use Rattle.job_requests.specs.Requests.{wordsAt, requestsIn, number, refuseIf, illFormed, wrongDimension, options, streamline, rakeOf, rake, planeOf, statistics, overPlane, planar, byCode, requestOf}
 use Rattle.job_requests.specs.declared.Request.the-variants.{Refused}
 use Rattle.job_requests.specs.Bounds.{Allowed}
 
@@ -59,14 +61,14 @@ module _ (bytes : List ℕ) (at : ℕ) where
 
 -- ---- refusals 36 and 37
 
-refused-by : (a b : Bool) (k : ℕ) (q : Request) → k ≡ cond a 36 (cond b 37 0) → (k ≡ 0 → ⊥) → Refused k ≡ barring 36 a (barring 37 b q)
-unfolding barring
+refused-by : (a b : Bool) (k : ℕ) (q : Request) → k ≡ cond a 36 (cond b 37 0) → (k ≡ 0 → ⊥) → Refused k ≡ refuseIf 36 a (refuseIf 37 b q)
+unfolding refuseIf
 refused-by true b k q e h = rw e
 refused-by false true k q e h = rw e
 refused-by false false k q e h = absurd (h e)
 
-accepted-by : (a b : Bool) (k : ℕ) (q : Request) → k ≡ cond a 36 (cond b 37 0) → k ≡ 0 → q ≡ barring 36 a (barring 37 b q)
-unfolding barring
+accepted-by : (a b : Bool) (k : ℕ) (q : Request) → k ≡ cond a 36 (cond b 37 0) → k ≡ 0 → q ≡ refuseIf 36 a (refuseIf 37 b q)
+unfolding refuseIf
 accepted-by true b k q e h = absurd (omega arith)
 accepted-by false true k q e h = absurd (omega arith)
 accepted-by false false k q e h = refl
@@ -82,8 +84,8 @@ module _ (r : List ℕ) (code : ℕ) {s : Plane} {k : ℕ} (e : s ≡ planeOf r)
 
 -- ---- what the refusals leave
 
-allowed-unless : (n : ℕ) (bad : Bool) (r : Request) → (bad ≡ false → Allowed r) → Allowed (barring n bad r)
-unfolding barring Allowed
+allowed-unless : (n : ℕ) (bad : Bool) (r : Request) → (bad ≡ false → Allowed r) → Allowed (refuseIf n bad r)
+unfolding refuseIf Allowed
 allowed-unless n true r h = tt
 allowed-unless n false r h = h refl
 
@@ -92,15 +94,15 @@ allowed-either true r q h k = h
 allowed-either false r q h k = k
 
 module _ (r : List ℕ) where
-  allowed-streamline : Allowed (streamline r)
+  allowed-streamline : (k : ℕ) → Allowed (streamline r k)
   unfolding streamline Allowed
-  allowed-streamline = allowed-unless 33 _ _ (ltb-false 65536 (options r 4 .«max_steps»))
+  allowed-streamline k = allowed-unless 33 _ _ (ltb-false 65536 (options r k .«max_steps»))
 
-  allowed-rake : Allowed (rake r)
+  allowed-rake : (k : ℕ) → Allowed (rake r k)
   unfolding rake rakeOf Allowed
-  allowed-rake =
+  allowed-rake k =
       allowed-unless 32 _ _ (λ a. allowed-unless 33 _ _ (λ b. allowed-unless 33 _ _ (λ c.
-      (ltb-false (number r 7) 2 a, ltb-false 64 (number r 7) b, ltb-false 65536 (options r 8 .«max_steps») c))))
+      (ltb-false (number r 7) 2 a, ltb-false 64 (number r 7) b, ltb-false 65536 (options r k .«max_steps») c))))
 
   allowed-over : (code : ℕ) (s : Plane) → Allowed (overPlane r code s)
   unfolding overPlane statistics Allowed
@@ -111,15 +113,15 @@ module _ (r : List ℕ) where
   unfolding planar
   allowed-planar code = allowed-unless 36 _ _ (λ a. allowed-unless 37 _ _ (λ b. allowed-over code (planeOf r)))
 
-  allowed-code : (code : ℕ) → Allowed (byCode r code)
+  allowed-code : (code k : ℕ) → Allowed (byCode r code k)
   unfolding byCode Allowed
-  allowed-code code =
+  allowed-code code k =
       allowed-either (eqb code 1) _ _ tt (allowed-either (eqb code 2) _ _ tt
-      (allowed-either (eqb code 3) _ _ allowed-streamline (allowed-either (eqb code 4) _ _ allowed-rake (allowed-planar code))))
+      (allowed-either (eqb code 3) _ _ (allowed-streamline k) (allowed-either (eqb code 4) _ _ (allowed-rake k) (allowed-planar code))))
 
   allowed-request : (flat : Bool) → Allowed (requestOf flat r)
   unfolding requestOf
-  allowed-request flat = allowed-unless 30 _ _ (λ a. allowed-unless 31 _ _ (λ b. allowed-code (number r 0)))
+  allowed-request flat = allowed-unless 30 _ _ (λ a. allowed-unless 31 _ _ (λ b. allowed-code (number r 0) _))
 
 -- ---- refusals 30 and 31
 
@@ -131,16 +133,19 @@ module _ (r : List ℕ) (flat : Bool) where
   whole : {q : Request} → q ≡ requestOf flat r → Is q
   whole e = (e, rw e (allowed-request r flat))
 
-  module _ {b : Bool} (e : b ≡ illFormed r) where
+  module _ {code : ℕ} {c : Code} {b : Bool} (f : code ≡ number r 0) (t : c ≡ codeOf code) (e : b ≡ illFormed r c) where
+    row : codeOf (number r 0) ≡ c
+    row = sym (t ∙ ap codeOf f)
+
     pub request-ill-formed : b ≡ true → Is (Refused 30)
-    unfolding requestOf barring
-    request-ill-formed h = whole (rw (sym e, h))
+    unfolding requestOf refuseIf
+    request-ill-formed h = whole (rw (row, ← e, h))
 
-    module _ {code : ℕ} {d : Bool} (h : b ≡ false) (f : code ≡ number r 0) (g : d ≡ against flat code) where
-      pub request-against : d ≡ true → Is (Refused 31)
-      unfolding requestOf barring
-      request-against k = whole (rw (sym e, h, sym f, sym g, k))
+    module _ {d : Bool} (h : b ≡ false) (g : d ≡ wrongDimension flat c) where
+      pub request-wrong-dimension : d ≡ true → Is (Refused 31)
+      unfolding requestOf refuseIf
+      request-wrong-dimension k = whole (rw (row, ← e, h, ← g, k))
 
-      pub request-by-code : {q : Request} → d ≡ false → q ≡ byCode r code → Is q
-      unfolding requestOf barring
-      request-by-code k w = whole (rw (sym e, h, sym f, sym g, k) w)
+      pub request-by-code : {q : Request} → d ≡ false → q ≡ byCode r code (c .line) → Is q
+      unfolding requestOf refuseIf
+      request-by-code k w = whole (rw (row, ← e, h, ← g, k, ← f) w)

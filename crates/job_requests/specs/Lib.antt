@@ -1,3 +1,4 @@
+pub mod Codes
 pub mod Requests
 pub mod Bounds
 pub mod Encode

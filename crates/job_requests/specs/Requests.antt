@@ -1,8 +1,8 @@
 -- "Request: 16 words of 8 bytes, the code first, then the arguments; words not used are zero." Refusals 30 to 33 and 36 to 38.
 use Prim.Native.Nat.{ℕ, _+_, _/_}
-use mathlib.Core.Bool.{Bool, true, false, cond, _||_}
+use mathlib.Core.Bool.{Bool, not, cond, _&&_, _||_}
 use mathlib.Core.List.{List, [], _∷_}
-use lib.Dec.{leb, ltb, eqb}
+use lib.Dec.{ltb, eqb}
 use lib.ListN.{length, getD, drop}
 use lib.Ieee.{Float}
 use Rattle.arith.specs.F64.{float}
@@ -15,8 +15,10 @@ use Rattle.lines.specs.declared.StreamlineDirection.{StreamlineDirection}
 use Rattle.lines.specs.declared.StreamlineDirection.the-variants.{Forward, Backward}
 use Rattle.planes_cut.specs.declared.Plane.{Plane}
 use Rattle.planes_cut.specs.Plane.{invalid, remote}
+use Rattle.job_requests.specs.declared.Code.{Code}
 use Rattle.job_requests.specs.declared.Request.{Request}
 use Rattle.job_requests.specs.declared.Request.the-variants.{Refused, Locate, Velocity, Streamline, Rake, Section, Statistics, Integrals, Probe}
+use Rattle.job_requests.specs.Codes.{isUnknown, codeOf}
 
 -- the 16 words of the request at a place
 unfoldable pub wordsAt : List ℕ → ℕ → List ℕ
@@ -39,36 +41,34 @@ unfoldable pub point : List ℕ → ℕ → Vec3
 point r k = vec (real r k) (real r (k + 1)) (real r (k + 2))
 
 -- refusal n where the test holds
-unfoldable pub barring : ℕ → Bool → Request → Request
-barring n bad r = cond bad (Refused n) r
+unfoldable pub refuseIf : ℕ → Bool → Request → Request
+refuseIf n bad r = cond bad (Refused n) r
 
 -- ---- refusal 30: "unknown code, unused word not zero, direction above 1"
 
--- how many words each code uses, itself counted
-unfoldable pub usedWords : ℕ → ℕ
-usedWords code = getD (0 ∷ 4 ∷ 4 ∷ 9 ∷ 13 ∷ 10 ∷ 11 ∷ 10 ∷ 13 ∷ []) code 0
+-- "unused word not zero": one behind the words that the code uses
+unfoldable pub unusedSet : List ℕ → Code → Bool
+unusedSet r c = anyOf (ltb 0) (drop (c .used) r)
 
--- "direction above 1", where a line's direction stands
-unfoldable pub astray : List ℕ → ℕ → Bool
-astray r code = cond (eqb code 3) (ltb 1 (number r 4)) (cond (eqb code 4) (ltb 1 (number r 8)) false)
+-- "direction above 1", where the code asks for lines
+unfoldable pub badDirection : List ℕ → Code → Bool
+badDirection r c = ltb 0 (c .line) && ltb 1 (number r (c .line))
 
 -- 30 is due
-unfoldable pub illFormed : List ℕ → Bool
-illFormed r =
-    let code = number r 0 in
-    ltb code 1 || (ltb 8 code || (anyOf (ltb 0) (drop (usedWords code) r) || astray r code))
+unfoldable pub illFormed : List ℕ → Code → Bool
+illFormed r c = isUnknown c || (unusedSet r c || badDirection r c)
 
 -- refusal 31: "codes 1 to 4 need 2D, 5 to 8 need 3D"
-unfoldable pub against : Bool → ℕ → Bool
-against true code = ltb 4 code
-against false code = leb code 4
+unfoldable pub wrongDimension : Bool → Code → Bool
+wrongDimension flat c = not (eqb (c .dimension) (cond flat 2 3))
 
--- ---- lines: from place k on stand direction, step_size, max_steps, max_length, stagnation_speed
+-- ---- lines: from word k on stand direction, step_size, max_steps, max_length, stagnation_speed
 
 -- "direction (0 forward, 1 backward)"
 unfoldable pub direction : List ℕ → ℕ → StreamlineDirection
 direction r k = cond (eqb (number r k) 0) Forward Backward
 
+-- the other four
 unfoldable pub options : List ℕ → ℕ → StreamlineOptions
 options r k =
     record {
@@ -79,16 +79,16 @@ options r k =
     }
 
 -- refusal 33: "max_steps above 65,536"
-unfoldable pub streamline : List ℕ → Request
-streamline r = barring 33 (ltb 65536 (options r 4 .«max_steps»)) (Streamline (point r 1) (direction r 4) (options r 4))
+unfoldable pub streamline : List ℕ → ℕ → Request
+streamline r k = refuseIf 33 (ltb 65536 (options r k .«max_steps»)) (Streamline (point r 1) (direction r k) (options r k))
 
 -- the same of a rake with so many seeds
-unfoldable pub rakeOf : List ℕ → ℕ → Request
-rakeOf r count = barring 33 (ltb 65536 (options r 8 .«max_steps»)) (Rake (point r 1) (point r 4) count (direction r 8) (options r 8))
+unfoldable pub rakeOf : List ℕ → ℕ → ℕ → Request
+rakeOf r k count = refuseIf 33 (ltb 65536 (options r k .«max_steps»)) (Rake (point r 1) (point r 4) count (direction r k) (options r k))
 
 -- refusal 32: "rake count below 2"; 33: "count above 64 or max_steps above 65,536"
-unfoldable pub rake : List ℕ → Request
-rake r = barring 32 (ltb (number r 7) 2) (barring 33 (ltb 64 (number r 7)) (rakeOf r (number r 7)))
+unfoldable pub rake : List ℕ → ℕ → Request
+rake r k = refuseIf 32 (ltb (number r 7) 2) (refuseIf 33 (ltb 64 (number r 7)) (rakeOf r k (number r 7)))
 
 -- ---- planes
 
@@ -98,7 +98,7 @@ planeOf r = record { origin = point r 1; u = point r 4; v = point r 7 }
 
 -- refusal 38: "field above 5"
 unfoldable pub statistics : List ℕ → Plane → Request
-statistics r s = barring 38 (ltb 5 (number r 10)) (Statistics s (number r 10))
+statistics r s = refuseIf 38 (ltb 5 (number r 10)) (Statistics s (number r 10))
 
 -- codes 5 to 8 over an accepted plane
 unfoldable pub overPlane : List ℕ → ℕ → Plane → Request
@@ -106,17 +106,21 @@ overPlane r code s = cond (eqb code 5) (Section s) (cond (eqb code 6) (statistic
 
 -- refusals 36 and 37
 unfoldable pub planar : List ℕ → ℕ → Request
-planar r code = barring 36 (invalid (planeOf r)) (barring 37 (remote (planeOf r)) (overPlane r code (planeOf r)))
+planar r code = refuseIf 36 (invalid (planeOf r)) (refuseIf 37 (remote (planeOf r)) (overPlane r code (planeOf r)))
 
 -- ---- all eight codes
 
-unfoldable pub byCode : List ℕ → ℕ → Request
-byCode r code =
+-- a request by its code; lines' arguments stand from word k on
+unfoldable pub byCode : List ℕ → ℕ → ℕ → Request
+byCode r code k =
     cond (eqb code 1) (Locate (point r 1))
     (cond (eqb code 2) (Velocity (point r 1))
-    (cond (eqb code 3) (streamline r)
-    (cond (eqb code 4) (rake r) (planar r code))))
+    (cond (eqb code 3) (streamline r k)
+    (cond (eqb code 4) (rake r k) (planar r code))))
 
 -- "30 unknown code ..; 31 codes 1 to 4 need 2D, 5 to 8 need 3D", then by code
 unfoldable pub requestOf : Bool → List ℕ → Request
-requestOf flat r = barring 30 (illFormed r) (barring 31 (against flat (number r 0)) (byCode r (number r 0)))
+requestOf flat r =
+    let code = number r 0 in
+    let c = codeOf code in
+    refuseIf 30 (illFormed r c) (refuseIf 31 (wrongDimension flat c) (byCode r code (c .line)))

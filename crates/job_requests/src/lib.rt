@@ -1,4 +1,5 @@
 // A request: 16 words of 8 bytes, taken apart. Refusals 30 to 33 and 36 to 38.
+pub mod codes;
 pub mod encode;
 
 use arith::Vec3;
@@ -8,7 +9,6 @@ use lines_step::StreamlineOptions;
 use planes_cut::Plane;
 use planes_cut::axes;
 ghost use mathlib.Core.Path.{_≡_};
-ghost use mathlib.Core.Bool.{true, false};
 ghost use Prim.Native.Nat.{_+_, _*_, _≤_, _<_};
 ghost use lib.ListN.{length, drop};
 ghost use lib.Dec.{ltb};
@@ -16,6 +16,14 @@ ghost use Rattle.arith.specs.Lists.{anyOf};
 ghost use Rattle.job_requests.specs.Requests as Requests;
 ghost use Rattle.job_requests.specs.Requests.{wordsAt};
 ghost use Rattle.job_requests.specs.Bounds.{Allowed};
+
+// A row of the table of codes: the dimension that a code needs, how many words it uses, and the word at which
+// the arguments of its lines start.
+pub struct Code {
+    pub dimension: usize,
+    pub used: usize,
+    pub line: usize,
+}
 
 pub enum Request {
     Refused(u64),
@@ -56,15 +64,6 @@ fn point(bytes: &[u8], at: usize, k: usize) -> Vec3
     Vec3::new(x, y, z)
 }
 
-// How many words a code uses, itself counted.
-fn used_words(code: u64) -> usize
-    requires { ⌜ code ≤ 8 ⌝ }
-    ensures { λ r. ⌜ r ≡ Requests.usedWords code ⌝ }
-{
-    let used = [0, 4, 4, 9, 13, 10, 11, 10, 13];
-    used[code as usize]
-}
-
 // A word from k on is not zero.
 fn any_set(bytes: &[u8], at: usize, k: usize) -> bool
     requires { ⌜ at + 128 ≤ length (now bytes) ⌝ }
@@ -80,34 +79,30 @@ fn any_set(bytes: &[u8], at: usize, k: usize) -> bool
     false
 }
 
-// The direction of a line is above 1.
-fn is_astray(bytes: &[u8], at: usize, code: u64) -> bool
-    requires { ⌜ at + 128 ≤ length (now bytes) ⌝ }
-    ensures { λ r. ⌜ r ≡ Requests.astray (wordsAt (now (bytes .entry)) at) code ⌝ }
+// The direction of the lines is above 1, where the code asks for lines.
+fn has_bad_direction(bytes: &[u8], at: usize, c: Code) -> bool
+    requires { ⌜ (at + 128 ≤ length (now bytes)) × (c .line < 12) ⌝ }
+    ensures { λ r. ⌜ r ≡ Requests.badDirection (wordsAt (now (bytes .entry)) at) c ⌝ }
 {
-    match code {
-        3 => number(bytes, at, 4) > 1,
-        4 => number(bytes, at, 8) > 1,
-        _ => false,
+    if c.line > 0 {
+        number(bytes, at, c.line) > 1
+    } else {
+        false
     }
 }
 
 // Unknown code, unused word not zero, direction above 1.
-fn is_ill_formed(bytes: &[u8], at: usize) -> bool
-    requires { ⌜ at + 128 ≤ length (now bytes) ⌝ }
-    ensures { λ r. ⌜ r ≡ Requests.illFormed (wordsAt (now (bytes .entry)) at) ⌝ }
+fn is_ill_formed(bytes: &[u8], at: usize, c: Code) -> bool
+    requires { ⌜ (at + 128 ≤ length (now bytes)) × (c .line < 12) ⌝ }
+    ensures { λ r. ⌜ r ≡ Requests.illFormed (wordsAt (now (bytes .entry)) at) c ⌝ }
 {
-    let code = number(bytes, at, 0);
-    if code < 1 {
+    if c.dimension == 0 {
         return true;
     }
-    if code > 8 {
+    if any_set(bytes, at, c.used) {
         return true;
     }
-    if any_set(bytes, at, used_words(code)) {
-        return true;
-    }
-    is_astray(bytes, at, code)
+    has_bad_direction(bytes, at, c)
 }
 
 // Direction of the line whose arguments stand from k on.
@@ -139,23 +134,23 @@ fn options(bytes: &[u8], at: usize, k: usize) -> StreamlineOptions
     }
 }
 
-fn streamline(bytes: &[u8], at: usize) -> Request
-    requires { ⌜ at + 128 ≤ length (now bytes) ⌝ }
-    ensures { λ r. ⌜ r ≡ Requests.streamline (wordsAt (now (bytes .entry)) at) ⌝ }
+fn streamline(bytes: &[u8], at: usize, k: usize) -> Request
+    requires { ⌜ (at + 128 ≤ length (now bytes)) × (k < 12) ⌝ }
+    ensures { λ r. ⌜ r ≡ Requests.streamline (wordsAt (now (bytes .entry)) at) k ⌝ }
 {
-    let o = options(bytes, at, 4);
+    let o = options(bytes, at, k);
     if o.max_steps > 65536 {
         return Request::Refused(33);
     }
-    Request::Streamline(point(bytes, at, 1), direction(bytes, at, 4), o)
+    Request::Streamline(point(bytes, at, 1), direction(bytes, at, k), o)
 }
 
 // The lines from `count` seeds.
-fn rake_of(bytes: &[u8], at: usize, count: usize) -> Request
-    requires { ⌜ at + 128 ≤ length (now bytes) ⌝ }
-    ensures { λ r. ⌜ r ≡ Requests.rakeOf (wordsAt (now (bytes .entry)) at) count ⌝ }
+fn rake_of(bytes: &[u8], at: usize, k: usize, count: usize) -> Request
+    requires { ⌜ (at + 128 ≤ length (now bytes)) × (k < 12) ⌝ }
+    ensures { λ r. ⌜ r ≡ Requests.rakeOf (wordsAt (now (bytes .entry)) at) k count ⌝ }
 {
-    let o = options(bytes, at, 8);
+    let o = options(bytes, at, k);
     if o.max_steps > 65536 {
         return Request::Refused(33);
     }
@@ -163,14 +158,14 @@ fn rake_of(bytes: &[u8], at: usize, count: usize) -> Request
         point(bytes, at, 1),
         point(bytes, at, 4),
         count,
-        direction(bytes, at, 8),
+        direction(bytes, at, k),
         o,
     )
 }
 
-fn rake(bytes: &[u8], at: usize) -> Request
-    requires { ⌜ at + 128 ≤ length (now bytes) ⌝ }
-    ensures { λ r. ⌜ r ≡ Requests.rake (wordsAt (now (bytes .entry)) at) ⌝ }
+fn rake(bytes: &[u8], at: usize, k: usize) -> Request
+    requires { ⌜ (at + 128 ≤ length (now bytes)) × (k < 12) ⌝ }
+    ensures { λ r. ⌜ r ≡ Requests.rake (wordsAt (now (bytes .entry)) at) k ⌝ }
 {
     let count = number(bytes, at, 7) as usize;
     if count < 2 {
@@ -179,7 +174,7 @@ fn rake(bytes: &[u8], at: usize) -> Request
     if count > 64 {
         return Request::Refused(33);
     }
-    rake_of(bytes, at, count)
+    rake_of(bytes, at, k, count)
 }
 
 // Origin, u and v.
@@ -226,25 +221,29 @@ fn planar(bytes: &[u8], at: usize, code: u64) -> Request
     over_plane(bytes, at, code, plane)
 }
 
-// A request that is well-formed, over a mesh of this dimension.
-fn by_code(bytes: &[u8], at: usize, code: u64) -> Request
-    requires { ⌜ at + 128 ≤ length (now bytes) ⌝ }
-    ensures { λ r. ⌜ r ≡ Requests.byCode (wordsAt (now (bytes .entry)) at) code ⌝ }
+// A request that is well-formed, over a mesh of this dimension; lines' arguments stand from k on.
+fn by_code(bytes: &[u8], at: usize, code: u64, k: usize) -> Request
+    requires { ⌜ (at + 128 ≤ length (now bytes)) × (k < 12) ⌝ }
+    ensures { λ r. ⌜ r ≡ Requests.byCode (wordsAt (now (bytes .entry)) at) code k ⌝ }
 {
     match code {
         1 => Request::Locate(point(bytes, at, 1)),
         2 => Request::Velocity(point(bytes, at, 1)),
-        3 => streamline(bytes, at),
-        4 => rake(bytes, at),
+        3 => streamline(bytes, at, k),
+        4 => rake(bytes, at, k),
         _ => planar(bytes, at, code),
     }
 }
 
 // The code needs the other dimension.
-fn is_against(flat: bool, code: u64) -> bool
-    ensures { λ r. ⌜ r ≡ Requests.against flat code ⌝ }
+fn is_wrong_dimension(flat: bool, c: Code) -> bool
+    ensures { λ r. ⌜ r ≡ Requests.wrongDimension flat c ⌝ }
 {
-    if flat { code > 4 } else { code <= 4 }
+    if flat {
+        c.dimension != 2
+    } else {
+        c.dimension != 3
+    }
 }
 
 // The request at `at`, over a 2D mesh or a 3D one.
@@ -252,12 +251,13 @@ pub fn request_of(flat: bool, bytes: &[u8], at: usize) -> Request
     requires { ⌜ at + 128 ≤ length (now bytes) ⌝ }
     ensures { λ r. ⌜ (r ≡ Requests.requestOf flat (wordsAt (now (bytes .entry)) at)) × Allowed r ⌝ }
 {
-    if is_ill_formed(bytes, at) {
+    let code = number(bytes, at, 0);
+    let c = codes::code_of(code);
+    if is_ill_formed(bytes, at, c) {
         return Request::Refused(30);
     }
-    let code = number(bytes, at, 0);
-    if is_against(flat, code) {
+    if is_wrong_dimension(flat, c) {
         return Request::Refused(31);
     }
-    by_code(bytes, at, code)
+    by_code(bytes, at, code, c.line)
 }

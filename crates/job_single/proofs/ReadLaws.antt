@@ -15,7 +15,8 @@ use Rattle.lines.specs.declared.StreamlineDirection.the-variants.{Forward, Back
 use Rattle.planes_cut.specs.declared.Plane.{Plane}
 use Rattle.planes_cut.specs.Plane.{invalid, remote}
 use Rattle.answers.specs.Words.{vecWords}
-use Rattle.job_requests.specs.Requests.{number, real, point, barring, usedWords, astray, illFormed, against, direction, options, streamline, rakeOf, rake, planeOf, statistics, overPlane, planar, byCode, requestOf}
+use Rattle.job_requests.specs.Requests.{number, real, point, refuseIf, unusedSet, badDirection, illFormed, wrongDimension, direction, options, streamline, rakeOf, rake, planeOf, statistics, overPlane, planar, byCode, requestOf}
+use Rattle.job_requests.specs.Codes.{row, unknown, codes, codeOf, isUnknown}
 use Rattle.job_requests.specs.declared.Request.{Request}
 use Rattle.job_requests.specs.declared.Request.the-variants.{Locate, Velocity, Streamline, Rake, Section, Statistics, Integrals, Probe}
 use Rattle.job_single.specs.Single.{padded, directionWord, lineWords, planeWords, locateWords, velocityWords, streamlineWords, rakeWords, sectionWords, statisticsWords, integralsWords, probeWords}
@@ -34,57 +35,62 @@ unfolding directionWord
 direction-back Forward = refl
 direction-back Backward = refl
 
-not-astray : (d : StreamlineDirection) → ltb 1 (directionWord d) ≡ false
+good-direction : (d : StreamlineDirection) → ltb 1 (directionWord d) ≡ false
 unfolding directionWord
-not-astray Forward = refl
-not-astray Backward = refl
+good-direction Forward = refl
+good-direction Backward = refl
 
 options-back : (o : StreamlineOptions) → OptionsHeld o →
     _≡_ {A = StreamlineOptions} (record { «step_size» = float (word (o .«step_size»)); «max_steps» = o .«max_steps»; «max_length» = float (word (o .«max_length»)); «stagnation_speed» = float (word (o .«stagnation_speed»)) }) o
 options-back o h = rw (float-back _ (h .step), float-back _ (h .length), float-back _ (h .speed))
 
+-- all that takes the words of a request apart, and puts them together
+unfoldable taken-apart : Unit {0}
+unfolding requestOf codeOf codes unknown row refuseIf illFormed isUnknown unusedSet badDirection wrongDimension byCode number point real anyOf padded vecWords
+taken-apart = tt
+
 -- ---- codes 1 and 2
 
 pub locate-read : (p : Vec3) → F64s p → requestOf true (locateWords p) ≡ Locate p
-unfolding requestOf barring illFormed usedWords astray against byCode number point real anyOf locateWords padded vecWords
+unfolding taken-apart locateWords
 locate-read p h = ap Locate (vec-back p h)
 
 pub velocity-read : (p : Vec3) → F64s p → requestOf true (velocityWords p) ≡ Velocity p
-unfolding requestOf barring illFormed usedWords astray against byCode number point real anyOf velocityWords padded vecWords
+unfolding taken-apart velocityWords
 velocity-read p h = ap Velocity (vec-back p h)
 
 -- ---- codes 3 and 4: refusals 32 and 33 are by the arguments
 
 module _ (d : StreamlineDirection) (o : StreamlineOptions) (l : OptionsHeld o) where
-  pub streamline-read : (seed : Vec3) → F64s seed → requestOf true (streamlineWords seed d o) ≡ barring 33 (ltb 65536 (o .«max_steps»)) (Streamline seed d o)
-  unfolding requestOf barring illFormed usedWords astray against byCode streamline direction options number point real anyOf streamlineWords padded vecWords lineWords
-  streamline-read seed h = rw (not-astray d, direction-back d, vec-back seed h, options-back o l)
+  pub streamline-read : (seed : Vec3) → F64s seed → requestOf true (streamlineWords seed d o) ≡ refuseIf 33 (ltb 65536 (o .«max_steps»)) (Streamline seed d o)
+  unfolding taken-apart streamline direction options streamlineWords lineWords
+  streamline-read seed h = rw (good-direction d, direction-back d, vec-back seed h, options-back o l)
 
   pub rake-read : (start end : Vec3) (count : ℕ) → F64s start → F64s end
-      → requestOf true (rakeWords start end count d o) ≡ barring 32 (ltb count 2) (barring 33 (ltb 64 count) (barring 33 (ltb 65536 (o .«max_steps»)) (Rake start end count d o)))
-  unfolding requestOf barring illFormed usedWords astray against byCode rake rakeOf direction options number point real anyOf rakeWords padded vecWords lineWords
-  rake-read start end count h k = rw (not-astray d, direction-back d, vec-back start h, vec-back end k, options-back o l)
+      → requestOf true (rakeWords start end count d o) ≡ refuseIf 32 (ltb count 2) (refuseIf 33 (ltb 64 count) (refuseIf 33 (ltb 65536 (o .«max_steps»)) (Rake start end count d o)))
+  unfolding taken-apart rake rakeOf direction options rakeWords lineWords
+  rake-read start end count h k = rw (good-direction d, direction-back d, vec-back start h, vec-back end k, options-back o l)
 
 -- ---- codes 5 to 8: refusals 36 to 38 are by the arguments
 
 module _ (s : Plane) where
   -- where the plane is accepted
   abbrev pub over : Request → Request
-  over q = barring 36 (invalid s) (barring 37 (remote s) q)
+  over q = refuseIf 36 (invalid s) (refuseIf 37 (remote s) q)
 
   module _ (h : PlaneHeld s) where
     pub section-read : requestOf false (sectionWords s) ≡ over (Section s)
-    unfolding requestOf barring illFormed usedWords astray against byCode planar overPlane planeOf number point real anyOf sectionWords padded planeWords vecWords
+    unfolding taken-apart planar overPlane planeOf sectionWords planeWords
     section-read = rw (vec-back (s .origin) (h .origin), vec-back (s .u) (h .u), vec-back (s .v) (h .v))
 
-    pub statistics-read : (field : ℕ) → requestOf false (statisticsWords s field) ≡ over (barring 38 (ltb 5 field) (Statistics s field))
-    unfolding requestOf barring illFormed usedWords astray against byCode planar overPlane planeOf statistics number point real anyOf statisticsWords padded planeWords vecWords
+    pub statistics-read : (field : ℕ) → requestOf false (statisticsWords s field) ≡ over (refuseIf 38 (ltb 5 field) (Statistics s field))
+    unfolding taken-apart planar overPlane planeOf statistics statisticsWords planeWords
     statistics-read field = rw (vec-back (s .origin) (h .origin), vec-back (s .u) (h .u), vec-back (s .v) (h .v))
 
     pub integrals-read : requestOf false (integralsWords s) ≡ over (Integrals s)
-    unfolding requestOf barring illFormed usedWords astray against byCode planar overPlane planeOf number point real anyOf integralsWords padded planeWords vecWords
+    unfolding taken-apart planar overPlane planeOf integralsWords planeWords
     integrals-read = rw (vec-back (s .origin) (h .origin), vec-back (s .u) (h .u), vec-back (s .v) (h .v))
 
     pub probe-read : (p : Vec3) → F64s p → requestOf false (probeWords s p) ≡ over (Probe s p)
-    unfolding requestOf barring illFormed usedWords astray against byCode planar overPlane planeOf number point real anyOf probeWords padded planeWords vecWords
+    unfolding taken-apart planar overPlane planeOf probeWords planeWords
     probe-read p k = rw (vec-back (s .origin) (h .origin), vec-back (s .u) (h .u), vec-back (s .v) (h .v), vec-back p k)

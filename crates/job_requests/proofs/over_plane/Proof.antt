@@ -1,6 +1,6 @@
 use mathlib.Core.Path.{sym}
 use borrow.Author.Tests.{lt-ltb, le-ltb, ne-eqb}
-use Rattle.job_requests.specs.Requests.{overPlane, statistics, barring}
+use Rattle.job_requests.specs.Requests.{overPlane, statistics, refuseIf}
 use borrow.Author.Needs.{needs}
 use Rattle.job_requests.proofs.over_plane.Statement.{statement}
 use Rattle.job_requests.proofs.over_plane.Tie as tie
@@ -10,11 +10,11 @@ unfolding overPlane
 returns c = rw (c .match .keys1)
 
 returns-2 : tie.Need-returns-2
-unfolding overPlane statistics barring
+unfolding overPlane statistics refuseIf
 returns-2 c = rw (c .before .before .match .keys2, sym (c .before .number .ensures), lt-ltb _ _ (c .if1 .taken))
 
 returns-3 : tie.Need-returns-3
-unfolding overPlane statistics barring
+unfolding overPlane statistics refuseIf
 returns-3 c = rw (c .before .before .match .keys2, sym (c .before .number .ensures), le-ltb _ _ (c .if1 .left))
 
 returns-4 : tie.Need-returns-4

@@ -1,16 +1,16 @@
 use mathlib.Core.Path.{sym}
 use borrow.Author.Tests.{lt-ltb, le-ltb}
-use Rattle.job_requests.specs.Requests.{rakeOf, barring}
+use Rattle.job_requests.specs.Requests.{rakeOf, refuseIf}
 use borrow.Author.Needs.{needs}
 use Rattle.job_requests.proofs.rake_of.Statement.{statement}
 use Rattle.job_requests.proofs.rake_of.Tie as tie
 
 returns : tie.Need-returns
-unfolding rakeOf barring
+unfolding rakeOf refuseIf
 returns c = rw (sym (c .before .before .options .ensures), lt-ltb _ _ (c .if1 .taken))
 
 returns-2 : tie.Need-returns-2
-unfolding rakeOf barring
+unfolding rakeOf refuseIf
 returns-2 c = rw (sym (c .before .before .before .before .before .options .ensures), le-ltb _ _ (c .before .before .before .if1 .left), c .before .before .point .ensures, c .before .point2 .ensures, c .direction .ensures)
 
 pub rake-of-spec : {M : Type 1} → statement M

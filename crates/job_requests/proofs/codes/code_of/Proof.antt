@@ -1,0 +1,65 @@
+use native.Mathlib.Omega.{arith}
+use mathlib.Core.Path.{refl}
+use Rattle.job_requests.specs.Codes.{row, codes, codeOf}
+use Rattle.job_requests.proofs.CodeLaws.{row-is, next, row-unknown}
+use borrow.Author.Needs.{needs}
+use Rattle.job_requests.proofs.codes.code_of.Statement.{statement}
+use Rattle.job_requests.proofs.codes.code_of.Tie as tie
+
+returns : tie.Need-returns
+unfolding codeOf codes row
+returns c = row-is _ 1 (omega arith) refl (c .before .match .keys1) (c .row .ensures)
+
+returns-2 : tie.Need-returns-2
+unfolding codeOf codes row
+returns-2 c = row-is _ 2 (omega arith) refl (c .before .match .keys2) (c .row2 .ensures)
+
+returns-3 : tie.Need-returns-3
+unfolding codeOf codes row
+returns-3 c = row-is _ 3 (omega arith) refl (c .before .match .keys3) (c .row3 .ensures)
+
+returns-4 : tie.Need-returns-4
+unfolding codeOf codes row
+returns-4 c = row-is _ 4 (omega arith) refl (c .before .match .keys4) (c .row4 .ensures)
+
+returns-5 : tie.Need-returns-5
+unfolding codeOf codes row
+returns-5 c = row-is _ 5 (omega arith) refl (c .before .match .keys5) (c .row5 .ensures)
+
+returns-6 : tie.Need-returns-6
+unfolding codeOf codes row
+returns-6 c = row-is _ 6 (omega arith) refl (c .before .match .keys6) (c .row6 .ensures)
+
+returns-7 : tie.Need-returns-7
+unfolding codeOf codes row
+returns-7 c = row-is _ 7 (omega arith) refl (c .before .match .keys7) (c .row7 .ensures)
+
+returns-8 : tie.Need-returns-8
+unfolding codeOf codes row
+returns-8 c = row-is _ 8 (omega arith) refl (c .before .match .keys8) (c .row8 .ensures)
+
+returns-9 : tie.Need-returns-9
+returns-9 c = let no = c .before .match .rest in row-unknown _ (λ l. next _ 8 (next _ 7 (next _ 6 (next _ 5 (next _ 4 (next _ 3 (next _ 2 (next _ 1 l (no .0 .0 .0 .0 .0 .0 .0 .1)) (no .0 .0 .0 .0 .0 .0 .1)) (no .0 .0 .0 .0 .0 .1)) (no .0 .0 .0 .0 .1)) (no .0 .0 .0 .1)) (no .0 .0 .1)) (no .0 .1)) (no .1)) (c .row9 .ensures)
+
+pub code-of-spec : {M : Type 1} → statement M
+code-of-spec =
+    tie.close
+    (tie.spec
+    (λ c κs. search needs)
+    (λ c κs. search needs)
+    (λ c κs. search needs)
+    (λ c κs. search needs)
+    (λ c κs. search needs)
+    (λ c κs. search needs)
+    (λ c κs. search needs)
+    (λ c κs. search needs)
+    (λ c κs. search needs)
+    returns
+    returns-2
+    returns-3
+    returns-4
+    returns-5
+    returns-6
+    returns-7
+    returns-8
+    returns-9)
