@@ -1,7 +1,7 @@
 -- A request is refused with a number from 30 to 44. Assumes nothing.
 use Prim.Native.Nat.{ℕ}
 use mathlib.Core.Path.{_≡_, refl, sym, subst}
-use mathlib.Core.Bool.{Bool, true, false, cond}
+use mathlib.Core.Bool.{Bool, true, false, not, cond}
 use mathlib.Core.List.{List, [], _∷_}
 use lib.Dec.{eqb}
 use lib.Ieee.{Float}
@@ -13,6 +13,7 @@ use Rattle.reading.specs.Asks.{Asks, give, run, _>>=_}
 use Rattle.reading.proofs.AsksLaws.{run-bind}
 use Rattle.mesh_area.specs.Tables.{Mesh}
 use Rattle.planes_cut.specs.declared.Plane.{Plane}
+use Rattle.planes_cut.specs.Plane.{invalid, remote, planeRefusal}
 use Rattle.lines_locate.specs.Field.{StreamlineField}
 use Rattle.planes_sections.specs.Intersect.{PlaneCell, intersect}
 use Rattle.planes_sums.specs.declared.Sums.{Sums}
@@ -27,7 +28,7 @@ use Rattle.lines.specs.Line.{integrate}
 use Rattle.lines.specs.Rake.{integrateRake}
 use Rattle.job_requests.specs.declared.Request.{Request}
 use Rattle.job_requests.specs.declared.Request.the-variants as requests
-use Rattle.job_requests.specs.Requests.{number, refuseIf, streamline, rakeOf, rake, statistics as fieldStatistics, overPlane, planar, byCode, requestOf}
+use Rattle.job_requests.specs.Requests.{number, refuseIf, streamline, rakeOf, rake, planeOf, statistics as fieldStatistics, overPlane, planar, byCode, requestOf}
 use Rattle.job_room.specs.Room.{Room, flat, solid}
 use Rattle.job_serve.specs.Serve.{decided, serveFlat, serveSolid, serve}
 use Rattle.job_reads.proofs.Ranges.{among, Ranged, due, none, bind, barred, either, through}
@@ -56,16 +57,23 @@ good-unless : (n : ℕ) (t : Bool) {q : Request} → among 30 44 n ≡ true → 
 unfolding refuseIf
 good-unless n t h g = good-either t (refusal n h) g
 
+-- refusal 36, 37 or none
+good-plane : (a b : Bool) {q : Request} → Good q → Good (let k = cond a 36 (cond b 37 0) in refuseIf k (not (eqb k 0)) q)
+unfolding refuseIf
+good-plane true b g = refusal 36 refl
+good-plane false true g = refusal 37 refl
+good-plane false false g = g
+
 module _ (r : List ℕ) where
   good-lines : (k : ℕ) → Good (streamline r k) × Good (rake r k)
   unfolding streamline rake rakeOf
   good-lines k = (good-unless 33 _ refl line, good-unless 32 _ refl (good-unless 33 _ refl (good-unless 33 _ refl lines)))
 
   good-planes : (code : ℕ) → Good (planar r code)
-  unfolding planar overPlane fieldStatistics
+  unfolding planar planeRefusal overPlane fieldStatistics
   good-planes code =
-      good-unless 36 _ refl (good-unless 37 _ refl
-      (good-either (eqb code 5) section (good-either (eqb code 6) (good-unless 38 _ refl sums) (good-either (eqb code 7) means probe))))
+      good-plane (invalid (planeOf r)) (remote (planeOf r))
+      (good-either (eqb code 5) section (good-either (eqb code 6) (good-unless 38 _ refl sums) (good-either (eqb code 7) means probe)))
 
   good-request : (in-2D : Bool) → Good (requestOf in-2D r)
   unfolding requestOf byCode

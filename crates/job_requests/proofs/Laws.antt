@@ -13,7 +13,6 @@ use Rattle.arith.specs.Lists.{anyOf}
 use Rattle.arith.proofs.ListLaws.{any-here, any-next}
 use Rattle.arith.proofs.RecordLaws.{drop-end}
 use Rattle.case_file.proofs.ReadLaws.{length-readAll, getD-readAll}
-use Rattle.planes_cut.specs.Plane.{planeRefusal}
 use Rattle.planes_cut.specs.declared.Plane.{Plane}
 use Rattle.job_requests.specs.declared.Code.{Code}
 use Rattle.job_requests.specs.declared.Request.{Request}
@@ -59,29 +58,6 @@ module _ (bytes : List ℕ) (at : ℕ) where
   unfolding anyOf
   none-set i h left = rw (drop-end (wordsAt bytes at) i (omega (arith, length-words))) at left
 
--- ---- refusals 36 and 37
-
-refused-by : (a b : Bool) (k : ℕ) (q : Request) → k ≡ cond a 36 (cond b 37 0) → (k ≡ 0 → ⊥) → Refused k ≡ refuseIf 36 a (refuseIf 37 b q)
-unfolding refuseIf
-refused-by true b k q e h = rw e
-refused-by false true k q e h = rw e
-refused-by false false k q e h = absurd (h e)
-
-accepted-by : (a b : Bool) (k : ℕ) (q : Request) → k ≡ cond a 36 (cond b 37 0) → k ≡ 0 → q ≡ refuseIf 36 a (refuseIf 37 b q)
-unfolding refuseIf
-accepted-by true b k q e h = absurd (omega arith)
-accepted-by false true k q e h = absurd (omega arith)
-accepted-by false false k q e h = refl
-
-module _ (r : List ℕ) (code : ℕ) {s : Plane} {k : ℕ} (e : s ≡ planeOf r) (f : k ≡ planeRefusal s) where
-  pub planar-refused : (k ≡ 0 → ⊥) → Refused k ≡ planar r code
-  unfolding planar planeRefusal
-  planar-refused h = refused-by _ _ k _ (rw e at f) h
-
-  pub planar-accepted : {q : Request} → k ≡ 0 → q ≡ overPlane r code s → q ≡ planar r code
-  unfolding planar planeRefusal
-  planar-accepted z g = rw (g, e) (accepted-by _ _ k _ (rw e at f) z)
-
 -- ---- what the refusals leave
 
 allowed-unless : (n : ℕ) (bad : Bool) (r : Request) → (bad ≡ false → Allowed r) → Allowed (refuseIf n bad r)
@@ -111,7 +87,7 @@ module _ (r : List ℕ) where
 
   allowed-planar : (code : ℕ) → Allowed (planar r code)
   unfolding planar
-  allowed-planar code = allowed-unless 36 _ _ (λ a. allowed-unless 37 _ _ (λ b. allowed-over code (planeOf r)))
+  allowed-planar code = allowed-unless _ _ _ (λ a. allowed-over code (planeOf r))
 
   allowed-code : (code k : ℕ) → Allowed (byCode r code k)
   unfolding byCode Allowed

@@ -14,7 +14,7 @@ use Rattle.lines_step.specs.declared.StreamlineOptions.{StreamlineOptions}
 use Rattle.lines.specs.declared.StreamlineDirection.{StreamlineDirection}
 use Rattle.lines.specs.declared.StreamlineDirection.the-variants.{Forward, Backward}
 use Rattle.planes_cut.specs.declared.Plane.{Plane}
-use Rattle.planes_cut.specs.Plane.{invalid, remote}
+use Rattle.planes_cut.specs.Plane.{planeRefusal}
 use Rattle.job_requests.specs.declared.Code.{Code}
 use Rattle.job_requests.specs.declared.Request.{Request}
 use Rattle.job_requests.specs.declared.Request.the-variants.{Refused, Locate, Velocity, Streamline, Rake, Section, Statistics, Integrals, Probe}
@@ -104,9 +104,11 @@ statistics r s = refuseIf 38 (ltb 5 (number r 10)) (Statistics s (number r 10))
 unfoldable pub overPlane : List ℕ → ℕ → Plane → Request
 overPlane r code s = cond (eqb code 5) (Section s) (cond (eqb code 6) (statistics r s) (cond (eqb code 7) (Integrals s) (Probe s (point r 10))))
 
--- refusals 36 and 37
+-- refusals 36 and 37, by the plane: `planeRefusal` is 0 where neither is due
 unfoldable pub planar : List ℕ → ℕ → Request
-planar r code = refuseIf 36 (invalid (planeOf r)) (refuseIf 37 (remote (planeOf r)) (overPlane r code (planeOf r)))
+planar r code =
+    let k = planeRefusal (planeOf r) in
+    refuseIf k (not (eqb k 0)) (overPlane r code (planeOf r))
 
 -- ---- all eight codes
 

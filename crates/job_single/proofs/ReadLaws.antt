@@ -1,7 +1,7 @@
 -- Read back, the words of a request are the request with its arguments. Assumes nothing.
 use Prim.Native.Nat.{ℕ}
 use mathlib.Core.Path.{_≡_, refl, ap}
-use mathlib.Core.Bool.{true, false, cond}
+use mathlib.Core.Bool.{true, false, not, cond}
 use lib.Dec.{ltb, eqb}
 use lib.Ieee.{Float, binary64}
 use lib.Ieee.Bits.{ofBits-toBits}
@@ -13,7 +13,7 @@ use Rattle.lines_step.specs.declared.StreamlineOptions.{StreamlineOptions}
 use Rattle.lines.specs.declared.StreamlineDirection.{StreamlineDirection}
 use Rattle.lines.specs.declared.StreamlineDirection.the-variants.{Forward, Backward}
 use Rattle.planes_cut.specs.declared.Plane.{Plane}
-use Rattle.planes_cut.specs.Plane.{invalid, remote}
+use Rattle.planes_cut.specs.Plane.{planeRefusal}
 use Rattle.answers.specs.Words.{vecWords}
 use Rattle.job_requests.specs.Requests.{number, real, point, refuseIf, unusedSet, badDirection, illFormed, wrongDimension, direction, options, streamline, rakeOf, rake, planeOf, statistics, overPlane, planar, byCode, requestOf}
 use Rattle.job_requests.specs.Codes.{row, unknown, codes, codeOf, isUnknown}
@@ -76,7 +76,7 @@ module _ (d : StreamlineDirection) (o : StreamlineOptions) (l : OptionsHeld o) w
 module _ (s : Plane) where
   -- where the plane is accepted
   abbrev pub over : Request → Request
-  over q = refuseIf 36 (invalid s) (refuseIf 37 (remote s) q)
+  over q = refuseIf (planeRefusal s) (not (eqb (planeRefusal s) 0)) q
 
   module _ (h : PlaneHeld s) where
     pub section-read : requestOf false (sectionWords s) ≡ over (Section s)
