@@ -13,7 +13,7 @@ use Rattle.reading.specs.Asks.{Asks, give, run, _>>=_}
 use Rattle.reading.proofs.AsksLaws.{run-bind}
 use Rattle.mesh_area.specs.Tables.{Mesh}
 use Rattle.planes_cut.specs.declared.Plane.{Plane}
-use Rattle.planes_cut.specs.Plane.{invalid, remote, planeRefusal}
+use Rattle.planes_cut.specs.Plane.{invalid, originBeyond, planeRefusal}
 use Rattle.lines_locate.specs.Field.{StreamlineField}
 use Rattle.planes_sections.specs.Intersect.{PlaneCell, intersect}
 use Rattle.planes_sums.specs.declared.Sums.{Sums}
@@ -72,7 +72,7 @@ module _ (r : List ℕ) where
   good-planes : (code : ℕ) → Good (planar r code)
   unfolding planar planeRefusal overPlane fieldStatistics
   good-planes code =
-      good-plane (invalid (planeOf r)) (remote (planeOf r))
+      good-plane (invalid (planeOf r)) (originBeyond (planeOf r))
       (good-either (eqb code 5) section (good-either (eqb code 6) (good-unless 38 _ refl sums) (good-either (eqb code 7) means probe)))
 
   good-request : (in-2D : Bool) → Good (requestOf in-2D r)

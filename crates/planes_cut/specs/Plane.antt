@@ -17,20 +17,20 @@ unfoldable pub notUnit : Vec3 → Bool
 notUnit a = 1e-7 ≺ abs (norm a ⊖ 1·0)
 
 -- not at a right angle, within 1e-7
-unfoldable pub askew : Vec3 → Vec3 → Bool
-askew u v = 1e-7 ≺ abs (dot u v)
+unfoldable pub notOrthogonal : Vec3 → Vec3 → Bool
+notOrthogonal u v = 1e-7 ≺ abs (dot u v)
 
 -- "an origin or axes that `FlowPlaneMonitor::validate` refuses"
 unfoldable pub invalid : Plane → Bool
-invalid s = not (finiteAxes s) || (notUnit (s .u) || (notUnit (s .v) || askew (s .u) (s .v)))
+invalid s = not (finiteAxes s) || (notUnit (s .u) || (notUnit (s .v) || notOrthogonal (s .u) (s .v)))
 
 -- "an origin coordinate beyond 1,048,576 in size"
-unfoldable pub remote : Plane → Bool
-remote s = not (each3 within (s .origin))
+unfoldable pub originBeyond : Plane → Bool
+originBeyond s = not (each3 within (s .origin))
 
 -- refusal 36 or 37, or 0
 unfoldable pub planeRefusal : Plane → ℕ
-planeRefusal s = cond (invalid s) 36 (cond (remote s) 37 0)
+planeRefusal s = cond (invalid s) 36 (cond (originBeyond s) 37 0)
 
 -- `normal`
 unfoldable pub normalOf : Plane → Vec3

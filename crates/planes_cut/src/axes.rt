@@ -37,8 +37,8 @@ fn not_unit(a: Vec3) -> bool
 }
 
 // Not at a right angle, within 1e-7.
-fn askew(u: Vec3, v: Vec3) -> bool
-    ensures { λ r. ⌜ r ≡ Axes.askew u v ⌝ }
+fn not_orthogonal(u: Vec3, v: Vec3) -> bool
+    ensures { λ r. ⌜ r ≡ Axes.notOrthogonal u v ⌝ }
 {
     float::abs(u.dot(v)) > 1e-7
 }
@@ -53,7 +53,7 @@ fn invalid(plane: Plane) -> bool
         } else if not_unit(plane.v) {
             true
         } else {
-            askew(plane.u, plane.v)
+            not_orthogonal(plane.u, plane.v)
         }
     } else {
         true

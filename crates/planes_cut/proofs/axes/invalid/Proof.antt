@@ -14,7 +14,7 @@ returns-2 c = rw (sym (c .before .before .before .before .before .finite-axes .e
 
 returns-3 : tie.Need-returns-3
 unfolding invalid
-returns-3 c = rw (sym (c .before .before .before .before .before .before .finite-axes .ensures) ∙ c .before .before .before .before .before .if1 .taken, sym (c .before .before .before .before .not-unit .ensures) ∙ c .before .before .before .if2 .left, sym (c .before .before .not-unit2 .ensures) ∙ c .before .if3 .left) (c .askew .ensures)
+returns-3 c = rw (sym (c .before .before .before .before .before .before .finite-axes .ensures) ∙ c .before .before .before .before .before .if1 .taken, sym (c .before .before .before .before .not-unit .ensures) ∙ c .before .before .before .if2 .left, sym (c .before .before .not-unit2 .ensures) ∙ c .before .if3 .left) (c .not-orthogonal .ensures)
 
 returns-4 : tie.Need-returns-4
 unfolding invalid
