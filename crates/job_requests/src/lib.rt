@@ -1,5 +1,5 @@
 // A request: 16 words of 8 bytes, taken apart. Refusals 30 to 33 and 36 to 38.
-pub mod codes;
+mod codes;
 pub mod encode;
 
 use arith::Vec3;
