@@ -39,10 +39,13 @@ use Rattle.mesh_cells.specs.Cells.{Draft, Drafts, addFaceOf, addCell, dr
 use Rattle.mesh_cells.specs.Drafting as Drafting
 use Rattle.mesh_cells.specs.Drafting.{cellWord, draftIn, draftsIn, Lists, Adding}
 use Rattle.mesh_cells.specs.Steps as Steps
-use Rattle.mesh_cells.specs.Steps.{growingIn, addFaces, Listed, FacesReady, FacesAdding, CellPut, CellReady, CellStored, CellFilling, Filled, read, definedIn, Addable, CellTurn, CellAdding}
+use Rattle.mesh_cells.specs.Steps.{growingIn, addFaces, Listed, FacesReady, FacesAdding, CellPut, CellReady, CellStored, CellFilling, CellFinding, Filled, read, definedIn, Addable, CellTurn, CellAdding}
 use Rattle.mesh_cells.specs.declared.Drafted.{Drafted}
 use Rattle.mesh_cells.specs.declared.Drafted.the-variants as Drafted
 use Rattle.mesh_cells.specs.declared.Progress.{Progress}
+use Rattle.mesh_cells.specs.declared.NewCell.{NewCell}
+use Rattle.mesh_cells.specs.declared.CellFound.{CellFound}
+use Rattle.mesh_cells.specs.declared.CellFound.the-variants as CellFound
 use Rattle.mesh_cells.specs.declared.CellAdded.{CellAdded}
 use Rattle.mesh_cells.specs.declared.CellAdded.the-variants as CellAdded
 use Rattle.mesh_cells.proofs.FaceLaws.{kept-at, lent-sized, lent-floats-sized}
@@ -54,21 +57,21 @@ front-puts : {A : Type 0} (l l′ : List A) (b at : ℕ) (vs : List A) → l′ 
 front-puts l l′ b at vs e h =
     sym (take-take b at l′ h) ∙ ap (take b) (ap (take at) e ∙ take-puts l at vs) ∙ take-take b at l h
 
-module _ (ws : List ℕ) (s : Sizes) (words : List ℕ) (floats : List Float) (h : Head) (i first : ℕ) (rd : CellReady ws s words floats h i first)
-    (words₁ : List ℕ) (floats₁ : List Float) (at f k : ℕ) (reference : Vec3) (put : CellPut s words words₁ floats floats₁ i at f k reference) where
+module _ (ws : List ℕ) (s : Sizes) (words : List ℕ) (floats : List Float) (cell : NewCell) (rd : CellReady ws s words floats cell)
+    (words₁ : List ℕ) (floats₁ : List Float) (at f k : ℕ) (put : CellPut s words words₁ floats floats₁ (cell .number) at f k (cell .reference)) where
   long-words : length words₁ ≡ length words
-  long-words = ap length (put .words-put) ∙ length-puts words (16 * s .slots + 8 * i) (at ∷ f ∷ k ∷ 0 ∷ [])
+  long-words = ap length (put .words-put) ∙ length-puts words (16 * s .slots + 8 * cell .number) (at ∷ f ∷ k ∷ 0 ∷ [])
 
   long-floats : length floats₁ ≡ length floats
-  long-floats = ap length (put .floats-put) ∙ length-puts floats (12 * s .slots + 4 * i) (reference .x ∷ reference .y ∷ reference .z ∷ [])
+  long-floats = ap length (put .floats-put) ∙ length-puts floats (12 * s .slots + 4 * cell .number) (cell .reference .x ∷ cell .reference .y ∷ cell .reference .z ∷ [])
 
   front-words : take (13 * s .slots) words₁ ≡ take (13 * s .slots) words
-  front-words = front-puts words words₁ (13 * s .slots) (16 * s .slots + 8 * i) (at ∷ f ∷ k ∷ 0 ∷ []) (put .words-put) (omega arith)
+  front-words = front-puts words words₁ (13 * s .slots) (16 * s .slots + 8 * cell .number) (at ∷ f ∷ k ∷ 0 ∷ []) (put .words-put) (omega arith)
 
   front-floats : take (12 * s .slots) floats₁ ≡ take (12 * s .slots) floats
-  front-floats = front-puts floats floats₁ (12 * s .slots) (12 * s .slots + 4 * i) (reference .x ∷ reference .y ∷ reference .z ∷ []) (put .floats-put) (omega arith)
+  front-floats = front-puts floats floats₁ (12 * s .slots) (12 * s .slots + 4 * cell .number) (cell .reference .x ∷ cell .reference .y ∷ cell .reference .z ∷ []) (put .floats-put) (omega arith)
 
-  pub cell-faces : FacesReady ws s words₁ floats₁ h i first
+  pub cell-faces : FacesReady ws s words₁ floats₁ cell
   cell-faces =
       record {
         headed = rd .headed;
@@ -77,29 +80,29 @@ module _ (ws : List ℕ) (s : Sizes) (words : List ℕ) (floats : List Float) (h
         chained = chained-kept s words words₁ (rd .lent-words) long-words (rd .chained) front-words;
         behind = rd .behind;
         room = rd .room;
-        cells-few = omega (arith, rd .cell, rd .lent-words .few-cells);
+        cells-few = omega (arith, rd .below, rd .lent-words .few-cells);
       }
 
-  word-put : (j : ℕ) → j < 4 → getD words₁ (16 * s .slots + 8 * i + j) 0 ≡ getD (at ∷ f ∷ k ∷ 0 ∷ []) j 0
+  word-put : (j : ℕ) → j < 4 → getD words₁ (16 * s .slots + 8 * cell .number + j) 0 ≡ getD (at ∷ f ∷ k ∷ 0 ∷ []) j 0
   word-put j b =
-      ap (λ (l : List ℕ). getD l (16 * s .slots + 8 * i + j) 0) (put .words-put)
-      ∙ getD-puts-at words (16 * s .slots + 8 * i) (at ∷ f ∷ k ∷ 0 ∷ []) j 0 b (omega (arith, rd .lent-words .long, rd .cell))
+      ap (λ (l : List ℕ). getD l (16 * s .slots + 8 * cell .number + j) 0) (put .words-put)
+      ∙ getD-puts-at words (16 * s .slots + 8 * cell .number) (at ∷ f ∷ k ∷ 0 ∷ []) j 0 b (omega (arith, rd .lent-words .long, rd .below))
 
-  word-before : (j : ℕ) → j < 16 * s .slots + 8 * i → getD words₁ j 0 ≡ getD words j 0
+  word-before : (j : ℕ) → j < 16 * s .slots + 8 * cell .number → getD words₁ j 0 ≡ getD words j 0
   word-before j b =
-      ap (λ (l : List ℕ). getD l j 0) (put .words-put) ∙ getD-puts-out words (16 * s .slots + 8 * i) (at ∷ f ∷ k ∷ 0 ∷ []) j 0 (inl b)
+      ap (λ (l : List ℕ). getD l j 0) (put .words-put) ∙ getD-puts-out words (16 * s .slots + 8 * cell .number) (at ∷ f ∷ k ∷ 0 ∷ []) j 0 (inl b)
 
-  float-put : (j : ℕ) → j < 3 → getD floats₁ (12 * s .slots + 4 * i + j) nan ≡ getD (reference .x ∷ reference .y ∷ reference .z ∷ []) j nan
+  float-put : (j : ℕ) → j < 3 → getD floats₁ (12 * s .slots + 4 * cell .number + j) nan ≡ getD (cell .reference .x ∷ cell .reference .y ∷ cell .reference .z ∷ []) j nan
   float-put j b =
-      ap (λ (l : List Float). getD l (12 * s .slots + 4 * i + j) nan) (put .floats-put)
-      ∙ getD-puts-at floats (12 * s .slots + 4 * i) (reference .x ∷ reference .y ∷ reference .z ∷ []) j nan b (omega (arith, rd .lent-floats .long, rd .cell))
+      ap (λ (l : List Float). getD l (12 * s .slots + 4 * cell .number + j) nan) (put .floats-put)
+      ∙ getD-puts-at floats (12 * s .slots + 4 * cell .number) (cell .reference .x ∷ cell .reference .y ∷ cell .reference .z ∷ []) j nan b (omega (arith, rd .lent-floats .long, rd .below))
 
-  float-before : (j : ℕ) → j < 12 * s .slots + 4 * i → getD floats₁ j nan ≡ getD floats j nan
+  float-before : (j : ℕ) → j < 12 * s .slots + 4 * cell .number → getD floats₁ j nan ≡ getD floats j nan
   float-before j b =
       ap (λ (l : List Float). getD l j nan) (put .floats-put)
-      ∙ getD-puts-out floats (12 * s .slots + 4 * i) (reference .x ∷ reference .y ∷ reference .z ∷ []) j nan (inl b)
+      ∙ getD-puts-out floats (12 * s .slots + 4 * cell .number) (cell .reference .x ∷ cell .reference .y ∷ cell .reference .z ∷ []) j nan (inl b)
 
-  module _ (words′ : List ℕ) (floats′ : List Float) (n : ℕ) (l : Listed s words₁ words′ floats₁ floats′ first (h .faces) n) (ea : at ≡ h .at) (ef : f ≡ first) (ek : k ≡ h .faces) where
+  module _ (words′ : List ℕ) (floats′ : List Float) (n : ℕ) (l : Listed s words₁ words′ floats₁ floats′ (cell .first) (cell .head .faces) n) (ea : at ≡ cell .head .at) (ef : f ≡ cell .first) (ek : k ≡ cell .head .faces) where
     high : (j : ℕ) → 16 * s .slots ≤ j → getD words′ j 0 ≡ getD words₁ j 0
     high j b =
         let e : 13 * s .slots + (j - 13 * s .slots) ≡ j = omega arith in
@@ -110,13 +113,13 @@ module _ (ws : List ℕ) (s : Sizes) (words : List ℕ) (floats : List Float) (h
         let e : 12 * s .slots + (j - 12 * s .slots) ≡ j = omega arith in
         rw e at (kept-at floats₁ floats′ (12 * s .slots) (j - 12 * s .slots) nan (l .floats-kept))
 
-    stored-word : (j : ℕ) → j < 4 → cellWord s words′ i j ≡ getD (at ∷ f ∷ k ∷ 0 ∷ []) j 0
-    stored-word j b = high (16 * s .slots + 8 * i + j) (omega arith) ∙ word-put j b
+    stored-word : (j : ℕ) → j < 4 → cellWord s words′ (cell .number) j ≡ getD (at ∷ f ∷ k ∷ 0 ∷ []) j 0
+    stored-word j b = high (16 * s .slots + 8 * cell .number + j) (omega arith) ∙ word-put j b
 
-    stored : CellStored s words words′ floats floats′ h i first n reference
+    stored : CellStored s words words′ floats floats′ cell n
     unfolding vecFrom
     stored =
-        let zero-first : 12 * s .slots + 4 * i + 0 ≡ 12 * s .slots + 4 * i = omega arith in
+        let zero-first : 12 * s .slots + 4 * cell .number + 0 ≡ 12 * s .slots + 4 * cell .number = omega arith in
         record {
           chained = l .chained;
           behind = l .behind;
@@ -125,7 +128,7 @@ module _ (ws : List ℕ) (s : Sizes) (words : List ℕ) (floats : List Float) (h
           count = stored-word 2 (omega arith) ∙ ek;
           alone = stored-word 3 (omega arith);
           averaged =
-              rw (float-high (12 * s .slots + 4 * i) (omega arith), float-high (12 * s .slots + 4 * i + 1) (omega arith), float-high (12 * s .slots + 4 * i + 2) (omega arith))
+              rw (float-high (12 * s .slots + 4 * cell .number) (omega arith), float-high (12 * s .slots + 4 * cell .number + 1) (omega arith), float-high (12 * s .slots + 4 * cell .number + 2) (omega arith))
               (rw (rw zero-first at (float-put 0 (omega arith)), float-put 1 (omega arith), float-put 2 (omega arith)));
           lists-kept = λ j b. l .before j b ∙ word-before (13 * s .slots + j) (omega (arith, rd .room));
           cells-kept = λ j m b c. high (16 * s .slots + 8 * j + m) (omega arith) ∙ word-before (16 * s .slots + 8 * j + m) (omega arith);
@@ -134,8 +137,8 @@ module _ (ws : List ℕ) (s : Sizes) (words : List ℕ) (floats : List Float) (h
               (rw (float-before (12 * s .slots + 4 * j) (omega arith), float-before (12 * s .slots + 4 * j + 1) (omega arith), float-before (12 * s .slots + 4 * j + 2) (omega arith)));
         }
 
-  pub cell-filled : (d : ℕ) (ps : List Vec3) (words′ : List ℕ) (floats′ : List Float) (r : Drafted) → at ≡ h .at → f ≡ first → k ≡ h .faces
-      → FacesAdding d ps ws i reference s words₁ words′ floats₁ floats′ h first r → CellFilling d ps ws reference s words words′ floats floats′ h i first r
+  pub cell-filled : (d : ℕ) (ps : List Vec3) (words′ : List ℕ) (floats′ : List Float) (r : Drafted) → at ≡ cell .head .at → f ≡ cell .first → k ≡ cell .head .faces
+      → FacesAdding d ps ws cell s words₁ words′ floats₁ floats′ r → CellFilling d ps ws cell s words words′ floats floats′ r
   cell-filled d ps words′ floats′ r ea ef ek (Steps.FacesAdding.added n e l) =
       let same = faces-kept s words words₁ (rd .lent-words) long-words (rd .chained) front-words floats floats₁ front-floats in
       Steps.CellFilling.filled n (rw same at e) (stored words′ floats′ n l ea ef ek)
@@ -153,12 +156,12 @@ lists-below ws s words n end l (suc left) j e =
     let v = l .next j (omega arith) in
     omega arith
 
-module _ (ws : List ℕ) (s : Sizes) (words words′ : List ℕ) (floats floats′ : List Float) (h : Head) (i first n m : ℕ) (reference : Vec3)
-    (l : Lists ws s words i first) (c : CellStored (sized s m) words words′ floats floats′ h i first n reference) where
-  draft-kept : (j : ℕ) → j < i → draftIn ws s words′ floats′ j ≡ draftIn ws s words floats j
+module _ (ws : List ℕ) (s : Sizes) (words words′ : List ℕ) (floats floats′ : List Float) (cell : NewCell) (n m : ℕ)
+    (l : Lists ws s words (cell .number) (cell .first)) (c : CellStored (sized s m) words words′ floats floats′ cell n) where
+  draft-kept : (j : ℕ) → j < cell .number → draftIn ws s words′ floats′ j ≡ draftIn ws s words floats j
   unfolding draftIn listAt
   draft-kept j b =
-      let below = lists-below ws s words i first l (i - (j + 1)) j (omega arith) in
+      let below = lists-below ws s words (cell .number) (cell .first) l (cell .number - (j + 1)) j (omega arith) in
       let list : tab (λ k. getD words′ (13 * s .slots + cellWord s words j 1 + k) 0) (cellWord s words j 2) ≡ tab (λ k. getD words (13 * s .slots + cellWord s words j 1 + k) 0) (cellWord s words j 2) =
       tab-same _ _ (cellWord s words j 2)
       (λ k w.
@@ -167,57 +170,57 @@ module _ (ws : List ℕ) (s : Sizes) (words words′ : List ℕ) (floats floats�
       in
       rw (c .cells-kept j 0 b (omega arith), c .cells-kept j 1 b (omega arith), c .cells-kept j 2 b (omega arith), c .floats-kept j b, list)
 
-  drafts-next : draftsIn ws s words′ floats′ (i + 1)
-      ≡ draftsIn ws s words floats i ++ record { definition = definitionAt ws (h .at); faces = listAt words′ (13 * s .slots + first) (h .faces); reference = reference } ∷ []
+  drafts-next : draftsIn ws s words′ floats′ (cell .number + 1)
+      ≡ draftsIn ws s words floats (cell .number) ++ record { definition = definitionAt ws (cell .head .at); faces = listAt words′ (13 * s .slots + cell .first) (cell .head .faces); reference = cell .reference } ∷ []
   unfolding draftsIn draftIn definitionAt
   drafts-next =
-      tab-next _ i
-      ∙ ap₂ (λ (a : List Draft) (b : Draft). a ++ b ∷ []) (tab-same _ _ i draft-kept) (rw (c .position, c .start, c .count, c .averaged))
+      tab-next _ (cell .number)
+      ∙ ap₂ (λ (a : List Draft) (b : Draft). a ++ b ∷ []) (tab-same _ _ (cell .number) draft-kept) (rw (c .position, c .start, c .count, c .averaged))
 
   -- cell j is the new one or one before it
-  module _ (few : h .faces ≤ 24) (all : h .faces ≡ length (facesOf (definitionAt ws (h .at)))) where
-    first-list : Dec (i ≡ 0) → cellWord s words′ 0 1 ≡ 0
+  module _ (few : cell .head .faces ≤ 24) (all : cell .head .faces ≡ length (facesOf (definitionAt ws (cell .head .at)))) where
+    first-list : Dec (cell .number ≡ 0) → cellWord s words′ 0 1 ≡ 0
     first-list (yes e) = rw e at (c .start) ∙ l .none e
     first-list (no ne) = c .cells-kept 0 1 (omega arith) (omega arith) ∙ l .first (omega arith)
 
-    next-list : (j : ℕ) → j + 1 < i + 1 → Dec (j + 1 ≡ i) → cellWord s words′ (j + 1) 1 ≡ cellWord s words′ j 1 + cellWord s words′ j 2
+    next-list : (j : ℕ) → j + 1 < cell .number + 1 → Dec (j + 1 ≡ cell .number) → cellWord s words′ (j + 1) 1 ≡ cellWord s words′ j 1 + cellWord s words′ j 2
     next-list j b (yes e) =
         let q = c .start in
-        let q′ : cellWord s words′ (j + 1) 1 ≡ first = rw e q in
+        let q′ : cellWord s words′ (j + 1) 1 ≡ cell .first = rw e q in
         q′ ∙ l .last j e ∙ ap₂ (λ (a b : ℕ). a + b) (sym (c .cells-kept j 1 (omega arith) (omega arith))) (sym (c .cells-kept j 2 (omega arith) (omega arith)))
     next-list j b (no ne) =
         c .cells-kept (j + 1) 1 (omega arith) (omega arith)
         ∙ l .next j (omega arith)
         ∙ ap₂ (λ (a b : ℕ). a + b) (sym (c .cells-kept j 1 (omega arith) (omega arith))) (sym (c .cells-kept j 2 (omega arith) (omega arith)))
 
-    last-list : (j : ℕ) → j + 1 ≡ i + 1 → first + h .faces ≡ cellWord s words′ j 1 + cellWord s words′ j 2
-    last-list j e = let q : j ≡ i = omega arith in rw (q, c .start, c .count)
+    last-list : (j : ℕ) → j + 1 ≡ cell .number + 1 → cell .first + cell .head .faces ≡ cellWord s words′ j 1 + cellWord s words′ j 2
+    last-list j e = let q : j ≡ cell .number = omega arith in rw (q, c .start, c .count)
 
-    few-in : (j : ℕ) → j < i + 1 → Dec (j ≡ i) → cellWord s words′ j 2 ≤ 24
+    few-in : (j : ℕ) → j < cell .number + 1 → Dec (j ≡ cell .number) → cellWord s words′ j 2 ≤ 24
     few-in j b (yes e) = rw (e, c .count) few
     few-in j b (no ne) = rw (c .cells-kept j 2 (omega arith) (omega arith)) (l .few j (omega arith))
 
-    counts-in : (j : ℕ) → j < i + 1 → Dec (j ≡ i) → cellWord s words′ j 2 ≡ length (facesOf (readOf (definition (drop (cellWord s words′ j 0) ws))))
+    counts-in : (j : ℕ) → j < cell .number + 1 → Dec (j ≡ cell .number) → cellWord s words′ j 2 ≡ length (facesOf (readOf (definition (drop (cellWord s words′ j 0) ws))))
     unfolding definitionAt draftIn
     counts-in j b (yes e) = rw (e, c .count, c .position) all
     counts-in j b (no ne) =
         rw (c .cells-kept j 2 (omega arith) (omega arith), c .cells-kept j 0 (omega arith) (omega arith)) (l .counts j (omega arith))
 
-    lonely-in : (j : ℕ) → j < i + 1 → Dec (j ≡ i) → cellWord s words′ j 3 ≡ 0
+    lonely-in : (j : ℕ) → j < cell .number + 1 → Dec (j ≡ cell .number) → cellWord s words′ j 3 ≡ 0
     lonely-in j b (yes e) = rw e (c .alone)
     lonely-in j b (no ne) = c .cells-kept j 3 (omega arith) (omega arith) ∙ l .lonely j (omega arith)
 
-    lists-next : Lists ws s words′ (i + 1) (first + h .faces)
+    lists-next : Lists ws s words′ (cell .number + 1) (cell .first + cell .head .faces)
     unfolding draftIn
     lists-next =
         record {
-          first = λ b. first-list (ℕ-discrete i 0);
-          next = λ j b. next-list j b (ℕ-discrete (j + 1) i);
+          first = λ b. first-list (ℕ-discrete (cell .number) 0);
+          next = λ j b. next-list j b (ℕ-discrete (j + 1) (cell .number));
           last = last-list;
           none = λ e. absurd (omega arith);
-          few = λ j b. few-in j b (ℕ-discrete j i);
-          counts = λ j b. counts-in j b (ℕ-discrete j i);
-          lonely = λ j b. lonely-in j b (ℕ-discrete j i);
+          few = λ j b. few-in j b (ℕ-discrete j (cell .number));
+          counts = λ j b. counts-in j b (ℕ-discrete j (cell .number));
+          lonely = λ j b. lonely-in j b (ℕ-discrete j (cell .number));
         }
 
 -- ---- `add_cell`
@@ -247,6 +250,19 @@ pub defined : (case : List ℕ) (points : ℕ) (ws words : List ℕ) (floats : L
 unfolding read
 defined case points ws words floats s a = a .right ∙ ap fine (sym (ap read (a .right)))
 
+module _ (d : ℕ) (ps : List Vec3) (ws : List ℕ) (i : ℕ) (p : Progress) where
+  pub found-wrong : (k : ℕ) → Wrong k ≡ stepAt ws (p .at) → CellFinding d ps ws i p (CellFound.Refused k)
+  found-wrong k e = Steps.CellFinding.wrong k e
+
+  module _ (h : Head) (c : Cursor) (e : Record h c ≡ stepAt ws (p .at)) (r : Reference) (er : referenceCase r ≡ checked d ps (definitionAt ws (h .at))) where
+    pub found-refused : (k : ℕ) → r ≡ Reference.Refused k → CellFinding d ps ws i p (CellFound.Refused k)
+    unfolding referenceCase
+    found-refused k q = Steps.CellFinding.refusing h c k e (sym er ∙ ap referenceCase q)
+
+    pub found-cell : (v : Vec3) → r ≡ Reference.Point v → CellFinding d ps ws i p (CellFound.Cell (record { number = i; reference = v; head = h; first = p .first }) c)
+    unfolding referenceCase
+    found-cell v q = Steps.CellFinding.cell h c v e (sym er ∙ ap referenceCase q)
+
 module _ (d : ℕ) (ps : List Vec3) (case : List ℕ) (points : ℕ) (ws words : List ℕ) (floats : List Float) (s : Sizes) (i : ℕ) (p : Progress)
     (t : CellTurn d ps case points ws words floats s i p) where
   abbrev defs : List Definition
@@ -258,8 +274,8 @@ module _ (d : ℕ) (ps : List Vec3) (case : List ℕ) (points : ℕ) (ws words :
   there : i < length (definedIn s ws)
   there = omega (arith, many, t .cell)
 
-  pub cell-wrong : (k : ℕ) → Wrong k ≡ stepAt ws (p .at) → CellAdding d ps ws s words floats i (CellAdded.Refused k)
-  cell-wrong k e = absurd (never-wrong ws (s .cells) i (p .at) (definedIn s ws) (t .cell) many (t .filled .left) k e)
+  never : (k : ℕ) → Wrong k ≡ stepAt ws (p .at) → ⊥
+  never k e = never-wrong ws (s .cells) i (p .at) (definedIn s ws) (t .cell) many (t .filled .left) k e
 
   module _ (h : Head) (c : Cursor) (e : Record h c ≡ stepAt ws (p .at)) where
     abbrev def : Definition
@@ -286,21 +302,6 @@ module _ (d : ℕ) (ps : List Vec3) (case : List ℕ) (points : ℕ) (ws words :
     room : p .first + h .faces ≤ s .slots
     room = let w = counted-least (p .first + h .faces) (drop (i + 1) (definedIn s ws)) in omega (arith, counted)
 
-    pub cell-ready : CellReady ws (sized s (p .faces)) words floats h i (p .first)
-    cell-ready =
-        let many : p .faces ≤ s .slots = omega (arith, t .filled .behind, room) in
-        let step = steps-to ws (p .at) h c e in
-        record {
-          headed = headed ws (p .at) h c e;
-          lent-words = lent-sized s words words (p .faces) (t .addable .lent-words) refl many;
-          lent-floats = lent-floats-sized s floats floats (p .faces) (t .addable .lent-floats) refl many;
-          chained = t .filled .chained;
-          behind = t .filled .behind;
-          room = room;
-          cell = t .cell;
-          position = omega (arith, position, step .past, step .within, t .addable .words-few);
-        }
-
     -- the cells so far
     abbrev drafted : Drafts
     drafted = record { faces = facesIn (sized s (p .faces)) words floats; cells = draftsIn ws s words floats i }
@@ -312,55 +313,95 @@ module _ (d : ℕ) (ps : List Vec3) (case : List ℕ) (points : ℕ) (ws words :
     refusing : (k : ℕ) → addCell d ps drafted (getD (definedIn s ws) i (polygon [])) ≡ refused k → drafts d ps (definedIn s ws) ≡ refused k
     refusing k q = sym (t .filled .rest) ∙ steps-refused (definedIn s ws) i (polygon []) there (addCell d ps) drafted k q
 
-    module _ (r : Reference) (er : referenceCase r ≡ checked d ps (definitionAt ws (h .at))) where
-      pub cell-refused : (k : ℕ) (words′ : List ℕ) (floats′ : List Float) → r ≡ Reference.Refused k → CellAdding d ps ws s words′ floats′ i (CellAdded.Refused k)
-      unfolding referenceCase _>>=_
-      cell-refused k words′ floats′ q =
-          let x : checked d ps (definitionAt ws (h .at)) ≡ refused k = sym er ∙ ap referenceCase q in
-          Steps.CellAdding.refusing k (refusing k (rw (same-def, cell-checked, x)))
+    not-checked : (k : ℕ) → checked d ps (definitionAt ws (h .at)) ≡ refused k → drafts d ps (definedIn s ws) ≡ refused k
+    unfolding _>>=_
+    not-checked k x = refusing k (rw (same-def, cell-checked, x))
 
-      module _ (v : Vec3) (ev : r ≡ Reference.Point v) (words′ : List ℕ) (floats′ : List Float) where
-        with-faces : addCell d ps drafted (getD (definedIn s ws) i (polygon []))
-            ≡ (addFaces d ps ws i v (facesIn (sized s (p .faces)) words floats) h >>= λ g.
-            fine (record { faces = g .faces; cells = draftsIn ws s words floats i ++ record { definition = definitionAt ws (h .at); faces = g .own; reference = v } ∷ [] }))
-        unfolding referenceCase _>>=_
-        with-faces =
-            let x : checked d ps (definitionAt ws (h .at)) ≡ fine v = sym er ∙ ap referenceCase ev in
-            rw (same-def, cell-checked, x, so-many)
+    module _ (v : Vec3) (x : checked d ps (definitionAt ws (h .at)) ≡ fine v) where
+      abbrev new : NewCell
+      new = record { number = i; reference = v; head = h; first = p .first }
 
-        pub cell-not-filled : (x : Drafted) (k : ℕ) → CellFilling d ps ws v (sized s (p .faces)) words words′ floats floats′ h i (p .first) x → x ≡ Drafted.Refused k
+      ready : CellReady ws (sized s (p .faces)) words floats new
+      ready =
+          let many : p .faces ≤ s .slots = omega (arith, t .filled .behind, room) in
+          let step = steps-to ws (p .at) h c e in
+          record {
+            headed = headed ws (p .at) h c e;
+            lent-words = lent-sized s words words (p .faces) (t .addable .lent-words) refl many;
+            lent-floats = lent-floats-sized s floats floats (p .faces) (t .addable .lent-floats) refl many;
+            chained = t .filled .chained;
+            behind = t .filled .behind;
+            room = room;
+            below = t .cell;
+            position = omega (arith, position, step .past, step .within, t .addable .words-few);
+          }
+
+      with-faces : addCell d ps drafted (getD (definedIn s ws) i (polygon []))
+          ≡ (addFaces d ps ws new (facesIn (sized s (p .faces)) words floats) >>= λ g.
+          fine (record { faces = g .faces; cells = draftsIn ws s words floats i ++ record { definition = definitionAt ws (h .at); faces = g .own; reference = v } ∷ [] }))
+      unfolding _>>=_
+      with-faces = rw (same-def, cell-checked, x, so-many)
+
+      module _ (words′ : List ℕ) (floats′ : List Float) where
+        not-filled : (a : Drafted) (k : ℕ) → CellFilling d ps ws new (sized s (p .faces)) words words′ floats floats′ a → a ≡ Drafted.Refused k
             → CellAdding d ps ws s words′ floats′ i (CellAdded.Refused k)
         unfolding _>>=_
-        cell-not-filled x k (Steps.CellFilling.filled n q st) ex = absurd (let z : _≡_ {A = ℕ} 0 1 = cc in omega arith)
-        cell-not-filled x k (Steps.CellFilling.refusing j q) ex =
-            let z : j ≡ k = cc in
-            Steps.CellAdding.refusing k (refusing k (with-faces ∙ rw (q, z)))
+        not-filled a k (Steps.CellFilling.filled n q st) ea = absurd (let z : _≡_ {A = ℕ} 0 1 = cc in omega arith)
+        not-filled a k (Steps.CellFilling.refusing j q) ea = let z : j ≡ k = cc in Steps.CellAdding.refusing k (refusing k (with-faces ∙ rw (q, z)))
 
-        filled-next : (n : ℕ) → addFaces d ps ws i v (facesIn (sized s (p .faces)) words floats) h ≡ fine (growingIn (sized s n) words′ floats′ (p .first) (h .faces))
-            → CellStored (sized s (p .faces)) words words′ floats floats′ h i (p .first) n v
+        filled-next : (n : ℕ) → addFaces d ps ws new (facesIn (sized s (p .faces)) words floats) ≡ fine (growingIn (sized s n) words′ floats′ (p .first) (h .faces))
+            → CellStored (sized s (p .faces)) words words′ floats floats′ new n
             → Filled d ps ws (definedIn s ws) s words′ floats′ (i + 1) (record { at = c .at; first = p .first + h .faces; faces = n })
         unfolding _>>=_
         filled-next n q st =
             let f = head-faces ws h (headed ws (p .at) h c e) in
-            let more = drafts-next ws s words words′ floats floats′ h i (p .first) n (p .faces) v (t .filled .lists) st in
+            let more = drafts-next ws s words words′ floats floats′ new n (p .faces) (t .filled .lists) st in
             record {
               chained = st .chained;
               behind = st .behind;
               counted = counted;
               left = cell .rest;
-              lists = lists-next ws s words words′ floats floats′ h i (p .first) n (p .faces) v (t .filled .lists) st (f .few) (f .all);
+              lists = lists-next ws s words words′ floats floats′ new n (p .faces) (t .filled .lists) st (f .few) (f .all);
               rest =
                   rw more
                   (sym (steps-next (definedIn s ws) i (polygon []) there (addCell d ps) drafted _ (with-faces ∙ rw q))
                   ∙ t .filled .rest);
             }
 
-        pub cell-next : (x : Drafted) (n : ℕ) → CellFilling d ps ws v (sized s (p .faces)) words words′ floats floats′ h i (p .first) x → x ≡ Drafted.Faces n
+        added : (a : Drafted) (n : ℕ) → CellFilling d ps ws new (sized s (p .faces)) words words′ floats floats′ a → a ≡ Drafted.Faces n
             → CellAdding d ps ws s words′ floats′ i (CellAdded.Next (record { at = c .at; first = p .first + h .faces; faces = n }))
-        cell-next x n (Steps.CellFilling.refusing j q) ex = absurd (let z : _≡_ {A = ℕ} 0 1 = cc in omega arith)
-        cell-next x n (Steps.CellFilling.filled m q st) ex =
-            let z : m ≡ n = cc in
-            Steps.CellAdding.next _ (filled-next n (rw z at q) (rw z at st))
+        added a n (Steps.CellFilling.refusing j q) ea = absurd (let z : _≡_ {A = ℕ} 0 1 = cc in omega arith)
+        added a n (Steps.CellFilling.filled m q st) ea = let z : m ≡ n = cc in Steps.CellAdding.next _ (filled-next n (rw z at q) (rw z at st))
+
+  pub cell-refused : (r : CellFound) (k : ℕ) (words′ : List ℕ) (floats′ : List Float) → CellFinding d ps ws i p r → r ≡ CellFound.Refused k → CellAdding d ps ws s words′ floats′ i (CellAdded.Refused k)
+  cell-refused r k words′ floats′ (Steps.CellFinding.cell h c v e x) q = absurd (let z : _≡_ {A = ℕ} 0 1 = cc in omega arith)
+  cell-refused r k words′ floats′ (Steps.CellFinding.refusing h c j e x) q = let z : j ≡ k = cc in Steps.CellAdding.refusing k (rw z at (not-checked h c e j x))
+  cell-refused r k words′ floats′ (Steps.CellFinding.wrong j e) q = absurd (never j e)
+
+  pub cell-ready : (r : CellFound) (y : NewCell) (c : Cursor) → CellFinding d ps ws i p r → r ≡ CellFound.Cell y c → CellReady ws (sized s (p .faces)) words floats y
+  cell-ready r y c (Steps.CellFinding.refusing h c′ j e x) q = absurd (let z : _≡_ {A = ℕ} 0 1 = cc in omega arith)
+  cell-ready r y c (Steps.CellFinding.wrong j e) q = absurd (never j e)
+  cell-ready r y c (Steps.CellFinding.cell h c′ v e x) q =
+      let z : record { number = i; reference = v; head = h; first = p .first } ≡ y = cc in
+      rw z at (ready h c′ e v x)
+
+  pub cell-not-filled : (r : CellFound) (y : NewCell) (c : Cursor) (words′ : List ℕ) (floats′ : List Float) (a : Drafted) (k : ℕ) → CellFinding d ps ws i p r → r ≡ CellFound.Cell y c
+      → CellFilling d ps ws y (sized s (p .faces)) words words′ floats floats′ a → a ≡ Drafted.Refused k → CellAdding d ps ws s words′ floats′ i (CellAdded.Refused k)
+  cell-not-filled r y c words′ floats′ a k (Steps.CellFinding.refusing h c′ j e x) q f ea = absurd (let z : _≡_ {A = ℕ} 0 1 = cc in omega arith)
+  cell-not-filled r y c words′ floats′ a k (Steps.CellFinding.wrong j e) q f ea = absurd (never j e)
+  cell-not-filled r y c words′ floats′ a k (Steps.CellFinding.cell h c′ v e x) q f ea =
+      let z : record { number = i; reference = v; head = h; first = p .first } ≡ y = cc in
+      not-filled h c′ e v x words′ floats′ a k (rw (← z) at f) ea
+
+  pub cell-next : (r : CellFound) (y : NewCell) (c : Cursor) (words′ : List ℕ) (floats′ : List Float) (a : Drafted) (n : ℕ) → CellFinding d ps ws i p r → r ≡ CellFound.Cell y c
+      → CellFilling d ps ws y (sized s (p .faces)) words words′ floats floats′ a → a ≡ Drafted.Faces n
+      → CellAdding d ps ws s words′ floats′ i (CellAdded.Next (record { at = c .at; first = y .first + y .head .faces; faces = n }))
+  cell-next r y c words′ floats′ a n (Steps.CellFinding.refusing h c′ j e x) q f ea = absurd (let z : _≡_ {A = ℕ} 0 1 = cc in omega arith)
+  cell-next r y c words′ floats′ a n (Steps.CellFinding.wrong j e) q f ea = absurd (never j e)
+  cell-next r y c words′ floats′ a n (Steps.CellFinding.cell h c′ v e x) q f ea =
+      let z : record { number = i; reference = v; head = h; first = p .first } ≡ y = cc in
+      let zc : c′ ≡ c = cc in
+      rw (← zc, ← z) (added h c′ e v x words′ floats′ a n (rw (← z) at f) ea)
 
 -- ---- `fill_cells`
 

@@ -36,6 +36,7 @@ use Rattle.mesh_faces.proofs.AreaLaws.{chained-kept, faces-kept}
 use Rattle.mesh_cells.specs.Cells.{measuredFrom, Growing, addFaceOf}
 use Rattle.mesh_cells.specs.Steps as Steps
 use Rattle.mesh_cells.specs.Steps.{growingIn, Placeable, Grew, Placing, FaceReady, Listed, FaceAdding, FacesReady, addFaces, FacesAdding}
+use Rattle.mesh_cells.specs.declared.NewCell.{NewCell}
 use Rattle.mesh_cells.specs.declared.FacePlaced.{FacePlaced}
 use Rattle.mesh_cells.specs.declared.FacePlaced.the-variants as FacePlaced
 use Rattle.mesh_cells.specs.declared.FaceAdded.{FaceAdded}
@@ -44,30 +45,30 @@ use Rattle.mesh_cells.specs.declared.Drafted.the-variants as Drafted
 
 -- ---- `place_face`
 
-module _ (d : ℕ) (ps : List Vec3) (cell : ℕ) (reference : Vec3) (s : Sizes) (words : List ℕ) (floats : List Float) (vertices vertices′ : List ℕ) (r : TurnedFace)
-    (t : Turning d ps reference vertices vertices′ r) where
-  pub place-degenerate : r ≡ Turned.Degenerate → Placing d ps cell reference s words words floats floats vertices (FacePlaced.Refused 13)
+module _ (d : ℕ) (ps : List Vec3) (cell : NewCell) (s : Sizes) (words : List ℕ) (floats : List Float) (vertices vertices′ : List ℕ) (r : TurnedFace)
+    (t : Turning d ps (cell .reference) vertices vertices′ r) where
+  pub place-degenerate : r ≡ Turned.Degenerate → Placing d ps cell s words words floats floats vertices (FacePlaced.Refused 13)
   unfolding addFaceOf faceOf _>>=_
   place-degenerate e =
-      let o : orientedFace d ps reference vertices ≡ refused 13 = sym (t .face) ∙ ap (faceOf vertices′) e in
+      let o : orientedFace d ps (cell .reference) vertices ≡ refused 13 = sym (t .face) ∙ ap (faceOf vertices′) e in
       Steps.Placing.refusing 13 (λ g eg. rw o)
 
   module _ (g : FaceGeometry) (e : r ≡ Turned.Face g) (m : Measured) (em : m ≡ record { centre = g .centre; area = g .area; normal = g .normal; «area_vector» = g .«area_vector» })
-      (words′ : List ℕ) (floats′ : List Float) (a : Added) (u : Used s words words′ floats floats′ vertices′ m cell a) where
+      (words′ : List ℕ) (floats′ : List Float) (a : Added) (u : Used s words words′ floats floats′ vertices′ m (cell .number) a) where
     abbrev own : Growing → Placed → Result Growing
     own w p = fine (record { faces = p .faces; own = w .own ++ p .number ∷ [] })
 
     whole : (w : Growing) → w .faces ≡ facesIn s words floats
-        → addFaceOf d ps cell reference w vertices ≡ (placed a (facesIn (sized s (after a (s .faces))) words′ floats′) >>= own w)
+        → addFaceOf d ps (cell .number) (cell .reference) w vertices ≡ (placed a (facesIn (sized s (after a (s .faces))) words′ floats′) >>= own w)
     unfolding addFaceOf faceOf measuredFrom addFace _>>=_
     whole w ew =
-        let o : orientedFace d ps reference vertices ≡ faceOf vertices′ (Turned.Face g) = sym (t .face) ∙ ap (faceOf vertices′) e in
+        let o : orientedFace d ps (cell .reference) vertices ≡ faceOf vertices′ (Turned.Face g) = sym (t .face) ∙ ap (faceOf vertices′) e in
         rw (o, ew, ← em, ← u .answer, ← u .faces)
 
-    pub place-new : (f : ℕ) → a ≡ New f → Placing d ps cell reference s words words′ floats floats′ vertices (FacePlaced.Face f (s .faces + 1))
+    pub place-new : (f : ℕ) → a ≡ New f → Placing d ps cell s words words′ floats floats′ vertices (FacePlaced.Face f (s .faces + 1))
     unfolding placed _>>=_
     place-new f ea =
-        let n = new-number cell (facesIn s words floats) f vertices′ m (sym ea ∙ u .answer) in
+        let n = new-number (cell .number) (facesIn s words floats) f vertices′ m (sym ea ∙ u .answer) in
         Steps.Placing.placed f _ (λ l. rw ea at (whole (record { faces = facesIn s words floats; own = l }) refl))
         (record {
           chained = rw ea at (u .chained);
@@ -77,10 +78,10 @@ module _ (d : ℕ) (ps : List Vec3) (cell : ℕ) (reference : Vec3) (s : Sizes) 
           floats-kept = u .floats-kept;
         })
 
-    pub place-second : (f : ℕ) → a ≡ Second f → Placing d ps cell reference s words words′ floats floats′ vertices (FacePlaced.Face f (s .faces))
+    pub place-second : (f : ℕ) → a ≡ Second f → Placing d ps cell s words words′ floats floats′ vertices (FacePlaced.Face f (s .faces))
     unfolding placed _>>=_
     place-second f ea =
-        let n = second-number cell (facesIn s words floats) f vertices′ m (sym ea ∙ u .answer) in
+        let n = second-number (cell .number) (facesIn s words floats) f vertices′ m (sym ea ∙ u .answer) in
         Steps.Placing.placed f _ (λ l. rw ea at (whole (record { faces = facesIn s words floats; own = l }) refl))
         (record {
           chained = rw ea at (u .chained);
@@ -90,13 +91,13 @@ module _ (d : ℕ) (ps : List Vec3) (cell : ℕ) (reference : Vec3) (s : Sizes) 
           floats-kept = u .floats-kept;
         })
 
-    pub place-third : a ≡ Third → Placing d ps cell reference s words words′ floats floats′ vertices (FacePlaced.Refused 14)
+    pub place-third : a ≡ Third → Placing d ps cell s words words′ floats floats′ vertices (FacePlaced.Refused 14)
     unfolding placed _>>=_
     place-third ea = Steps.Placing.refusing 14 (λ w ew. rw ea at (whole w ew))
 
 -- what the table asks of a face that is turned
-pub usable : (s : Sizes) (words : List ℕ) (floats : List Float) (vertices vertices′ : List ℕ) (cell : ℕ) → Placeable s words floats vertices cell → length vertices′ ≡ length vertices
-    → Usable s words floats vertices′ cell
+pub usable : (s : Sizes) (words : List ℕ) (floats : List Float) (vertices vertices′ : List ℕ) (cell : NewCell) → Placeable s words floats vertices cell → length vertices′ ≡ length vertices
+    → Usable s words floats vertices′ (cell .number)
 usable s words floats vertices vertices′ cell p e =
     record {
       lent-words = p .lent-words;
@@ -124,8 +125,8 @@ pub lent-floats-sized : (s : Sizes) (floats floats′ : List Float) (n : ℕ) �
 lent-floats-sized s floats floats′ n l e h =
     record { few-slots = l .few-slots; few-faces = h; few-cells = l .few-cells; long = omega (arith, l .long) }
 
-module _ (ws : List ℕ) (s : Sizes) (words : List ℕ) (floats : List Float) (h : Head) (cell first : ℕ) (c : FaceCursor) (rd : FaceReady ws s words floats h cell first c)
-    (vs₀ vs : List ℕ) (count : ℕ) (next : FaceCursor) (f : FaceCopied ws h c vs₀ vs count next) where
+module _ (ws : List ℕ) (s : Sizes) (words : List ℕ) (floats : List Float) (cell : NewCell) (c : FaceCursor) (rd : FaceReady ws s words floats cell c)
+    (vs₀ vs : List ℕ) (count : ℕ) (next : FaceCursor) (f : FaceCopied ws (cell .head) c vs₀ vs count next) where
   pub face-placeable : Placeable s words floats (take count vs) cell
   face-placeable =
       let l : length (take count vs) ≡ count = ap length (f .front) ∙ sym (f .counted) in
@@ -138,48 +139,48 @@ module _ (ws : List ℕ) (s : Sizes) (words : List ℕ) (floats : List Float) (h
         cells-few = rd .cells-few;
       }
 
-  module _ (d : ℕ) (ps : List Vec3) (reference : Vec3) (words₁ : List ℕ) (floats′ : List Float) where
-    pub face-refused : (r : FacePlaced) (k : ℕ) → Placing d ps cell reference s words words₁ floats floats′ (take count vs) r → r ≡ FacePlaced.Refused k
-        → FaceAdding d ps ws cell reference s words words₁ floats floats′ h first c (FaceAdded.Refused k)
+  module _ (d : ℕ) (ps : List Vec3) (words₁ : List ℕ) (floats′ : List Float) where
+    pub face-refused : (r : FacePlaced) (k : ℕ) → Placing d ps cell s words words₁ floats floats′ (take count vs) r → r ≡ FacePlaced.Refused k
+        → FaceAdding d ps ws cell s words words₁ floats floats′ c (FaceAdded.Refused k)
     face-refused r k (Steps.Placing.placed j m e g) q = absurd (let z : _≡_ {A = ℕ} 0 1 = cc in omega arith)
     face-refused r k (Steps.Placing.refusing j e) q =
         let z : j ≡ k = cc in
-        Steps.FaceAdding.refusing k (rw (← z, ← f .front) (e (growingIn s words floats first (c .face)) refl))
+        Steps.FaceAdding.refusing k (rw (← z, ← f .front) (e (growingIn s words floats (cell .first) (c .face)) refl))
 
-    module _ (i n x : ℕ) (ex : x ≡ i) (e : (own : List ℕ) → addFaceOf d ps cell reference (record { faces = facesIn s words floats; own = own }) (take count vs)
+    module _ (i n x : ℕ) (ex : x ≡ i) (e : (own : List ℕ) → addFaceOf d ps (cell .number) (cell .reference) (record { faces = facesIn s words floats; own = own }) (take count vs)
         ≡ fine (record { faces = facesIn (sized s n) words₁ floats′; own = own ++ i ∷ [] })) (g : Grew s words words₁ floats floats′ i n)
         (long : length words₁ ≡ length words) (long-floats : length floats′ ≡ length floats) where
       many : n ≤ s .slots
       many = omega (arith, g .more, rd .behind, rd .face, rd .room)
 
-      inside : 13 * s .slots + first + c .face < length words₁
+      inside : 13 * s .slots + cell .first + c .face < length words₁
       inside = omega (arith, rd .lent-words .long, rd .face, rd .room)
 
-      far : (j : ℕ) → (j ≡ first + c .face → ⊥) → getD (set words₁ (13 * s .slots + first + c .face) x) (13 * s .slots + j) 0 ≡ getD words (13 * s .slots + j) 0
+      far : (j : ℕ) → (j ≡ cell .first + c .face → ⊥) → getD (set words₁ (13 * s .slots + cell .first + c .face) x) (13 * s .slots + j) 0 ≡ getD words (13 * s .slots + j) 0
       far j ne =
-          getD-set-other words₁ (13 * s .slots + first + c .face) (13 * s .slots + j) x 0 (λ q. ne (omega arith))
+          getD-set-other words₁ (13 * s .slots + cell .first + c .face) (13 * s .slots + j) x 0 (λ q. ne (omega arith))
           ∙ kept-at words words₁ (13 * s .slots) j 0 (g .words-kept)
 
-      listed : listAt (set words₁ (13 * s .slots + first + c .face) x) (13 * s .slots + first) (c .face + 1) ≡ listAt words (13 * s .slots + first) (c .face) ++ i ∷ []
+      listed : listAt (set words₁ (13 * s .slots + cell .first + c .face) x) (13 * s .slots + cell .first) (c .face + 1) ≡ listAt words (13 * s .slots + cell .first) (c .face) ++ i ∷ []
       unfolding listAt
       listed =
           tab-next _ (c .face)
           ∙ ap₂ (λ (l : List ℕ) (y : ℕ). l ++ y ∷ [])
           (tab-same _ _ (c .face) (λ j l.
-          let q : 13 * s .slots + first + j ≡ 13 * s .slots + (first + j) = omega arith in
-          rw q (far (first + j) (λ z. omega arith))))
-          (getD-set-same words₁ (13 * s .slots + first + c .face) x 0 inside ∙ ex)
+          let q : 13 * s .slots + cell .first + j ≡ 13 * s .slots + (cell .first + j) = omega arith in
+          rw q (far (cell .first + j) (λ z. omega arith))))
+          (getD-set-same words₁ (13 * s .slots + cell .first + c .face) x 0 inside ∙ ex)
 
-      front : take (13 * s .slots) (set words₁ (13 * s .slots + first + c .face) x) ≡ take (13 * s .slots) words₁
-      front = take-set-le (13 * s .slots) words₁ (13 * s .slots + first + c .face) x (omega arith)
+      front : take (13 * s .slots) (set words₁ (13 * s .slots + cell .first + c .face) x) ≡ take (13 * s .slots) words₁
+      front = take-set-le (13 * s .slots) words₁ (13 * s .slots + cell .first + c .face) x (omega arith)
 
-      pub face-next : FaceAdding d ps ws cell reference s words (set words₁ (13 * s .slots + first + c .face) x) floats floats′ h first c (FaceAdded.Next next n)
+      pub face-next : FaceAdding d ps ws cell s words (set words₁ (13 * s .slots + cell .first + c .face) x) floats floats′ c (FaceAdded.Next next n)
       face-next =
           let lent = lent-sized s words words₁ n (rd .lent-words) long many in
-          let same = faces-kept (sized s n) words₁ (set words₁ (13 * s .slots + first + c .face) x) lent (length-set words₁ _ x) (g .chained) front floats′ floats′ refl in
-          Steps.FaceAdding.next next n (rw (← f .front, same, listed) (e (listAt words (13 * s .slots + first) (c .face)))) (copied-next ws h c vs₀ vs count next f) (f .goes)
+          let same = faces-kept (sized s n) words₁ (set words₁ (13 * s .slots + cell .first + c .face) x) lent (length-set words₁ _ x) (g .chained) front floats′ floats′ refl in
+          Steps.FaceAdding.next next n (rw (← f .front, same, listed) (e (listAt words (13 * s .slots + cell .first) (c .face)))) (copied-next ws (cell .head) c vs₀ vs count next f) (f .goes)
           (record {
-            chained = chained-kept (sized s n) words₁ (set words₁ (13 * s .slots + first + c .face) x) lent (length-set words₁ _ x) (g .chained) front;
+            chained = chained-kept (sized s n) words₁ (set words₁ (13 * s .slots + cell .first + c .face) x) lent (length-set words₁ _ x) (g .chained) front;
             behind = omega (arith, g .more, rd .behind);
             before = λ j l. far j (λ z. omega arith);
             after = λ j l. far j (λ z. omega arith);
@@ -188,9 +189,9 @@ module _ (ws : List ℕ) (s : Sizes) (words : List ℕ) (floats : List Float) (h
             long-floats = long-floats;
           })
 
-    pub face-added : (r : FacePlaced) (i n x : ℕ) → Placing d ps cell reference s words words₁ floats floats′ (take count vs) r → r ≡ FacePlaced.Face i n → x ≡ i
+    pub face-added : (r : FacePlaced) (i n x : ℕ) → Placing d ps cell s words words₁ floats floats′ (take count vs) r → r ≡ FacePlaced.Face i n → x ≡ i
         → length words₁ ≡ length words → length floats′ ≡ length floats
-        → FaceAdding d ps ws cell reference s words (set words₁ (13 * s .slots + first + c .face) x) floats floats′ h first c (FaceAdded.Next next n)
+        → FaceAdding d ps ws cell s words (set words₁ (13 * s .slots + cell .first + c .face) x) floats floats′ c (FaceAdded.Next next n)
     face-added r i n x (Steps.Placing.placed j m e g) q ex lw lf =
         let a : j ≡ i = cc in
         let b : m ≡ n = cc in
@@ -198,29 +199,29 @@ module _ (ws : List ℕ) (s : Sizes) (words : List ℕ) (floats : List Float) (h
     face-added r i n x (Steps.Placing.refusing j e) q ex lw lf = absurd (let z : _≡_ {A = ℕ} 0 1 = cc in omega arith)
 
 -- the number of a face is a word
-pub face-number : (d : ℕ) (ps : List Vec3) (cell : ℕ) (reference : Vec3) (s : Sizes) (words words₁ : List ℕ) (floats floats′ : List Float) (vertices : List ℕ) (r : FacePlaced) (i n : ℕ)
-    → Placing d ps cell reference s words words₁ floats floats′ vertices r → r ≡ FacePlaced.Face i n → s .faces < s .slots → s .slots ≤ 1048576 → i < 4294967296
-face-number d ps cell reference s words words₁ floats floats′ vertices r i n (Steps.Placing.placed j m e g) q few slots =
+pub face-number : (d : ℕ) (ps : List Vec3) (cell : NewCell) (s : Sizes) (words words₁ : List ℕ) (floats floats′ : List Float) (vertices : List ℕ) (r : FacePlaced) (i n : ℕ)
+    → Placing d ps cell s words words₁ floats floats′ vertices r → r ≡ FacePlaced.Face i n → s .faces < s .slots → s .slots ≤ 1048576 → i < 4294967296
+face-number d ps cell s words words₁ floats floats′ vertices r i n (Steps.Placing.placed j m e g) q few slots =
     let a : j ≡ i = cc in omega (arith, g .number, g .more)
-face-number d ps cell reference s words words₁ floats floats′ vertices r i n (Steps.Placing.refusing j e) q few slots = absurd (let z : _≡_ {A = ℕ} 0 1 = cc in omega arith)
+face-number d ps cell s words words₁ floats floats′ vertices r i n (Steps.Placing.refusing j e) q few slots = absurd (let z : _≡_ {A = ℕ} 0 1 = cc in omega arith)
 
 -- ---- `add_faces`
 
--- the faces of h before c are added; what is left, added to them, gives the whole
-pub record Going (d : ℕ) (ps : List Vec3) (ws : List ℕ) (cell : ℕ) (reference : Vec3) (s : Sizes) (words₀ words : List ℕ) (floats₀ floats : List Float) (h : Head) (first n : ℕ) (c : FaceCursor) : Type 0 where
-  pub at-face : AtFace ws h c
-  pub face : c .face ≤ h .faces
-  pub listed : Listed s words₀ words floats₀ floats first (c .face) n
-  pub rest : steps (addFaceOf d ps cell reference) (growingIn (sized s n) words floats first (c .face)) (drop (c .face) (facesOf (definitionAt ws (h .at))))
-      ≡ addFaces d ps ws cell reference (facesIn s words₀ floats₀) h
+-- the faces of the cell before c are added; what is left, added to them, gives the whole
+pub record Going (d : ℕ) (ps : List Vec3) (ws : List ℕ) (cell : NewCell) (s : Sizes) (words₀ words : List ℕ) (floats₀ floats : List Float) (n : ℕ) (c : FaceCursor) : Type 0 where
+  pub at-face : AtFace ws (cell .head) c
+  pub face : c .face ≤ cell .head .faces
+  pub listed : Listed s words₀ words floats₀ floats (cell .first) (c .face) n
+  pub rest : steps (addFaceOf d ps (cell .number) (cell .reference)) (growingIn (sized s n) words floats (cell .first) (c .face)) (drop (c .face) (facesOf (definitionAt ws (cell .head .at))))
+      ≡ addFaces d ps ws cell (facesIn s words₀ floats₀)
 
-module _ (d : ℕ) (ps : List Vec3) (ws : List ℕ) (cell : ℕ) (reference : Vec3) (s : Sizes) (words₀ : List ℕ) (floats₀ : List Float) (h : Head) (first : ℕ)
-    (rd : FacesReady ws s words₀ floats₀ h cell first) where
-  pub going-start : (c : FaceCursor) → (c .face ≡ 0) × (c .at ≡ h .first) → Going d ps ws cell reference s words₀ words₀ floats₀ floats₀ h first (s .faces) c
+module _ (d : ℕ) (ps : List Vec3) (ws : List ℕ) (cell : NewCell) (s : Sizes) (words₀ : List ℕ) (floats₀ : List Float)
+    (rd : FacesReady ws s words₀ floats₀ cell) where
+  pub going-start : (c : FaceCursor) → (c .face ≡ 0) × (c .at ≡ cell .head .first) → Going d ps ws cell s words₀ words₀ floats₀ floats₀ (s .faces) c
   unfolding listAt tab
   going-start c e =
       record {
-        at-face = at-first ws h c (rd .headed) (e .0) (e .1);
+        at-face = at-first ws (cell .head) c (rd .headed) (e .0) (e .1);
         face = omega arith;
         listed =
             record {
@@ -235,8 +236,8 @@ module _ (d : ℕ) (ps : List Vec3) (ws : List ℕ) (cell : ℕ) (reference : Ve
         rest = rw (e .0);
       }
 
-  module _ (words : List ℕ) (floats : List Float) (n : ℕ) (c : FaceCursor) (g : Going d ps ws cell reference s words₀ words floats₀ floats h first n c) where
-    pub going-ready : c .face < h .faces → FaceReady ws (sized s n) words floats h cell first c
+  module _ (words : List ℕ) (floats : List Float) (n : ℕ) (c : FaceCursor) (g : Going d ps ws cell s words₀ words floats₀ floats n c) where
+    pub going-ready : c .face < cell .head .faces → FaceReady ws (sized s n) words floats cell c
     going-ready more =
         let many : n ≤ s .slots = omega (arith, g .listed .behind, rd .room) in
         record {
@@ -250,34 +251,34 @@ module _ (d : ℕ) (ps : List Vec3) (ws : List ℕ) (cell : ℕ) (reference : Ve
           cells-few = rd .cells-few;
         }
 
-    module _ (more : c .face < h .faces) (words′ : List ℕ) (floats′ : List Float) (r : FaceAdded)
-        (a : FaceAdding d ps ws cell reference (sized s n) words words′ floats floats′ h first c r) where
-      there : c .face < length (facesOf (definitionAt ws (h .at)))
-      there = omega (arith, head-faces ws h (rd .headed) .all)
+    module _ (more : c .face < cell .head .faces) (words′ : List ℕ) (floats′ : List Float) (r : FaceAdded)
+        (a : FaceAdding d ps ws cell (sized s n) words words′ floats floats′ c r) where
+      there : c .face < length (facesOf (definitionAt ws (cell .head .at)))
+      there = omega (arith, head-faces ws (cell .head) (rd .headed) .all)
 
-      pub going-refused : (k : ℕ) → r ≡ FaceAdded.Refused k → FacesAdding d ps ws cell reference s words₀ words′ floats₀ floats′ h first (Drafted.Refused k)
+      pub going-refused : (k : ℕ) → r ≡ FaceAdded.Refused k → FacesAdding d ps ws cell s words₀ words′ floats₀ floats′ (Drafted.Refused k)
       unfolding faceAt
       going-refused k q = by r a q
         where
-          by : (r : FaceAdded) → FaceAdding d ps ws cell reference (sized s n) words words′ floats floats′ h first c r → r ≡ FaceAdded.Refused k
-              → FacesAdding d ps ws cell reference s words₀ words′ floats₀ floats′ h first (Drafted.Refused k)
+          by : (r : FaceAdded) → FaceAdding d ps ws cell (sized s n) words words′ floats floats′ c r → r ≡ FaceAdded.Refused k
+              → FacesAdding d ps ws cell s words₀ words′ floats₀ floats′ (Drafted.Refused k)
           by r (Steps.FaceAdding.next q′ m′ e f p l) q = absurd (let z : _≡_ {A = ℕ} 0 1 = cc in omega arith)
           by r (Steps.FaceAdding.refusing j e) q =
               let z : j ≡ k = cc in
-              Steps.FacesAdding.refusing k (sym (g .rest) ∙ steps-refused (facesOf (definitionAt ws (h .at))) (c .face) [] there (addFaceOf d ps cell reference) _ k (rw z at e))
+              Steps.FacesAdding.refusing k (sym (g .rest) ∙ steps-refused (facesOf (definitionAt ws (cell .head .at))) (c .face) [] there (addFaceOf d ps (cell .number) (cell .reference)) _ k (rw z at e))
 
-      pub going-next : (q : FaceCursor) (m : ℕ) → r ≡ FaceAdded.Next q m → Going d ps ws cell reference s words₀ words′ floats₀ floats′ h first m q
+      pub going-next : (q : FaceCursor) (m : ℕ) → r ≡ FaceAdded.Next q m → Going d ps ws cell s words₀ words′ floats₀ floats′ m q
       unfolding faceAt
       going-next q m er = by r a er
         where
-          by : (r : FaceAdded) → FaceAdding d ps ws cell reference (sized s n) words words′ floats floats′ h first c r → r ≡ FaceAdded.Next q m
-              → Going d ps ws cell reference s words₀ words′ floats₀ floats′ h first m q
+          by : (r : FaceAdded) → FaceAdding d ps ws cell (sized s n) words words′ floats floats′ c r → r ≡ FaceAdded.Next q m
+              → Going d ps ws cell s words₀ words′ floats₀ floats′ m q
           by r (Steps.FaceAdding.refusing j e) er = absurd (let z : _≡_ {A = ℕ} 0 1 = cc in omega arith)
           by r (Steps.FaceAdding.next q′ m′ e f p l) er =
               let zq : q′ ≡ q = cc in
               let zm : m′ ≡ m = cc in
               let f′ : q .face ≡ c .face + 1 = rw zq at f in
-              let l′ : Listed (sized s n) words words′ floats floats′ (first + c .face) 1 m = rw zm at l in
+              let l′ : Listed (sized s n) words words′ floats floats′ (cell .first + c .face) 1 m = rw zm at l in
               record {
                 at-face = rw zq at p;
                 face = omega arith;
@@ -292,19 +293,19 @@ module _ (d : ℕ) (ps : List Vec3) (ws : List ℕ) (cell : ℕ) (reference : Ve
                       long-floats = l′ .long-floats ∙ g .listed .long-floats;
                     };
                 rest =
-                    rw f′ (sym (steps-next (facesOf (definitionAt ws (h .at))) (c .face) [] there (addFaceOf d ps cell reference) _ _ (rw zm at e)) ∙ g .rest);
+                    rw f′ (sym (steps-next (facesOf (definitionAt ws (cell .head .at))) (c .face) [] there (addFaceOf d ps (cell .number) (cell .reference)) _ _ (rw zm at e)) ∙ g .rest);
               }
 
-      pub going-less : (q : FaceCursor) (m : ℕ) → r ≡ FaceAdded.Next q m → h .faces - q .face < h .faces - c .face
+      pub going-less : (q : FaceCursor) (m : ℕ) → r ≡ FaceAdded.Next q m → cell .head .faces - q .face < cell .head .faces - c .face
       going-less q m er = by r a er
         where
-          by : (r : FaceAdded) → FaceAdding d ps ws cell reference (sized s n) words words′ floats floats′ h first c r → r ≡ FaceAdded.Next q m → h .faces - q .face < h .faces - c .face
+          by : (r : FaceAdded) → FaceAdding d ps ws cell (sized s n) words words′ floats floats′ c r → r ≡ FaceAdded.Next q m → cell .head .faces - q .face < cell .head .faces - c .face
           by r (Steps.FaceAdding.refusing j e) er = absurd (let z : _≡_ {A = ℕ} 0 1 = cc in omega arith)
           by r (Steps.FaceAdding.next q′ m′ e f p l) er = let zq : q′ ≡ q = cc in let f′ : q .face ≡ c .face + 1 = rw zq at f in omega arith
 
-    pub going-done : h .faces ≤ c .face → FacesAdding d ps ws cell reference s words₀ words floats₀ floats h first (Drafted.Faces n)
+    pub going-done : cell .head .faces ≤ c .face → FacesAdding d ps ws cell s words₀ words floats₀ floats (Drafted.Faces n)
     unfolding steps
     going-done end =
-        let z : c .face ≡ h .faces = omega (arith, g .face) in
-        let w = rw (drop-of-length-le (facesOf (definitionAt ws (h .at))) {i = c .face} (omega (arith, head-faces ws h (rd .headed) .all)), steps) at (g .rest) in
+        let z : c .face ≡ cell .head .faces = omega (arith, g .face) in
+        let w = rw (drop-of-length-le (facesOf (definitionAt ws (cell .head .at))) {i = c .face} (omega (arith, head-faces ws (cell .head) (rd .headed) .all)), steps) at (g .rest) in
         Steps.FacesAdding.added n (rw z at (sym w)) (rw z at (g .listed))

@@ -10,7 +10,9 @@ use Rattle.arith.specs.declared.Vec3.{Vec3}
 use Rattle.reading.specs.Result.{Result, refused, fine, steps}
 use Rattle.case_definitions.specs.Faces.{Definition, facesOf, addFaceCount, facesCounted}
 use Rattle.case_definitions.specs.Definitions as Words
-use Rattle.case_definitions.specs.Walker.{definitionAt, faceAt, Headed, AtFace}
+use Rattle.case_definitions.specs.Walker.{definitionAt, faceAt, stepAt, Headed, AtFace}
+use Rattle.case_definitions.specs.declared.Cursor.{Cursor}
+use Rattle.case_definitions.specs.declared.Step.the-variants.{Record, Wrong}
 use Rattle.case_definitions.specs.declared.Head.{Head}
 use Rattle.case_definitions.specs.declared.FaceCursor.{FaceCursor}
 use Rattle.mesh_area.specs.declared.Sizes.{Sizes}
@@ -18,6 +20,7 @@ use Rattle.mesh_area.specs.Tables.{Face}
 use Rattle.mesh_area.specs.Layout.{LentWords, LentFloats, listAt, vecFrom, facesIn}
 use Rattle.mesh_face_table.specs.Chains.{Chained}
 use Rattle.mesh_faces.specs.Using.{sized}
+use Rattle.mesh_points.specs.Collect.{checked}
 use Rattle.mesh_cells.specs.Cells.{Growing, addFaceOf, addCell, drafts}
 use Rattle.mesh_cells.specs.Drafting.{cellWord, draftsIn, Lists}
 use Rattle.mesh_cells.specs.declared.FacePlaced.{FacePlaced}
@@ -27,6 +30,9 @@ use Rattle.mesh_cells.specs.declared.FaceAdded.the-variants as FaceAdded
 use Rattle.mesh_cells.specs.declared.Drafted.{Drafted}
 use Rattle.mesh_cells.specs.declared.Drafted.the-variants as Drafted
 use Rattle.mesh_cells.specs.declared.Progress.{Progress}
+use Rattle.mesh_cells.specs.declared.NewCell.{NewCell}
+use Rattle.mesh_cells.specs.declared.CellFound.{CellFound}
+use Rattle.mesh_cells.specs.declared.CellFound.the-variants as CellFound
 use Rattle.mesh_cells.specs.declared.CellAdded.{CellAdded}
 use Rattle.mesh_cells.specs.declared.CellAdded.the-variants as CellAdded
 
@@ -36,13 +42,13 @@ use Rattle.mesh_cells.specs.declared.CellAdded.the-variants as CellAdded
 abbrev pub growingIn : Sizes → List ℕ → List Float → ℕ → ℕ → Growing
 growingIn s words floats first k = record { faces = facesIn s words floats; own = listAt words (13 * s .slots + first) k }
 
-pub record Placeable (s : Sizes) (words : List ℕ) (floats : List Float) (vertices : List ℕ) (cell : ℕ) : Type 0 where
+pub record Placeable (s : Sizes) (words : List ℕ) (floats : List Float) (vertices : List ℕ) (cell : NewCell) : Type 0 where
   pub lent-words : LentWords s words
   pub lent-floats : LentFloats s floats
   pub chained : Chained s words
   pub space : s .faces < s .slots
   pub short : length vertices ≤ 8
-  pub cells-few : cell < 16384
+  pub cells-few : cell .number < 16384
 
 -- the table has n faces, face f among them, and nothing after it has changed
 pub record Grew (s : Sizes) (words words′ : List ℕ) (floats floats′ : List Float) (f n : ℕ) : Type 0 where
@@ -53,25 +59,25 @@ pub record Grew (s : Sizes) (words words′ : List ℕ) (floats floats′ : List
   pub floats-kept : drop (12 * s .slots) floats′ ≡ drop (12 * s .slots) floats
 
 -- `place_face`: the face's number and the number of faces, or refusal 13 or 14
-pub data Placing (d : ℕ) (ps : List Vec3) (cell : ℕ) (reference : Vec3) (s : Sizes) (words words′ : List ℕ) (floats floats′ : List Float) (vertices : List ℕ) : FacePlaced → Type 0 where
-  placed : (f n : ℕ) → ((own : List ℕ) → addFaceOf d ps cell reference (record { faces = facesIn s words floats; own = own }) vertices
+pub data Placing (d : ℕ) (ps : List Vec3) (cell : NewCell) (s : Sizes) (words words′ : List ℕ) (floats floats′ : List Float) (vertices : List ℕ) : FacePlaced → Type 0 where
+  placed : (f n : ℕ) → ((own : List ℕ) → addFaceOf d ps (cell .number) (cell .reference) (record { faces = facesIn s words floats; own = own }) vertices
       ≡ fine (record { faces = facesIn (sized s n) words′ floats′; own = own ++ f ∷ [] }))
-      → Grew s words words′ floats floats′ f n → Placing d ps cell reference s words words′ floats floats′ vertices (FacePlaced.Face f n)
-  refusing : (k : ℕ) → ((g : Growing) → g .faces ≡ facesIn s words floats → addFaceOf d ps cell reference g vertices ≡ refused k)
-      → Placing d ps cell reference s words words′ floats floats′ vertices (FacePlaced.Refused k)
+      → Grew s words words′ floats floats′ f n → Placing d ps cell s words words′ floats floats′ vertices (FacePlaced.Face f n)
+  refusing : (k : ℕ) → ((g : Growing) → g .faces ≡ facesIn s words floats → addFaceOf d ps (cell .number) (cell .reference) g vertices ≡ refused k)
+      → Placing d ps cell s words words′ floats floats′ vertices (FacePlaced.Refused k)
 
 -- ---- the faces of one cell
 
--- c is a face of h; the cell's list of numbers starts at `first`, and its entries up to c's are there
-pub record FaceReady (ws : List ℕ) (s : Sizes) (words : List ℕ) (floats : List Float) (h : Head) (cell first : ℕ) (c : FaceCursor) : Type 0 where
-  pub at-face : AtFace ws h c
-  pub face : c .face < h .faces
+-- c is a face of the cell, and the entries of the cell's list up to c's are there
+pub record FaceReady (ws : List ℕ) (s : Sizes) (words : List ℕ) (floats : List Float) (cell : NewCell) (c : FaceCursor) : Type 0 where
+  pub at-face : AtFace ws (cell .head) c
+  pub face : c .face < cell .head .faces
   pub lent-words : LentWords s words
   pub lent-floats : LentFloats s floats
   pub chained : Chained s words
-  pub behind : s .faces ≤ first + c .face
-  pub room : first + h .faces ≤ s .slots
-  pub cells-few : cell < 16384
+  pub behind : s .faces ≤ cell .first + c .face
+  pub room : cell .first + cell .head .faces ≤ s .slots
+  pub cells-few : cell .number < 16384
 
 -- the table has n faces; from 13F on only `count` words from `first` on have changed, and no float from 12F on
 pub record Listed (s : Sizes) (words words′ : List ℕ) (floats floats′ : List Float) (first count n : ℕ) : Type 0 where
@@ -83,36 +89,39 @@ pub record Listed (s : Sizes) (words words′ : List ℕ) (floats floats′ : Li
   pub long-words : length words′ ≡ length words
   pub long-floats : length floats′ ≡ length floats
 
--- `add_face`: the next face and the number of faces, or refusal 13 or 14
-pub data FaceAdding (d : ℕ) (ps : List Vec3) (ws : List ℕ) (cell : ℕ) (reference : Vec3) (s : Sizes) (words words′ : List ℕ) (floats floats′ : List Float) (h : Head) (first : ℕ) (c : FaceCursor) : FaceAdded → Type 0 where
-  next : (q : FaceCursor) (n : ℕ) → addFaceOf d ps cell reference (growingIn s words floats first (c .face)) (faceAt ws (h .at) (c .face))
-      ≡ fine (growingIn (sized s n) words′ floats′ first (c .face + 1))
-      → q .face ≡ c .face + 1 → AtFace ws h q → Listed s words words′ floats floats′ (first + c .face) 1 n
-      → FaceAdding d ps ws cell reference s words words′ floats floats′ h first c (FaceAdded.Next q n)
-  refusing : (k : ℕ) → addFaceOf d ps cell reference (growingIn s words floats first (c .face)) (faceAt ws (h .at) (c .face)) ≡ refused k
-      → FaceAdding d ps ws cell reference s words words′ floats floats′ h first c (FaceAdded.Refused k)
+-- face k of a cell
+abbrev pub addFaceAt : ℕ → List Vec3 → List ℕ → NewCell → Growing → ℕ → Result Growing
+addFaceAt d ps ws cell g k = addFaceOf d ps (cell .number) (cell .reference) g (faceAt ws (cell .head .at) k)
 
--- the faces of h come next; the cell's list of numbers starts at `first`
-pub record FacesReady (ws : List ℕ) (s : Sizes) (words : List ℕ) (floats : List Float) (h : Head) (cell first : ℕ) : Type 0 where
-  pub headed : Headed ws h
+-- `add_face`: the next face and the number of faces, or refusal 13 or 14
+pub data FaceAdding (d : ℕ) (ps : List Vec3) (ws : List ℕ) (cell : NewCell) (s : Sizes) (words words′ : List ℕ) (floats floats′ : List Float) (c : FaceCursor) : FaceAdded → Type 0 where
+  next : (q : FaceCursor) (n : ℕ) → addFaceAt d ps ws cell (growingIn s words floats (cell .first) (c .face)) (c .face)
+      ≡ fine (growingIn (sized s n) words′ floats′ (cell .first) (c .face + 1))
+      → q .face ≡ c .face + 1 → AtFace ws (cell .head) q → Listed s words words′ floats floats′ (cell .first + c .face) 1 n
+      → FaceAdding d ps ws cell s words words′ floats floats′ c (FaceAdded.Next q n)
+  refusing : (k : ℕ) → addFaceAt d ps ws cell (growingIn s words floats (cell .first) (c .face)) (c .face) ≡ refused k
+      → FaceAdding d ps ws cell s words words′ floats floats′ c (FaceAdded.Refused k)
+
+-- the faces of the cell come next
+pub record FacesReady (ws : List ℕ) (s : Sizes) (words : List ℕ) (floats : List Float) (cell : NewCell) : Type 0 where
+  pub headed : Headed ws (cell .head)
   pub lent-words : LentWords s words
   pub lent-floats : LentFloats s floats
   pub chained : Chained s words
-  pub behind : s .faces ≤ first
-  pub room : first + h .faces ≤ s .slots
-  pub cells-few : cell < 16384
+  pub behind : s .faces ≤ cell .first
+  pub room : cell .first + cell .head .faces ≤ s .slots
+  pub cells-few : cell .number < 16384
 
 -- all faces of a cell
-abbrev pub addFaces : ℕ → List Vec3 → List ℕ → ℕ → Vec3 → List Face → Head → Result Growing
-addFaces d ps ws cell reference fs h = steps (addFaceOf d ps cell reference) (record { faces = fs; own = [] }) (facesOf (definitionAt ws (h .at)))
+abbrev pub addFaces : ℕ → List Vec3 → List ℕ → NewCell → List Face → Result Growing
+addFaces d ps ws cell fs = steps (addFaceOf d ps (cell .number) (cell .reference)) (record { faces = fs; own = [] }) (facesOf (definitionAt ws (cell .head .at)))
 
 -- `add_faces`: the number of faces, or the first refusal of 13 and 14
-pub data FacesAdding (d : ℕ) (ps : List Vec3) (ws : List ℕ) (cell : ℕ) (reference : Vec3) (s : Sizes) (words words′ : List ℕ) (floats floats′ : List Float) (h : Head) (first : ℕ) : Drafted → Type 0 where
-  added : (n : ℕ) → addFaces d ps ws cell reference (facesIn s words floats) h ≡ fine (growingIn (sized s n) words′ floats′ first (h .faces))
-      → Listed s words words′ floats floats′ first (h .faces) n
-      → FacesAdding d ps ws cell reference s words words′ floats floats′ h first (Drafted.Faces n)
-  refusing : (k : ℕ) → addFaces d ps ws cell reference (facesIn s words floats) h ≡ refused k
-      → FacesAdding d ps ws cell reference s words words′ floats floats′ h first (Drafted.Refused k)
+pub data FacesAdding (d : ℕ) (ps : List Vec3) (ws : List ℕ) (cell : NewCell) (s : Sizes) (words words′ : List ℕ) (floats floats′ : List Float) : Drafted → Type 0 where
+  added : (n : ℕ) → addFaces d ps ws cell (facesIn s words floats) ≡ fine (growingIn (sized s n) words′ floats′ (cell .first) (cell .head .faces))
+      → Listed s words words′ floats floats′ (cell .first) (cell .head .faces) n
+      → FacesAdding d ps ws cell s words words′ floats floats′ (Drafted.Faces n)
+  refusing : (k : ℕ) → addFaces d ps ws cell (facesIn s words floats) ≡ refused k → FacesAdding d ps ws cell s words words′ floats floats′ (Drafted.Refused k)
 
 -- ---- one cell
 
@@ -121,36 +130,42 @@ pub record CellPut (s : Sizes) (words words′ : List ℕ) (floats floats′ : L
   pub words-put : words′ ≡ puts words (16 * s .slots + 8 * i) (at ∷ first ∷ count ∷ 0 ∷ [])
   pub floats-put : floats′ ≡ puts floats (12 * s .slots + 4 * i) (reference .x ∷ reference .y ∷ reference .z ∷ [])
 
-pub record CellReady (ws : List ℕ) (s : Sizes) (words : List ℕ) (floats : List Float) (h : Head) (i first : ℕ) : Type 0 where
-  pub headed : Headed ws h
+pub record CellReady (ws : List ℕ) (s : Sizes) (words : List ℕ) (floats : List Float) (cell : NewCell) : Type 0 where
+  pub headed : Headed ws (cell .head)
   pub lent-words : LentWords s words
   pub lent-floats : LentFloats s floats
   pub chained : Chained s words
-  pub behind : s .faces ≤ first
-  pub room : first + h .faces ≤ s .slots
-  pub cell : i < s .cells
-  pub position : h .at < 1048576
+  pub behind : s .faces ≤ cell .first
+  pub room : cell .first + cell .head .faces ≤ s .slots
+  pub below : cell .number < s .cells
+  pub position : cell .head .at < 1048576
 
--- cell i is stored; nothing of the cells before it has changed
-pub record CellStored (s : Sizes) (words words′ : List ℕ) (floats floats′ : List Float) (h : Head) (i first n : ℕ) (reference : Vec3) : Type 0 where
+-- the cell is stored; nothing of the cells before it has changed
+pub record CellStored (s : Sizes) (words words′ : List ℕ) (floats floats′ : List Float) (cell : NewCell) (n : ℕ) : Type 0 where
   pub chained : Chained (sized s n) words′
-  pub behind : n ≤ first + h .faces
-  pub position : cellWord s words′ i 0 ≡ h .at
-  pub start : cellWord s words′ i 1 ≡ first
-  pub count : cellWord s words′ i 2 ≡ h .faces
-  pub alone : cellWord s words′ i 3 ≡ 0
-  pub averaged : vecFrom floats′ (12 * s .slots + 4 * i) ≡ reference
-  pub lists-kept : (j : ℕ) → j < first → getD words′ (13 * s .slots + j) 0 ≡ getD words (13 * s .slots + j) 0
-  pub cells-kept : (j k : ℕ) → j < i → k < 4 → cellWord s words′ j k ≡ cellWord s words j k
-  pub floats-kept : (j : ℕ) → j < i → vecFrom floats′ (12 * s .slots + 4 * j) ≡ vecFrom floats (12 * s .slots + 4 * j)
+  pub behind : n ≤ cell .first + cell .head .faces
+  pub position : cellWord s words′ (cell .number) 0 ≡ cell .head .at
+  pub start : cellWord s words′ (cell .number) 1 ≡ cell .first
+  pub count : cellWord s words′ (cell .number) 2 ≡ cell .head .faces
+  pub alone : cellWord s words′ (cell .number) 3 ≡ 0
+  pub averaged : vecFrom floats′ (12 * s .slots + 4 * cell .number) ≡ cell .reference
+  pub lists-kept : (j : ℕ) → j < cell .first → getD words′ (13 * s .slots + j) 0 ≡ getD words (13 * s .slots + j) 0
+  pub cells-kept : (j k : ℕ) → j < cell .number → k < 4 → cellWord s words′ j k ≡ cellWord s words j k
+  pub floats-kept : (j : ℕ) → j < cell .number → vecFrom floats′ (12 * s .slots + 4 * j) ≡ vecFrom floats (12 * s .slots + 4 * j)
 
 -- `fill_cell`: the number of faces, or the first refusal of 13 and 14
-pub data CellFilling (d : ℕ) (ps : List Vec3) (ws : List ℕ) (reference : Vec3) (s : Sizes) (words words′ : List ℕ) (floats floats′ : List Float) (h : Head) (i first : ℕ) : Drafted → Type 0 where
-  filled : (n : ℕ) → addFaces d ps ws i reference (facesIn s words floats) h ≡ fine (growingIn (sized s n) words′ floats′ first (h .faces))
-      → CellStored s words words′ floats floats′ h i first n reference
-      → CellFilling d ps ws reference s words words′ floats floats′ h i first (Drafted.Faces n)
-  refusing : (k : ℕ) → addFaces d ps ws i reference (facesIn s words floats) h ≡ refused k
-      → CellFilling d ps ws reference s words words′ floats floats′ h i first (Drafted.Refused k)
+pub data CellFilling (d : ℕ) (ps : List Vec3) (ws : List ℕ) (cell : NewCell) (s : Sizes) (words words′ : List ℕ) (floats floats′ : List Float) : Drafted → Type 0 where
+  filled : (n : ℕ) → addFaces d ps ws cell (facesIn s words floats) ≡ fine (growingIn (sized s n) words′ floats′ (cell .first) (cell .head .faces))
+      → CellStored s words words′ floats floats′ cell n → CellFilling d ps ws cell s words words′ floats floats′ (Drafted.Faces n)
+  refusing : (k : ℕ) → addFaces d ps ws cell (facesIn s words floats) ≡ refused k → CellFilling d ps ws cell s words words′ floats floats′ (Drafted.Refused k)
+
+-- `new_cell`: cell i with the average of its points, or refusal 11 or 12; 3 where the definitions are wrong
+pub data CellFinding (d : ℕ) (ps : List Vec3) (ws : List ℕ) (i : ℕ) (p : Progress) : CellFound → Type 0 where
+  cell : (h : Head) (next : Cursor) (v : Vec3) → Record h next ≡ stepAt ws (p .at) → checked d ps (definitionAt ws (h .at)) ≡ fine v
+      → CellFinding d ps ws i p (CellFound.Cell (record { number = i; reference = v; head = h; first = p .first }) next)
+  refusing : (h : Head) (next : Cursor) (k : ℕ) → Record h next ≡ stepAt ws (p .at) → checked d ps (definitionAt ws (h .at)) ≡ refused k
+      → CellFinding d ps ws i p (CellFound.Refused k)
+  wrong : (k : ℕ) → Wrong k ≡ stepAt ws (p .at) → CellFinding d ps ws i p (CellFound.Refused k)
 
 -- ---- all cells
 

@@ -25,7 +25,7 @@ ghost use Rattle.mesh_area.specs.Layout.{pointsIn};
 ghost use Rattle.mesh_face_table.specs.Chains.{Chained};
 ghost use Rattle.mesh_faces.specs.Using.{sized};
 ghost use Rattle.mesh_cells.specs.Drafting.{Adding};
-ghost use Rattle.mesh_cells.specs.Steps.{Placeable, Placing, FaceReady, FaceAdding, FacesReady, FacesAdding, CellPut, CellReady, CellFilling, Addable, CellTurn, CellAdding};
+ghost use Rattle.mesh_cells.specs.Steps.{Placeable, Placing, FaceReady, FaceAdding, FacesReady, FacesAdding, CellPut, CellReady, CellFilling, CellFinding, Addable, CellTurn, CellAdding};
 
 // The number of faces in the table, or the refusal.
 pub enum Drafted {
@@ -55,6 +55,21 @@ struct Progress {
 
 enum CellAdded {
     Next(Progress),
+    Refused(u64),
+}
+
+// A cell that is added: its number, the average of its points, its record, and where the list of
+// its faces' numbers starts.
+struct NewCell {
+    pub number: usize,
+    pub reference: Vec3,
+    pub head: Head,
+    pub first: usize,
+}
+
+// The cell and where the next record starts, or the refusal.
+enum CellFound {
+    Cell(NewCell, Cursor),
     Refused(u64),
 }
 
@@ -89,20 +104,20 @@ fn place_face(
     words: &mut [u32],
     floats: &mut [f64],
     s: Sizes,
-    cell: usize,
-    reference: Vec3,
+    cell: NewCell,
     vertices: &mut [u32],
 ) -> FacePlaced
     requires { ⌜ Placeable s (now words) (now floats) (now vertices) cell × (points ≤ 65536)
         × (24 * points ≤ length (now case)) ⌝ }
-    ensures { λ r. ⌜ Placing dimension (pointsIn (now (case .entry)) points) cell reference s (now (words .entry))
+    ensures { λ r. ⌜ Placing dimension (pointsIn (now (case .entry)) points) cell s (now (words .entry))
         (now (words .exit)) (now (floats .entry)) (now (floats .exit)) (now (vertices .entry)) r ⌝ }
 {
+    let reference = cell.reference;
     let turned = mesh_geometry::oriented_face(dimension, case, points, vertices, reference);
     let TurnedFace::Face(g) = turned else {
         return FacePlaced::Refused(13);
     };
-    let added = mesh_faces::use_face(words, floats, s, cell, vertices, measured(g));
+    let added = mesh_faces::use_face(words, floats, s, cell.number, vertices, measured(g));
     match added {
         Added::New(f) => FacePlaced::Face(f, s.faces + 1),
         Added::Second(f) => FacePlaced::Face(f, s.faces),
@@ -119,18 +134,16 @@ fn add_face(
     words: &mut [u32],
     floats: &mut [f64],
     s: Sizes,
-    cell: usize,
-    reference: Vec3,
-    h: Head,
-    first: usize,
+    cell: NewCell,
     c: FaceCursor,
 ) -> FaceAdded
-    requires { ⌜ FaceReady (wordsIn (now ws)) s (now words) (now floats) h cell first c × (points ≤ 65536)
+    requires { ⌜ FaceReady (wordsIn (now ws)) s (now words) (now floats) cell c × (points ≤ 65536)
         × (24 * points ≤ length (now case)) ⌝ }
-    ensures { λ r. ⌜ FaceAdding dimension (pointsIn (now (case .entry)) points) (wordsIn (now (ws .entry))) cell
-        reference s (now (words .entry)) (now (words .exit)) (now (floats .entry)) (now (floats .exit)) h first c r ⌝ }
+    ensures { λ r. ⌜ FaceAdding dimension (pointsIn (now (case .entry)) points) (wordsIn (now (ws .entry))) cell s
+        (now (words .entry)) (now (words .exit)) (now (floats .entry)) (now (floats .exit)) c r ⌝ }
 {
     let mut vertices = [0u32; 8];
+    let h = cell.head;
     let copied = face_lists::copy_face(ws, h, c, &mut vertices);
     let count = copied.count;
     let placed = place_face(
@@ -141,13 +154,12 @@ fn add_face(
         floats,
         s,
         cell,
-        reference,
         &mut vertices[..count],
     );
     match placed {
         FacePlaced::Refused(k) => FaceAdded::Refused(k),
         FacePlaced::Face(f, n) => {
-            let at = 13 * s.slots + first + c.face;
+            let at = 13 * s.slots + cell.first + c.face;
             words[at] = narrow(f);
             let next = copied.next;
             FaceAdded::Next(next, n)
@@ -155,7 +167,7 @@ fn add_face(
     }
 }
 
-// All faces of the record; the cell's list of their numbers starts at `first`.
+// All faces of the cell.
 fn add_faces(
     case: &[u8],
     points: usize,
@@ -164,16 +176,14 @@ fn add_faces(
     words: &mut [u32],
     floats: &mut [f64],
     s: Sizes,
-    cell: usize,
-    reference: Vec3,
-    h: Head,
-    first: usize,
+    cell: NewCell,
 ) -> Drafted
-    requires { ⌜ FacesReady (wordsIn (now ws)) s (now words) (now floats) h cell first × (points ≤ 65536)
+    requires { ⌜ FacesReady (wordsIn (now ws)) s (now words) (now floats) cell × (points ≤ 65536)
         × (24 * points ≤ length (now case)) ⌝ }
-    ensures { λ r. ⌜ FacesAdding dimension (pointsIn (now (case .entry)) points) (wordsIn (now (ws .entry))) cell
-        reference s (now (words .entry)) (now (words .exit)) (now (floats .entry)) (now (floats .exit)) h first r ⌝ }
+    ensures { λ r. ⌜ FacesAdding dimension (pointsIn (now (case .entry)) points) (wordsIn (now (ws .entry))) cell s
+        (now (words .entry)) (now (words .exit)) (now (floats .entry)) (now (floats .exit)) r ⌝ }
 {
+    let h = cell.head;
     let mut n = s.faces;
     let mut c = face_lists::first_face(h);
     while c.face < h.faces {
@@ -182,20 +192,7 @@ fn add_faces(
             faces: n,
             cells: s.cells,
         };
-        let added = add_face(
-            case,
-            points,
-            dimension,
-            ws,
-            words,
-            floats,
-            t,
-            cell,
-            reference,
-            h,
-            first,
-            c,
-        );
+        let added = add_face(case, points, dimension, ws, words, floats, t, cell, c);
         match added {
             FaceAdded::Refused(k) => return Drafted::Refused(k),
             FaceAdded::Next(next, m) => {
@@ -236,7 +233,7 @@ fn put_cell(
     floats[f + 2] = reference.z;
 }
 
-// Cell i with its faces.
+// The cell with its faces.
 fn fill_cell(
     case: &[u8],
     points: usize,
@@ -245,39 +242,64 @@ fn fill_cell(
     words: &mut [u32],
     floats: &mut [f64],
     s: Sizes,
-    i: usize,
-    reference: Vec3,
-    h: Head,
-    first: usize,
+    cell: NewCell,
 ) -> Drafted
-    requires { ⌜ CellReady (wordsIn (now ws)) s (now words) (now floats) h i first × (points ≤ 65536)
+    requires { ⌜ CellReady (wordsIn (now ws)) s (now words) (now floats) cell × (points ≤ 65536)
         × (24 * points ≤ length (now case)) ⌝ }
-    ensures { λ r. ⌜ CellFilling dimension (pointsIn (now (case .entry)) points) (wordsIn (now (ws .entry))) reference s
-        (now (words .entry)) (now (words .exit)) (now (floats .entry)) (now (floats .exit)) h i first r ⌝ }
+    ensures { λ r. ⌜ CellFilling dimension (pointsIn (now (case .entry)) points) (wordsIn (now (ws .entry))) cell s
+        (now (words .entry)) (now (words .exit)) (now (floats .entry)) (now (floats .exit)) r ⌝ }
 {
+    let h = cell.head;
+    let reference = cell.reference;
     put_cell(
         words,
         floats,
         s,
-        i,
+        cell.number,
         narrow(h.at),
-        narrow(first),
+        narrow(cell.first),
         narrow(h.faces),
         reference,
     );
-    add_faces(
-        case,
-        points,
-        dimension,
-        ws,
-        words,
-        floats,
-        s,
-        i,
-        reference,
-        h,
-        first,
-    )
+    add_faces(case, points, dimension, ws, words, floats, s, cell)
+}
+
+// Cell i, whose record is the next one.
+fn new_cell(
+    case: &[u8],
+    points: usize,
+    dimension: usize,
+    ws: &[u8],
+    i: usize,
+    p: Progress,
+) -> CellFound
+    requires { ⌜ (points ≤ 65536) × (24 * points ≤ length (now case)) ⌝ }
+    ensures { λ r. ⌜ CellFinding dimension (pointsIn (now (case .entry)) points) (wordsIn (now (ws .entry))) i p r ⌝ }
+{
+    let at = p.at;
+    let step = walker::record_at(ws, Cursor { at });
+    match step {
+        // This does not come where the definitions are right (`Addable`).
+        Step::Wrong(k) => CellFound::Refused(k),
+        Step::Record(head, next) => {
+            let found = mesh_points::reference_of(dimension, case, points, ws, head);
+            match found {
+                Reference::Refused(k) => CellFound::Refused(k),
+                Reference::Point(reference) => {
+                    let first = p.first;
+                    CellFound::Cell(
+                        NewCell {
+                            number: i,
+                            reference,
+                            head,
+                            first,
+                        },
+                        next,
+                    )
+                }
+            }
+        }
+    }
 }
 
 // One cell more: the record at the cursor.
@@ -297,44 +319,23 @@ fn add_cell(
     ensures { λ r. ⌜ CellAdding dimension (pointsIn (now (case .entry)) points) (wordsIn (now (ws .entry))) s
         (now (words .exit)) (now (floats .exit)) i r ⌝ }
 {
-    let at = p.at;
-    let step = walker::record_at(ws, Cursor { at });
-    match step {
-        // This cannot come: the definitions are right (`Addable`).
-        Step::Wrong(k) => CellAdded::Refused(k),
-        Step::Record(h, next) => {
-            let found = mesh_points::reference_of(dimension, case, points, ws, h);
-            match found {
-                Reference::Refused(k) => CellAdded::Refused(k),
-                Reference::Point(reference) => {
-                    let first = p.first;
-                    let t = Sizes {
-                        slots: s.slots,
-                        faces: p.faces,
-                        cells: s.cells,
-                    };
-                    let filled = fill_cell(
-                        case,
-                        points,
-                        dimension,
-                        ws,
-                        words,
-                        floats,
-                        t,
-                        i,
-                        reference,
-                        h,
-                        first,
-                    );
-                    match filled {
-                        Drafted::Refused(k) => CellAdded::Refused(k),
-                        Drafted::Faces(n) => CellAdded::Next(Progress {
-                            at: next.at,
-                            first: first + h.faces,
-                            faces: n,
-                        }),
-                    }
-                }
+    let found = new_cell(case, points, dimension, ws, i, p);
+    match found {
+        CellFound::Refused(k) => CellAdded::Refused(k),
+        CellFound::Cell(cell, next) => {
+            let t = Sizes {
+                slots: s.slots,
+                faces: p.faces,
+                cells: s.cells,
+            };
+            let filled = fill_cell(case, points, dimension, ws, words, floats, t, cell);
+            match filled {
+                Drafted::Refused(k) => CellAdded::Refused(k),
+                Drafted::Faces(n) => CellAdded::Next(Progress {
+                    at: next.at,
+                    first: cell.first + cell.head.faces,
+                    faces: n,
+                }),
             }
         }
     }

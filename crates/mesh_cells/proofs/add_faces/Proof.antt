@@ -7,37 +7,34 @@ use Rattle.mesh_cells.proofs.add_faces.Statement.{statement}
 use Rattle.mesh_cells.proofs.add_faces.Tie as tie
 
 abbrev Inv-loop : tie.InvT-loop
-Inv-loop case points dimension ws words₀ floats₀ s cell reference h first n₀ c₀ words floats n c =
-    Going dimension (pointsIn case points) (wordsIn ws) cell reference s words₀ words floats₀ floats h first n c
+Inv-loop case points dimension ws words₀ floats₀ s cell h n₀ c₀ words floats n c =
+    Going dimension (pointsIn case points) (wordsIn ws) cell s words₀ words floats₀ floats n c
 
 abbrev μ-loop : tie.MeasureT-loop
-μ-loop case points dimension ws words₀ floats₀ s cell reference h first n₀ c₀ words floats n c = h .faces - c .face
+μ-loop case points dimension ws words₀ floats₀ s cell h n₀ c₀ words floats n c = cell .head .faces - c .face
 
 loop-holds : tie.Need-loop-holds Inv-loop μ-loop
-loop-holds c = going-start _ _ _ _ _ _ _ _ _ _ (c .before .before .before .before .before .pre .0) _ (c .first-face .ensures)
+loop-holds c = going-start _ _ _ _ _ _ _ (c .before .before .before .before .before .before .pre .0) _ (c .first-face .ensures)
 
 add-face-requires : tie.Need-add-face-requires Inv-loop μ-loop
 add-face-requires c κs =
-    let p = c .before .before .before .before .before .before .before .before .before .before .before .pre in
-    (going-ready _ _ _ _ _ _ _ _ _ _ (p .0) _ _ _ _ (c .before .before .before .before .before .loop .inv) (c .before .before .if1 .taken), p .1, p .2)
+    let p = c .before .before .before .before .before .before .before .before .before .before .before .before .pre in
+    (going-ready _ _ _ _ _ _ _ (p .0) _ _ _ _ (c .before .before .before .before .before .loop .inv) (c .before .before .if1 .taken), p .1, p .2)
 
 returns : tie.Need-returns Inv-loop μ-loop
 returns c =
-    let q = c .before .before .before .before .before .before .before in
-    going-refused _ _ _ _ _ _ _ _ _ _ (c .before .before .before .before .before .before .before .before .before .before .before .before .before .before .before .before .before .before .before .pre .0) _ _ _ _ (c .before .before .before .before .before .before .before .before .before .before .before .before .before .loop .inv) (c .before .before .before .before .before .before .before .before .before .before .if1 .taken) _ _ _ (q .add-face .ensures) _ (c .before .added .given .1)
+    going-refused _ _ _ _ _ _ _ (c .before .before .before .before .before .before .before .before .before .before .before .before .before .before .before .before .before .before .before .before .pre .0) _ _ _ _ (c .before .before .before .before .before .before .before .before .before .before .before .before .before .loop .inv) (c .before .before .before .before .before .before .before .before .before .before .if1 .taken) _ _ _ (c .before .before .before .before .before .before .before .add-face .ensures) _ (c .before .added .given .1)
 
 loop-less : tie.Need-loop-less Inv-loop μ-loop
 loop-less c =
-    let q = c .before .before .before .before .before .before .before in
-    going-less _ _ _ _ _ _ _ _ _ _ (c .before .before .before .before .before .before .before .before .before .before .before .before .before .before .before .before .before .before .before .pre .0) _ _ _ _ (c .before .before .before .before .before .before .before .before .before .before .before .before .before .loop .inv) (c .before .before .before .before .before .before .before .before .before .before .if1 .taken) _ _ _ (q .add-face .ensures) _ _ (c .before .added2 .given .1)
+    going-less _ _ _ _ _ _ _ (c .before .before .before .before .before .before .before .before .before .before .before .before .before .before .before .before .before .before .before .before .pre .0) _ _ _ _ (c .before .before .before .before .before .before .before .before .before .before .before .before .before .loop .inv) (c .before .before .before .before .before .before .before .before .before .before .if1 .taken) _ _ _ (c .before .before .before .before .before .before .before .add-face .ensures) _ _ (c .before .added2 .given .1)
 
 loop-again : tie.Need-loop-again Inv-loop μ-loop
 loop-again c =
-    let q = c .before .before .before .before .before .before .before in
-    going-next _ _ _ _ _ _ _ _ _ _ (c .before .before .before .before .before .before .before .before .before .before .before .before .before .before .before .before .before .before .before .pre .0) _ _ _ _ (c .before .before .before .before .before .before .before .before .before .before .before .before .before .loop .inv) (c .before .before .before .before .before .before .before .before .before .before .if1 .taken) _ _ _ (q .add-face .ensures) _ _ (c .before .added2 .given .1)
+    going-next _ _ _ _ _ _ _ (c .before .before .before .before .before .before .before .before .before .before .before .before .before .before .before .before .before .before .before .before .pre .0) _ _ _ _ (c .before .before .before .before .before .before .before .before .before .before .before .before .before .loop .inv) (c .before .before .before .before .before .before .before .before .before .before .if1 .taken) _ _ _ (c .before .before .before .before .before .before .before .add-face .ensures) _ _ (c .before .added2 .given .1)
 
 returns-2 : tie.Need-returns-2 Inv-loop μ-loop
-returns-2 c = going-done _ _ _ _ _ _ _ _ _ _ (c .before .before .before .before .before .before .before .before .before .pre .0) _ _ _ _ (c .before .before .before .loop .inv) (c .if1 .left)
+returns-2 c = going-done _ _ _ _ _ _ _ (c .before .before .before .before .before .before .before .before .before .before .pre .0) _ _ _ _ (c .before .before .before .loop .inv) (c .if1 .left)
 
 pub add-faces-spec : {M : Type 1} → statement M
 add-faces-spec =

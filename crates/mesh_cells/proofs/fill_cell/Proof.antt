@@ -5,13 +5,13 @@ use Rattle.mesh_cells.proofs.fill_cell.Tie as tie
 
 add-faces-requires : tie.Need-add-faces-requires
 add-faces-requires c κs =
-    let p = c .before .before .before .before .before .before .before .before .before .before .before .before .before .before .before .before .pre in
-    (cell-faces _ _ _ _ _ _ _ (p .0) _ _ _ _ _ _ (c .before .before .before .before .before .before .put-cell .ensures), p .1, p .2)
+    let p = c .before .before .before .before .before .before .before .before .before .before .before .before .before .before .before .before .before .before .pre in
+    (cell-faces _ _ _ _ _ (p .0) _ _ _ _ _ (c .before .before .before .before .before .before .put-cell .ensures), p .1, p .2)
 
 returns : tie.Need-returns
 returns c =
     let q = c .before .before .before .before .before .before .before .before .before .before .before in
-    cell-filled _ _ _ _ _ _ _ (c .before .before .before .before .before .before .before .before .before .before .before .before .before .before .before .before .before .before .before .before .before .pre .0) _ _ _ _ _ _ (q .put-cell .ensures) _ _ _ _ _ (q .before .before .before .narrow .ensures) (q .before .before .narrow2 .ensures) (q .before .narrow3 .ensures) (c .before .before .before .before .add-faces .ensures)
+    cell-filled _ _ _ _ _ (c .before .before .before .before .before .before .before .before .before .before .before .before .before .before .before .before .before .before .before .before .before .before .before .pre .0) _ _ _ _ _ (q .put-cell .ensures) _ _ _ _ _ (q .before .before .before .narrow .ensures) (q .before .before .narrow2 .ensures) (q .before .narrow3 .ensures) (c .before .before .before .before .add-faces .ensures)
 
 pub fill-cell-spec : {M : Type 1} → statement M
 fill-cell-spec =
