@@ -17,7 +17,7 @@ use Rattle.case_definitions.specs.Definitions.{Taken, numbers, counted, faceLis
 use Rattle.mesh_geometry.specs.Faces.{Oriented, enough, longEnough, faceAreaVector, measured, turnedIf, orientedFace}
 use Rattle.mesh_volumes.specs.declared.Weight.{Weight}
 use Rattle.mesh_volumes.specs.Geometry.{centre2D, fanOf, addFace3D, centre3D, geometryIn, cellGeometry}
-use Rattle.mesh_face_table.specs.declared.Measured.{Measured}
+use Rattle.mesh_geometry.specs.declared.FaceGeometry.{FaceGeometry}
 use Rattle.mesh_faces.specs.declared.Added.{Added}
 use Rattle.mesh_faces.specs.declared.Added.the-variants as Added
 use Rattle.mesh_faces.specs.Table.{placed, addFace}
@@ -119,7 +119,7 @@ module _ (d : ℕ) (ps : List Vec3) where
   placing (Added.Second i) fs = none
   placing Added.Third fs = due 14 refl
 
-  adding-one : (cell : ℕ) (l : List ℕ) (m : Measured) (fs : List Face) → Job (addFace cell l m fs)
+  adding-one : (cell : ℕ) (l : List ℕ) (m : FaceGeometry) (fs : List Face) → Job (addFace cell l m fs)
   unfolding addFace
   adding-one cell l m fs = placing _ _
 

@@ -18,7 +18,7 @@ use Rattle.reading.specs.Result.{fine}
 use Rattle.reading.proofs.ResultLaws.{bound, not-due, length-mapAll, steps-keep}
 use Rattle.case_definitions.specs.Faces.{Definition}
 use Rattle.mesh_area.specs.Tables.{Face, Cell, Mesh, faceAt, noFace, cellAt, noCell}
-use Rattle.mesh_face_table.specs.declared.Measured.{Measured}
+use Rattle.mesh_geometry.specs.declared.FaceGeometry.{FaceGeometry}
 use Rattle.mesh_faces.specs.Table.{faceWithKey, newFace, withNeighbour, joining, settled, adding, Placed, placed, addFace}
 use Rattle.mesh_cells.specs.Cells.{Growing, addFaceOf, Drafts, addCell, drafts}
 use Rattle.mesh_connection.specs.Neighbours.{otherOf, beyond, addFound, addNeighbour, neighboursOf, linkedAt, linked}
@@ -39,7 +39,7 @@ no-face-numbered : (n : ℕ) → 0 < n → Numbered n noFace
 no-face-numbered n h = record { owner = h; neighbour = tt }
 
 module _ (n cell : ℕ) (below : cell < n) where
-  new-numbered : (v : List ℕ) (m : Measured) → Numbered n (newFace cell v m)
+  new-numbered : (v : List ℕ) (m : FaceGeometry) → Numbered n (newFace cell v m)
   unfolding newFace
   new-numbered v m = record { owner = below; neighbour = tt }
 
@@ -47,7 +47,7 @@ module _ (n cell : ℕ) (below : cell < n) where
   unfolding withNeighbour
   second-numbered f h = record { owner = h .owner; neighbour = below }
 
-  module _ (v : List ℕ) (m : Measured) (fs : List Face) (p : Placed) (old : All (Numbered n) fs) where
+  module _ (v : List ℕ) (m : FaceGeometry) (fs : List Face) (p : Placed) (old : All (Numbered n) fs) where
     at : (i : ℕ) → Numbered n (faceAt fs i)
     unfolding faceAt
     at i = all-getD (Numbered n) fs i noFace (no-face-numbered n (omega arith)) old

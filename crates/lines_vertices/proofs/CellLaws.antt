@@ -15,7 +15,7 @@ use Rattle.mesh_area.specs.Tables.{Face, faceAt, noFace}
 use Rattle.case_definitions.specs.Faces.{Definition, facesOf}
 use Rattle.mesh_points.specs.Collect.{wrongKind, referenceOf}
 use Rattle.mesh_geometry.specs.Faces.{enough}
-use Rattle.mesh_face_table.specs.declared.Measured.{Measured}
+use Rattle.mesh_geometry.specs.declared.FaceGeometry.{FaceGeometry}
 use Rattle.mesh_faces.specs.Table.{Placed, addFace}
 use Rattle.mesh_cells.specs.Cells.{Growing, addFaceOf, measuredFrom, Draft, Drafts, addCell, drafts}
 use Rattle.lines_vertices.specs.Shapes.{keyIn, Turned, Later, Placing, Naming, Named, FacesNamed, Limited}
@@ -57,7 +57,7 @@ naming-next fs gs own ls l v n h p e =
 -- a face that was added: its vertices, its place in the table, and the numbers so far
 record FaceStep (d cell : ℕ) (g h : Growing) (l : List ℕ) : Type 0 where
   v : List ℕ
-  m : Measured
+  m : FaceGeometry
   p : Placed
   turns : Turned d l v
   placed : addFace cell v m (g .faces) ≡ fine p

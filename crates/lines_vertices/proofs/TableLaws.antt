@@ -18,7 +18,7 @@ use Rattle.mesh_area.specs.Tables.{Face, faceAt, noFace}
 use Rattle.mesh_geometry.specs.Faces.{enough, faceAreaVector, Oriented, faceWith, measured, inward, turnedIf, orientedFace}
 use Rattle.mesh_keys.proofs.OrderLaws.{sorted-reverse}
 use Rattle.mesh_keys.proofs.KeyLaws.{same-true}
-use Rattle.mesh_face_table.specs.declared.Measured.{Measured}
+use Rattle.mesh_geometry.specs.declared.FaceGeometry.{FaceGeometry}
 use Rattle.mesh_faces.specs.Table.{hasKey, faceWithKey, newFace, withNeighbour, joining, settled, adding, Placed, placed, addFace}
 use Rattle.mesh_faces.proofs.AnswerLaws.{first-below}
 use Rattle.lines_vertices.specs.Shapes.{keyIn, Turned, Later, Placing}
@@ -144,7 +144,7 @@ finds key fs i e =
 abbrev pub AllFaces : (List ℕ → Type 0) → List Face → Type 0
 AllFaces P fs = All (λ f. P (f .vertices)) fs
 
-module _ (cell : ℕ) (v : List ℕ) (m : Measured) (fs : List Face) (p : Placed) where
+module _ (cell : ℕ) (v : List ℕ) (m : FaceGeometry) (fs : List Face) (p : Placed) where
   Places : Result Placed → Type 0
   Places r = r ≡ fine p → Placing fs (p .faces) v (p .number)
 

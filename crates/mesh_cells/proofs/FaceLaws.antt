@@ -26,7 +26,6 @@ use Rattle.mesh_geometry.specs.declared.FaceGeometry.{FaceGeometry}
 use Rattle.mesh_geometry.specs.declared.TurnedFace.{TurnedFace}
 use Rattle.mesh_geometry.specs.declared.TurnedFace.the-variants as Turned
 use Rattle.mesh_points.proofs.CollectLaws.{copied-next}
-use Rattle.mesh_face_table.specs.declared.Measured.{Measured}
 use Rattle.mesh_faces.specs.Table.{Placed, placed, addFace}
 use Rattle.mesh_faces.specs.Using.{sized, after, Usable, Used}
 use Rattle.mesh_faces.specs.declared.Added.{Added}
@@ -53,8 +52,7 @@ module _ (d : ℕ) (ps : List Vec3) (cell : NewCell) (s : Sizes) (words : List �
       let o : orientedFace d ps (cell .reference) vertices ≡ refused 13 = sym (t .face) ∙ ap (faceOf vertices′) e in
       Steps.Placing.refusing 13 (λ g eg. rw o)
 
-  module _ (g : FaceGeometry) (e : r ≡ Turned.Face g) (m : Measured) (em : m ≡ record { centre = g .centre; area = g .area; normal = g .normal; «area_vector» = g .«area_vector» })
-      (words′ : List ℕ) (floats′ : List Float) (a : Added) (u : Used s words words′ floats floats′ vertices′ m (cell .number) a) where
+  module _ (g : FaceGeometry) (e : r ≡ Turned.Face g) (words′ : List ℕ) (floats′ : List Float) (a : Added) (u : Used s words words′ floats floats′ vertices′ g (cell .number) a) where
     abbrev own : Growing → Placed → Result Growing
     own w p = fine (record { faces = p .faces; own = w .own ++ p .number ∷ [] })
 
@@ -63,12 +61,12 @@ module _ (d : ℕ) (ps : List Vec3) (cell : NewCell) (s : Sizes) (words : List �
     unfolding addFaceOf faceOf measuredFrom addFace _>>=_
     whole w ew =
         let o : orientedFace d ps (cell .reference) vertices ≡ faceOf vertices′ (Turned.Face g) = sym (t .face) ∙ ap (faceOf vertices′) e in
-        rw (o, ew, ← em, ← u .answer, ← u .faces)
+        rw (o, ew, ← u .answer, ← u .faces)
 
     pub place-new : (f : ℕ) → a ≡ New f → Placing d ps cell s words words′ floats floats′ vertices (FacePlaced.Face f (s .faces + 1))
     unfolding placed _>>=_
     place-new f ea =
-        let n = new-number (cell .number) (facesIn s words floats) f vertices′ m (sym ea ∙ u .answer) in
+        let n = new-number (cell .number) (facesIn s words floats) f vertices′ g (sym ea ∙ u .answer) in
         Steps.Placing.placed f _ (λ l. rw ea at (whole (record { faces = facesIn s words floats; own = l }) refl))
         (record {
           chained = rw ea at (u .chained);
@@ -81,7 +79,7 @@ module _ (d : ℕ) (ps : List Vec3) (cell : NewCell) (s : Sizes) (words : List �
     pub place-second : (f : ℕ) → a ≡ Second f → Placing d ps cell s words words′ floats floats′ vertices (FacePlaced.Face f (s .faces))
     unfolding placed _>>=_
     place-second f ea =
-        let n = second-number (cell .number) (facesIn s words floats) f vertices′ m (sym ea ∙ u .answer) in
+        let n = second-number (cell .number) (facesIn s words floats) f vertices′ g (sym ea ∙ u .answer) in
         Steps.Placing.placed f _ (λ l. rw ea at (whole (record { faces = facesIn s words floats; own = l }) refl))
         (record {
           chained = rw ea at (u .chained);

@@ -8,11 +8,11 @@ use Rattle.case_definitions.specs.Faces.{Definition, facesOf}
 use Rattle.mesh_area.specs.Tables.{Face}
 use Rattle.mesh_geometry.specs.Faces.{Oriented, orientedFace}
 use Rattle.mesh_points.specs.Collect.{wrongKind, missing, referenceOf}
-use Rattle.mesh_face_table.specs.declared.Measured.{Measured}
+use Rattle.mesh_geometry.specs.declared.FaceGeometry.{FaceGeometry}
 use Rattle.mesh_faces.specs.Table.{Placed, addFace}
 
 -- what was measured of a face that is turned outward
-unfoldable pub measuredFrom : Oriented → Measured
+unfoldable pub measuredFrom : Oriented → FaceGeometry
 measuredFrom o = record { centre = o .centre; area = o .area; normal = o .normal; «area_vector» = o .areaVector }
 
 -- the face table, and the numbers of the present cell's faces so far

@@ -8,9 +8,7 @@ use case_definitions::Step;
 use case_definitions::face_lists;
 use case_definitions::walker;
 use mesh_area::Sizes;
-use mesh_face_table::Measured;
 use mesh_faces::Added;
-use mesh_geometry::FaceGeometry;
 use mesh_geometry::TurnedFace;
 use mesh_points::Reference;
 ghost use mathlib.Core.Path.{_≡_};
@@ -75,27 +73,6 @@ enum CellFound {
 
 // ---- the faces of a cell
 
-// What was measured of a face that is turned outward.
-fn measured(g: FaceGeometry) -> Measured
-    ensures { λ r. ⌜ r ≡ record {
-      centre = g .centre;
-      area = g .area;
-      normal = g .normal;
-      «area_vector» =
-          g .«area_vector»;
-    } ⌝ }
-{
-    let centre = g.centre;
-    let normal = g.normal;
-    let area_vector = g.area_vector;
-    Measured {
-        centre,
-        area: g.area,
-        normal,
-        area_vector,
-    }
-}
-
 // A face of the cell, turned outward, is added to the table, or gets its second cell.
 fn place_face(
     case: &[u8],
@@ -117,7 +94,7 @@ fn place_face(
     let TurnedFace::Face(g) = turned else {
         return FacePlaced::Refused(13);
     };
-    let added = mesh_faces::use_face(words, floats, s, cell.number, vertices, measured(g));
+    let added = mesh_faces::use_face(words, floats, s, cell.number, vertices, g);
     match added {
         Added::New(f) => FacePlaced::Face(f, s.faces + 1),
         Added::Second(f) => FacePlaced::Face(f, s.faces),

@@ -17,7 +17,7 @@ use Rattle.arith.specs.Records.{part, patch, chunk, tab}
 use Rattle.arith.proofs.RecordLaws.{chunk-other, length-chunk, getD-chunk, length-part, getD-puts-at, take-drop-take, same-below}
 use Rattle.mesh_area.specs.Layout.{faceIn, listAt, vecFrom}
 use Rattle.mesh_keys.proofs.KeyLaws.{sorted-front}
-use Rattle.mesh_face_table.specs.declared.Measured.{Measured}
+use Rattle.mesh_geometry.specs.declared.FaceGeometry.{FaceGeometry}
 use Rattle.mesh_face_table.specs.Records.{Body, bodyOf, bodyIn, measuredOf, measuredIn, faceOf, headIn, fresh, joined, freshAt, floatsOf}
 
 -- ---- a run of stores
@@ -123,7 +123,7 @@ body-fresh r vertices cell link long few =
 
 -- ---- the floats of a face
 
-measured-put : (r : List Float) (m : Measured) → length r ≡ 12 → measuredOf (sets r 0 (floatsOf m)) ≡ m
+measured-put : (r : List Float) (m : FaceGeometry) → length r ≡ 12 → measuredOf (sets r 0 (floatsOf m)) ≡ m
 unfolding measuredOf vecFrom
 measured-put r m long =
     rw (
@@ -187,7 +187,7 @@ module _ (w vertices : List ℕ) (at cell link : ℕ) (few : length vertices ≤
   fresh-back m e =
       back w _ m at fresh-before (fresh-drop (at + 12) (omega arith)) (fresh-part ∙ sym (rw (add-sub-cancel-left at 12) at e))
 
-module _ (fl : List Float) (at : ℕ) (m : Measured) where
+module _ (fl : List Float) (at : ℕ) (m : FaceGeometry) where
   measured-plus : sets fl at (floatsOf m) ≡ sets fl (at + 0) (floatsOf m)
   measured-plus = let z : at + 0 ≡ at = omega arith in rw z
 
@@ -212,7 +212,7 @@ pub record FaceStored (w w′ : List ℕ) (f : ℕ) (body : Body) : Type 0 where
   pub rest : drop (12 * f + 12) w′ ≡ drop (12 * f + 12) w
 
 -- the floats of face f alike
-pub record MeasuredStored (fl fl′ : List Float) (f : ℕ) (m : Measured) : Type 0 where
+pub record MeasuredStored (fl fl′ : List Float) (f : ℕ) (m : FaceGeometry) : Type 0 where
   pub here : measuredIn fl′ f ≡ m
   pub others : (j : ℕ) → j ≢ f → measuredIn fl′ j ≡ measuredIn fl j
   pub rest : drop (12 * f + 12) fl′ ≡ drop (12 * f + 12) fl
@@ -248,7 +248,7 @@ other-stored w w′ i x room long e =
       rest = ea;
     }
 
-pub measured-stored : (fl fl′ : List Float) (i : ℕ) (m : Measured) → 12 * i + 12 ≤ length fl → fl′ ≡ sets fl (12 * i) (floatsOf m) → MeasuredStored fl fl′ i m
+pub measured-stored : (fl fl′ : List Float) (i : ℕ) (m : FaceGeometry) → 12 * i + 12 ≤ length fl → fl′ ≡ sets fl (12 * i) (floatsOf m) → MeasuredStored fl fl′ i m
 unfolding measuredIn
 measured-stored fl fl′ i m room e =
     let eb : take (12 * i) fl′ ≡ take (12 * i) fl = rw e (measured-before fl (12 * i) m) in

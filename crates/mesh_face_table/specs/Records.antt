@@ -7,7 +7,7 @@ use lib.Ieee.{Float, nan}
 use Rattle.arith.specs.Records.{tab, part, chunk}
 use Rattle.mesh_area.specs.Tables.{Face}
 use Rattle.mesh_area.specs.Layout.{vecFrom, found}
-use Rattle.mesh_face_table.specs.declared.Measured.{Measured}
+use Rattle.mesh_geometry.specs.declared.FaceGeometry.{FaceGeometry}
 
 -- ---- one record
 
@@ -33,14 +33,14 @@ unfoldable pub bodyIn : List ℕ → ℕ → Body
 bodyIn w f = bodyOf (chunk w 12 f)
 
 -- the twelve floats of a face, of which ten are used
-unfoldable pub measuredOf : List Float → Measured
+unfoldable pub measuredOf : List Float → FaceGeometry
 measuredOf r = record { centre = vecFrom r 0; area = getD r 3 nan; normal = vecFrom r 4; «area_vector» = vecFrom r 7 }
 
-unfoldable pub measuredIn : List Float → ℕ → Measured
+unfoldable pub measuredIn : List Float → ℕ → FaceGeometry
 measuredIn fl f = measuredOf (chunk fl 12 f)
 
 -- the face that they hold
-unfoldable pub faceOf : Body → Measured → Face
+unfoldable pub faceOf : Body → FaceGeometry → Face
 faceOf b m =
     record {
       vertices = b .vertices;
@@ -74,7 +74,7 @@ unfoldable pub freshAt : List ℕ → ℕ → List ℕ → ℕ → ℕ → List 
 freshAt w at vertices cell link = sets (sets w at (length vertices ∷ vertices)) (at + 9) (cell ∷ 0 ∷ link ∷ [])
 
 -- what was measured of a face, in the order of its floats
-abbrev pub floatsOf : Measured → List Float
+abbrev pub floatsOf : FaceGeometry → List Float
 floatsOf m =
     m .centre .x ∷ m .centre .y ∷ m .centre .z ∷ m .area ∷ m .normal .x ∷ m .normal .y ∷ m .normal .z
     ∷ m .«area_vector» .x ∷ m .«area_vector» .y ∷ m .«area_vector» .z ∷ []

@@ -1,7 +1,7 @@
 // The records of the face table in the lent area, and a face found by the chain of its bucket.
-use arith::Vec3;
 use arith::number::narrow;
 use arith::number::wide;
+use mesh_geometry::FaceGeometry;
 ghost use mathlib.Core.Path.{_≡_};
 ghost use Prim.Native.Nat.{_+_, _*_, _≤_, _<_};
 ghost use lib.ListN.{length, getD, set};
@@ -10,14 +10,6 @@ ghost use Rattle.arith.specs.Lists as Lists;
 ghost use Rattle.arith.specs.Lists.{sorted};
 ghost use Rattle.mesh_face_table.specs.Records.{bodyOf, bodyIn, headIn, freshAt, floatsOf};
 ghost use Rattle.mesh_face_table.specs.Chains.{last, keyAt, Searchable};
-
-// What was measured of a face: its centre, its area, its unit normal and its area vector.
-pub struct Measured {
-    pub centre: Vec3,
-    pub area: f64,
-    pub normal: Vec3,
-    pub area_vector: Vec3,
-}
 
 // ---- one record of 12 words, of 12 floats
 
@@ -49,7 +41,7 @@ fn put_face(r: &mut [u32], vertices: &[u32], cell: u32, link: u32)
     r[11] = link;
 }
 
-fn put_measured(r: &mut [f64], m: Measured)
+fn put_measured(r: &mut [f64], m: FaceGeometry)
     requires { ⌜ length (now r) ≡ 12 ⌝ }
     ensures { λ _. ⌜ now (r .exit) ≡ sets (now (r .entry)) 0 (floatsOf m) ⌝ }
 {
@@ -86,7 +78,7 @@ pub fn store_other(words: &mut [u32], f: usize, other: u32)
 }
 
 // What was measured of face f.
-pub fn store_measured(floats: &mut [f64], f: usize, m: Measured)
+pub fn store_measured(floats: &mut [f64], f: usize, m: FaceGeometry)
     requires { ⌜ 12 * f + 12 ≤ length (now floats) ⌝ }
     ensures { λ _. ⌜ now (floats .exit) ≡ sets (now (floats .entry)) (12 * f) (floatsOf m) ⌝ }
 {

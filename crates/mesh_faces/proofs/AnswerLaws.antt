@@ -10,7 +10,7 @@ use Rattle.arith.specs.declared.Found.{Found}
 use Rattle.arith.specs.declared.Found.the-variants.{At, Nothing}
 use Rattle.mesh_area.specs.Tables.{Face, faceAt}
 use Rattle.mesh_keys.proofs.OrderLaws.{sorted-reverse}
-use Rattle.mesh_face_table.specs.declared.Measured.{Measured}
+use Rattle.mesh_geometry.specs.declared.FaceGeometry.{FaceGeometry}
 use Rattle.mesh_faces.specs.Table.{hasKey, faceWithKey, joining, settled, adding}
 use Rattle.mesh_faces.specs.declared.Added.the-variants.{New, Second}
 
@@ -39,7 +39,7 @@ module _ (cell : ℕ) (fs : List Face) (i : ℕ) where
   joins-there Nothing k e = cc
   joins-there (At n) k e = cc
 
-  module _ (vertices : List ℕ) (m : Measured) where
+  module _ (vertices : List ℕ) (m : FaceGeometry) where
     settles-new : (r : Found) → New i ≡ settled r cell vertices m fs .answer → i ≡ length fs
     unfolding settled
     settles-new Nothing e = cc

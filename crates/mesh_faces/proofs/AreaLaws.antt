@@ -14,7 +14,7 @@ use Rattle.mesh_area.specs.Tables.{Face, faceAt}
 use Rattle.mesh_area.specs.Layout.{facesIn, faceIn, meshWords, meshFloats, LentWords, LentFloats}
 use Rattle.mesh_area.specs.declared.Sizes.{Sizes}
 use Rattle.mesh_area.proofs.LayoutLaws.{face-in, length-listAt}
-use Rattle.mesh_face_table.specs.declared.Measured.{Measured}
+use Rattle.mesh_geometry.specs.declared.FaceGeometry.{FaceGeometry}
 use Rattle.mesh_keys.specs.Keys.{total}
 use Rattle.mesh_face_table.specs.Records.{bodyOf, bodyIn, measuredOf, measuredIn, faceOf, tableIn, headIn, freshAt, floatsOf}
 use Rattle.mesh_face_table.specs.Chains.{last, bucketOf, Chains, Chained}
@@ -57,7 +57,7 @@ module _ (slots : ℕ) (vertices : List ℕ) (cell : ℕ) (w : List ℕ) (few : 
   words-behind (Second f) low = drop-set-lt e w (12 * f + 10) (cell + 1) (omega arith)
   words-behind Third low = refl
 
-module _ (slots : ℕ) (m : Measured) (fl : List Float) (e : ℕ) (h : 12 * slots ≤ e) where
+module _ (slots : ℕ) (m : FaceGeometry) (fl : List Float) (e : ℕ) (h : 12 * slots ≤ e) where
   pub floats-front : (r : Added) → storedAt r < slots → take e (floatsAfter r m fl) ≡ floatsAfter r m (take e fl)
   unfolding floatsAfter
   floats-front (New f) low = sets-front e (floatsOf m) fl (12 * f) (omega arith)
@@ -91,7 +91,7 @@ module _ (s : Sizes) (words : List ℕ) (floats : List Float) (vertices : List �
         short = u .short;
       }
 
-  module _ (mw : List ℕ) (mf : List Float) (m : Measured) (r : Added)
+  module _ (mw : List ℕ) (mf : List Float) (m : FaceGeometry) (r : Added)
       (lw : length mw ≡ length (take (16 * s .slots + 8 * s .cells) words)) (lf : length mf ≡ length (take (12 * s .slots + 4 * s .cells) floats))
       (st : Settled (take (16 * s .slots + 8 * s .cells) words) mw (take (12 * s .slots + 4 * s .cells) floats) mf (s .slots) (s .faces) vertices m c r) where
     before : facesIn s words floats ≡ tableIn (take (16 * s .slots + 8 * s .cells) words) (take (12 * s .slots + 4 * s .cells) floats) (s .faces)

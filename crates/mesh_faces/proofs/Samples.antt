@@ -7,7 +7,7 @@ use Rattle.arith.specs.Vec.{origin}
 use Rattle.arith.specs.Lists.{fold, insertBefore, sort, sorted, same, firstFrom}
 use Rattle.mesh_area.specs.Tables.{Face, faceAt}
 use Rattle.reading.specs.Result.{refused}
-use Rattle.mesh_face_table.specs.declared.Measured.{Measured}
+use Rattle.mesh_geometry.specs.declared.FaceGeometry.{FaceGeometry}
 use Rattle.mesh_faces.specs.Table.{hasKey, faceWithKey, newFace, withNeighbour, joining, settled, adding, placed, addFace}
 use Rattle.mesh_faces.specs.declared.Added.the-variants.{New, Second}
 
@@ -15,7 +15,7 @@ computing : ℕ
 unfolding fold insertBefore sort sorted same firstFrom faceAt hasKey faceWithKey newFace withNeighbour joining settled adding placed addFace
 computing = 0
 
-flat : Measured
+flat : FaceGeometry
 flat = record { centre = origin; area = 0·0; normal = origin; «area_vector» = origin }
 
 one : List Face

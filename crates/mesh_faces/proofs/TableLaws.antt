@@ -21,7 +21,7 @@ use Rattle.mesh_area.specs.Tables.{Face, faceAt, noFace}
 use Rattle.mesh_area.proofs.LayoutLaws.{found-none, found-one}
 use Rattle.mesh_keys.specs.Keys.{total}
 use Rattle.mesh_keys.proofs.KeyLaws.{same-true, same-self}
-use Rattle.mesh_face_table.specs.declared.Measured.{Measured}
+use Rattle.mesh_geometry.specs.declared.FaceGeometry.{FaceGeometry}
 use Rattle.mesh_face_table.specs.Records.{Body, bodyOf, bodyIn, measuredIn, faceOf, tableIn, headIn, fresh, joined, freshAt, floatsOf}
 use Rattle.mesh_face_table.specs.Chains.{last, bucketOf, inBucket, keyAt, Chains}
 use Rattle.mesh_face_table.proofs.Last.{last-hit, last-miss, last-same, last-passes, last-none}
@@ -49,11 +49,11 @@ rest-at w w′ b i h le =
 
 -- ---- one face more
 
-face-new : (vertices : List ℕ) (m : Measured) (cell link : ℕ) → faceOf (fresh vertices cell link) m ≡ newFace cell vertices m
+face-new : (vertices : List ℕ) (m : FaceGeometry) (cell link : ℕ) → faceOf (fresh vertices cell link) m ≡ newFace cell vertices m
 unfolding faceOf newFace
 face-new vertices m cell link = rw (← found-none 0 refl)
 
-module _ (w w₁ w₂ : List ℕ) (fl fl′ : List Float) (slots n s link place : ℕ) (vertices : List ℕ) (m : Measured) (cell : ℕ)
+module _ (w w₁ w₂ : List ℕ) (fl fl′ : List Float) (slots n s link place : ℕ) (vertices : List ℕ) (m : FaceGeometry) (cell : ℕ)
     (rd : Ready w fl slots n vertices cell) (es : s ≡ total vertices) (el : link ≡ headIn w slots (s % slots))
     (ef : w₁ ≡ freshAt w (12 * n) vertices cell link) (long : length w₁ ≡ length w) (ep : place ≡ n)
     (h : w₂ ≡ set w₁ (12 * slots + s % slots) (place + 1)) (eg : fl′ ≡ sets fl (12 * n) (floatsOf m)) where
@@ -187,7 +187,7 @@ tab-put f g (suc n) i v l e h = by (eq-or-lt-of-le (le-of-suc-le-suc l)) (tab-pu
     by (inr lt) r =
         rw (set-append-left (tab f n) (f n ∷ []) i v (rw (length-tab f n) lt), r lt e h, h n (λ p. lt-irrefl n (subst (λ (m : ℕ). m < n) (sym p) lt)))
 
-face-joined : (b : Body) (m : Measured) (cell : ℕ) → faceOf (joined b (cell + 1)) m ≡ withNeighbour cell (faceOf b m)
+face-joined : (b : Body) (m : FaceGeometry) (cell : ℕ) → faceOf (joined b (cell + 1)) m ≡ withNeighbour cell (faceOf b m)
 unfolding faceOf withNeighbour
 face-joined b m cell =
     let nz : cell + 1 ≡ 0 → ⊥ = omega arith in
@@ -274,7 +274,7 @@ lookup-one w fl slots n key i ch e low =
 
 -- ---- the three answers
 
-pub is-new : (w w′ : List ℕ) (fl fl′ : List Float) (slots n : ℕ) (vertices : List ℕ) (m : Measured) (cell at : ℕ)
+pub is-new : (w w′ : List ℕ) (fl fl′ : List Float) (slots n : ℕ) (vertices : List ℕ) (m : FaceGeometry) (cell at : ℕ)
     → at ≡ last (keyAt (bodyIn w) (sorted vertices)) n → at ≡ 0 → n < slots → Extended w w′ fl fl′ slots n vertices m cell
     → Settled w w′ fl fl′ slots n vertices m cell (New n)
 unfolding adding settled
@@ -283,7 +283,7 @@ is-new w w′ fl fl′ slots n vertices m cell at el ez low x =
     let e : faceWithKey (sorted vertices) (tableIn w fl n) ≡ Nothing = lookup-none w fl n (sorted vertices) z in
     record { answer = rw (e, length-table w fl n); faces = x .faces ∙ rw e; chains = x .chains z; words-left = x .words-left; floats-left = x .floats-left; low = low }
 
-module _ (w : List ℕ) (fl : List Float) (slots n : ℕ) (vertices : List ℕ) (m : Measured) (cell at : ℕ)
+module _ (w : List ℕ) (fl : List Float) (slots n : ℕ) (vertices : List ℕ) (m : FaceGeometry) (cell at : ℕ)
     (el : at ≡ last (keyAt (bodyIn w) (sorted vertices)) n) (nz : at ≡ 0 → ⊥) (le : at ≤ n) (rd : Ready w fl slots n vertices cell) where
   low-face : at - 1 < n
   low-face = omega arith

@@ -8,7 +8,7 @@ use Rattle.arith.specs.declared.Found.{Found}
 use Rattle.arith.specs.declared.Found.the-variants.{At, Nothing}
 use Rattle.mesh_area.specs.Tables.{Face, faceAt}
 use Rattle.reading.specs.Result.{Result, refused, fine}
-use Rattle.mesh_face_table.specs.declared.Measured.{Measured}
+use Rattle.mesh_geometry.specs.declared.FaceGeometry.{FaceGeometry}
 use Rattle.mesh_faces.specs.declared.Added.{Added}
 use Rattle.mesh_faces.specs.declared.Added.the-variants.{New, Second, Third}
 
@@ -21,7 +21,7 @@ unfoldable pub faceWithKey : List ℕ → List Face → Found
 faceWithKey key fs = firstFrom (hasKey key) 0 fs
 
 -- "A face has the first cell as owner, the second as neighbour": a face of one cell
-unfoldable pub newFace : ℕ → List ℕ → Measured → Face
+unfoldable pub newFace : ℕ → List ℕ → FaceGeometry → Face
 newFace cell vertices m =
     record {
       vertices = vertices;
@@ -57,12 +57,12 @@ joining Nothing cell fs i = record { faces = set fs i (withNeighbour cell (faceA
 joining (At n) cell fs i = record { faces = fs; answer = Third }
 
 -- by what the lookup found: a new face, or one that is there
-unfoldable pub settled : Found → ℕ → List ℕ → Measured → List Face → Grown
+unfoldable pub settled : Found → ℕ → List ℕ → FaceGeometry → List Face → Grown
 settled Nothing cell vertices m fs = record { faces = fs ++ newFace cell vertices m ∷ []; answer = New (length fs) }
 settled (At i) cell vertices m fs = joining (faceAt fs i .neighbour) cell fs i
 
 -- a cell uses a face: its vertices, turned outward, and what was measured of it
-unfoldable pub adding : ℕ → List ℕ → Measured → List Face → Grown
+unfoldable pub adding : ℕ → List ℕ → FaceGeometry → List Face → Grown
 adding cell vertices m fs = settled (faceWithKey (sorted vertices) fs) cell vertices m fs
 
 -- ---- the answer's cases, with 01's number
@@ -78,5 +78,5 @@ placed (New i) fs = fine (record { faces = fs; number = i })
 placed (Second i) fs = fine (record { faces = fs; number = i })
 placed Third fs = refused 14
 
-unfoldable pub addFace : ℕ → List ℕ → Measured → List Face → Result Placed
+unfoldable pub addFace : ℕ → List ℕ → FaceGeometry → List Face → Result Placed
 addFace cell vertices m fs = let g = adding cell vertices m fs in placed (g .answer) (g .faces)

@@ -8,7 +8,7 @@ use lib.Ieee.{Float}
 use Rattle.arith.specs.Lists.{sorted}
 use Rattle.mesh_area.specs.Layout.{facesIn, LentWords, LentFloats}
 use Rattle.mesh_area.specs.declared.Sizes.{Sizes}
-use Rattle.mesh_face_table.specs.declared.Measured.{Measured}
+use Rattle.mesh_geometry.specs.declared.FaceGeometry.{FaceGeometry}
 use Rattle.mesh_face_table.specs.Records.{bodyIn, tableIn, headIn, freshAt, floatsOf}
 use Rattle.mesh_face_table.specs.Chains.{last, bucketOf, keyAt, Chains, Chained}
 use Rattle.mesh_faces.specs.Table.{newFace, adding}
@@ -33,13 +33,13 @@ wordsAfter (Second f) slots vertices cell w = set w (12 * f + 10) (cell + 1)
 wordsAfter Third slots vertices cell w = w
 
 -- the floats: what was measured of a new face
-unfoldable pub floatsAfter : Added → Measured → List Float → List Float
+unfoldable pub floatsAfter : Added → FaceGeometry → List Float → List Float
 floatsAfter (New f) m fl = sets fl (12 * f) (floatsOf m)
 floatsAfter (Second f) m fl = fl
 floatsAfter Third m fl = fl
 
 -- one face more
-pub record Extended (w w′ : List ℕ) (fl fl′ : List Float) (slots n : ℕ) (vertices : List ℕ) (m : Measured) (cell : ℕ) : Type 0 where
+pub record Extended (w w′ : List ℕ) (fl fl′ : List Float) (slots n : ℕ) (vertices : List ℕ) (m : FaceGeometry) (cell : ℕ) : Type 0 where
   pub faces : tableIn w′ fl′ (n + 1) ≡ tableIn w fl n ++ newFace cell vertices m ∷ []
   pub chains : last (keyAt (bodyIn w) (sorted vertices)) n ≡ 0 → Chains w′ slots (n + 1)
   pub words-left : w′ ≡ wordsAfter (New n) slots vertices cell w
@@ -58,7 +58,7 @@ storedAt (Second f) = f
 storedAt Third = 0
 
 -- what the use of a face leaves
-pub record Settled (w w′ : List ℕ) (fl fl′ : List Float) (slots n : ℕ) (vertices : List ℕ) (m : Measured) (cell : ℕ) (r : Added) : Type 0 where
+pub record Settled (w w′ : List ℕ) (fl fl′ : List Float) (slots n : ℕ) (vertices : List ℕ) (m : FaceGeometry) (cell : ℕ) (r : Added) : Type 0 where
   pub answer : r ≡ adding cell vertices m (tableIn w fl n) .answer
   pub faces : tableIn w′ fl′ (after r n) ≡ adding cell vertices m (tableIn w fl n) .faces
   pub chains : Chains w′ slots (after r n)
@@ -81,7 +81,7 @@ pub record Usable (s : Sizes) (words : List ℕ) (floats : List Float) (vertices
   pub cells-few : cell < 16384
 
 -- the answer, the table by its definition, and every word and float of the area: those from 13 F and 12 F on are as they were
-pub record Used (s : Sizes) (words words′ : List ℕ) (floats floats′ : List Float) (vertices : List ℕ) (m : Measured) (cell : ℕ) (r : Added) : Type 0 where
+pub record Used (s : Sizes) (words words′ : List ℕ) (floats floats′ : List Float) (vertices : List ℕ) (m : FaceGeometry) (cell : ℕ) (r : Added) : Type 0 where
   pub answer : r ≡ adding cell vertices m (facesIn s words floats) .answer
   pub faces : facesIn (sized s (after r (s .faces))) words′ floats′ ≡ adding cell vertices m (facesIn s words floats) .faces
   pub chained : Chained (sized s (after r (s .faces))) words′

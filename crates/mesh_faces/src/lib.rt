@@ -1,7 +1,7 @@
 // The use of a face by a cell, over the face table of `from_cells` in the lent area.
 use arith::number::narrow;
 use mesh_area::Sizes;
-use mesh_face_table::Measured;
+use mesh_geometry::FaceGeometry;
 ghost use mathlib.Core.Path.{_≡_};
 ghost use Prim.Native.Nat.{_*_};
 ghost use lib.ListN.{replicate};
@@ -25,7 +25,7 @@ fn add(
     slots: usize,
     n: usize,
     vertices: &[u32],
-    m: Measured,
+    m: FaceGeometry,
     cell: u32,
 )
     requires { ⌜ Ready (now words) (now floats) slots n (now vertices) cell ⌝ }
@@ -46,7 +46,7 @@ fn settle(
     slots: usize,
     n: usize,
     vertices: &[u32],
-    m: Measured,
+    m: FaceGeometry,
     cell: u32,
 ) -> Added
     requires { ⌜ Ready (now words) (now floats) slots n (now vertices) cell ⌝ }
@@ -75,7 +75,7 @@ pub fn use_face(
     s: Sizes,
     cell: usize,
     vertices: &[u32],
-    m: Measured,
+    m: FaceGeometry,
 ) -> Added
     requires { ⌜ Usable s (now words) (now floats) (now vertices) cell ⌝ }
     ensures { λ r. ⌜ Used s (now (words .entry)) (now (words .exit)) (now (floats .entry)) (now (floats .exit))

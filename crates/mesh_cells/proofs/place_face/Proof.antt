@@ -8,22 +8,22 @@ returns : tie.Need-returns
 returns c = place-degenerate _ _ _ _ _ _ _ _ _ (c .before .before .before .before .oriented-face .ensures) (c .enum-told .given .1)
 
 use-face-requires : tie.Need-use-face-requires
-use-face-requires c κs = usable _ _ _ _ _ _ (c .before .before .before .before .before .before .before .before .before .before .before .before .before .before .before .before .pre .0) (c .before .before .before .before .before .before .before .before .before .oriented-face .kept .1 .1 .1 .0)
+use-face-requires c κs = usable _ _ _ _ _ _ (c .before .before .before .before .before .before .before .before .before .before .before .before .before .before .before .pre .0) (c .before .before .before .before .before .before .before .before .oriented-face .kept .1 .1 .1 .0)
 
-add-t25 : tie.Need-add-t25
-add-t25 c = let p = c .before .before .before .before .before .before .before .before .before .before .before .before .before .before .before .before .before .before .before .before .before .before .before .before .before .pre .0 in omega (arith, p .space, p .lent-words .few-slots)
+add-t24 : tie.Need-add-t24
+add-t24 c = let p = c .before .before .before .before .before .before .before .before .before .before .before .before .before .before .before .before .before .before .before .before .before .before .before .before .pre .0 in omega (arith, p .space, p .lent-words .few-slots)
 
 returns-2 : tie.Need-returns-2
 returns-2 c =
-    place-new _ _ _ _ _ _ _ _ _ (c .before .before .before .before .before .before .before .before .before .before .before .before .before .before .before .before .before .before .oriented-face .ensures) _ (c .before .before .before .before .before .before .before .before .before .before .before .before .before .before .turned .given .1) _ (c .before .before .before .before .before .before .before .before .before .measured .ensures) _ _ _ (c .before .before .before .before .before .before .before .before .use-face .ensures) _ (c .before .before .added .given .1)
+    place-new _ _ _ _ _ _ _ _ _ (c .before .before .before .before .before .before .before .before .before .before .before .before .before .before .before .before .before .oriented-face .ensures) _ (c .before .before .before .before .before .before .before .before .before .before .before .before .before .turned .given .1) _ _ _ (c .before .before .before .before .before .before .before .before .use-face .ensures) _ (c .before .before .added .given .1)
 
 returns-3 : tie.Need-returns-3
 returns-3 c =
-    place-second _ _ _ _ _ _ _ _ _ (c .before .before .before .before .before .before .before .before .before .before .before .before .before .before .before .before .before .oriented-face .ensures) _ (c .before .before .before .before .before .before .before .before .before .before .before .before .before .turned .given .1) _ (c .before .before .before .before .before .before .before .before .measured .ensures) _ _ _ (c .before .before .before .before .before .before .before .use-face .ensures) _ (c .before .added2 .given .1)
+    place-second _ _ _ _ _ _ _ _ _ (c .before .before .before .before .before .before .before .before .before .before .before .before .before .before .before .before .oriented-face .ensures) _ (c .before .before .before .before .before .before .before .before .before .before .before .before .turned .given .1) _ _ _ (c .before .before .before .before .before .before .before .use-face .ensures) _ (c .before .added2 .given .1)
 
 returns-4 : tie.Need-returns-4
 returns-4 c =
-    place-third _ _ _ _ _ _ _ _ _ (c .before .before .before .before .before .before .before .before .before .before .before .before .before .before .before .before .oriented-face .ensures) _ (c .before .before .before .before .before .before .before .before .before .before .before .before .turned .given .1) _ (c .before .before .before .before .before .before .before .measured .ensures) _ _ _ (c .before .before .before .before .before .before .use-face .ensures) (c .enum-told2 .given .1)
+    place-third _ _ _ _ _ _ _ _ _ (c .before .before .before .before .before .before .before .before .before .before .before .before .before .before .before .oriented-face .ensures) _ (c .before .before .before .before .before .before .before .before .before .before .before .turned .given .1) _ _ _ (c .before .before .before .before .before .before .use-face .ensures) (c .enum-told2 .given .1)
 
 pub place-face-spec : {M : Type 1} → statement M
 place-face-spec =
@@ -34,10 +34,9 @@ place-face-spec =
     (λ c. search needs)
     (λ c. search needs)
     returns
-    (λ c κs. search needs)
     use-face-requires
     (λ c. search needs)
-    add-t25
+    add-t24
     (λ c. search needs)
     (λ c. search needs)
     (λ c. search needs)
