@@ -1,4 +1,9 @@
--- `UnstructuredMesh::from_cells`, with refusals 8 to 17 in 01's order.
+-- `UnstructuredMesh::from_cells`, with refusals 8 to 17 in 01's order:
+-- `acceptable`: 8, 9 and 10, over all coordinates.
+-- `drafts` (mesh_cells): 11 to 14, cell by cell.
+-- `centred`: 15, for all cells.
+-- `joined`: 16, for all faces, and 17; then the mesh.
+-- `completed`: from 15 on. `filled`: from 11 on. `fromCells`: the whole.
 use Prim.Native.Nat.{ℕ}
 use mathlib.Core.Bool.{Bool, not}
 use mathlib.Core.List.{List}
@@ -14,15 +19,8 @@ use Rattle.mesh_area.specs.Tables.{Face, Cell, Mesh}
 use Rattle.mesh_measure.specs.Orientation.{misplaced}
 use Rattle.mesh_connection.specs.Neighbours.{linked}
 use Rattle.mesh_connection.specs.Connection.{connectedCells}
-use Rattle.mesh_cells.specs.Cells.{Drafts, drafts}
+use Rattle.mesh_cells.specs.Cells.{Draft, Drafts, drafts}
 use Rattle.mesh_centres.specs.Finish.{finished}
-
--- 16 "orientation"; the neighbours of each cell "in face order"; 17 "not connected"
-unfoldable pub joined : List Vec3 → List Face → List Cell → Result Mesh
-joined ps fs cs =
-    refuse 16 (anyOf (misplaced cs) fs) >>= λ _.
-    refuse 17 (not (connectedCells (linked fs cs))) >>= λ _.
-    fine (record { points = ps; faces = fs; cells = linked fs cs })
 
 -- 8 "no cells"; 9 "a coordinate not finite"; 10 "one beyond 1,048,576 in size (added)"
 unfoldable pub acceptable : List Vec3 → List Definition → Result (Unit {0})
@@ -31,14 +29,25 @@ acceptable ps defs =
     refuse 9 (not (allOf (each3 finite) ps)) >>= λ _.
     refuse 10 (not (allOf (each3 within) ps))
 
--- 15 for all cells, 16 for all faces, 17
-unfoldable pub completed : ℕ → List Vec3 → Drafts → Result Mesh
-completed d ps t = mapAll (finished d ps) (t .cells) >>= λ cs. joined ps (t .faces) cs
+-- 15 "zero volume"
+abbrev pub centred : ℕ → List Vec3 → List Draft → Result (List Cell)
+centred d ps ts = mapAll (finished d ps) ts
 
--- before them 11 to 14, cell by cell
+-- 16 "orientation"; the neighbours of each cell "in face order"; 17 "not connected"
+unfoldable pub joined : List Vec3 → List Face → List Cell → Result Mesh
+joined ps fs cs =
+    refuse 16 (anyOf (misplaced cs) fs) >>= λ _.
+    refuse 17 (not (connectedCells (linked fs cs))) >>= λ _.
+    fine (record { points = ps; faces = fs; cells = linked fs cs })
+
+-- 15, then 16 and 17
+unfoldable pub completed : ℕ → List Vec3 → Drafts → Result Mesh
+completed d ps t = centred d ps (t .cells) >>= λ cs. joined ps (t .faces) cs
+
+-- 11 to 14, then 15 to 17
 unfoldable pub filled : ℕ → List Vec3 → List Definition → Result Mesh
 filled d ps defs = drafts d ps defs >>= λ t. completed d ps t
 
--- and 8, 9 and 10 first
+-- 8 to 10, then 11 to 17
 unfoldable pub fromCells : ℕ → List Vec3 → List Definition → Result Mesh
 fromCells d ps defs = acceptable ps defs >>= λ _. filled d ps defs
