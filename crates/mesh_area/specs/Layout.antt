@@ -18,10 +18,64 @@ use Rattle.arith.specs.declared.Found.the-variants.{At, Nothing}
 use Rattle.mesh_area.specs.declared.Sizes.{Sizes}
 use Rattle.mesh_area.specs.Tables.{Face, Cell, Mesh}
 
+-- ---- 01's limits: "At most 65,536 points, 16,384 cells, 1,048,576 words"
+
+abbrev pub mostPoints : ℕ
+mostPoints = 65536
+
+abbrev pub mostCells : ℕ
+mostCells = 16384
+
+-- F is at most the number of words, since each face has a word of its own
+abbrev pub mostSlots : ℕ
+mostSlots = 1048576
+
 -- ---- points: "points (3 floats each)", in the case bytes
 
 unfoldable pub pointsIn : List ℕ → ℕ → List Vec3
 pointsIn case n = tab (λ i. vecAt case (24 * i)) n
+
+-- ---- the parts of a record, by their offset
+
+-- the words of a face
+abbrev pub vertexCount : ℕ
+vertexCount = 0
+
+abbrev pub firstVertex : ℕ
+firstVertex = 1
+
+abbrev pub ownerWord : ℕ
+ownerWord = 9
+
+abbrev pub neighbourWord : ℕ
+neighbourWord = 10
+
+-- the floats of a face
+abbrev pub centreFloats : ℕ
+centreFloats = 0
+
+abbrev pub areaFloat : ℕ
+areaFloat = 3
+
+abbrev pub normalFloats : ℕ
+normalFloats = 4
+
+abbrev pub vectorFloats : ℕ
+vectorFloats = 7
+
+-- the words of a cell
+abbrev pub listStart : ℕ
+listStart = 1
+
+abbrev pub faceCount : ℕ
+faceCount = 2
+
+abbrev pub neighbourCount : ℕ
+neighbourCount = 3
+
+-- the floats of a cell: its centre, then
+abbrev pub volumeFloat : ℕ
+volumeFloat = 3
 
 -- ---- the part of the area that holds the mesh
 
@@ -39,15 +93,15 @@ meshFloats s floats = take (floatsEnd s) floats
 
 -- "work area under 16F+96C words or 12F+64C floats" is not the case, and F and C are within 01's limits
 pub record LentWords (s : Sizes) (words : List ℕ) : Type 0 where
-  pub few-slots : s .slots ≤ 1048576
+  pub few-slots : s .slots ≤ mostSlots
   pub few-faces : s .faces ≤ s .slots
-  pub few-cells : s .cells ≤ 16384
+  pub few-cells : s .cells ≤ mostCells
   pub long : 16 * s .slots + 96 * s .cells ≤ length words
 
 pub record LentFloats (s : Sizes) (floats : List Float) : Type 0 where
-  pub few-slots : s .slots ≤ 1048576
+  pub few-slots : s .slots ≤ mostSlots
   pub few-faces : s .faces ≤ s .slots
-  pub few-cells : s .cells ≤ 16384
+  pub few-cells : s .cells ≤ mostCells
   pub long : 12 * s .slots + 64 * s .cells ≤ length floats
 
 -- ---- one record, in the mesh's part of the area
@@ -67,25 +121,25 @@ found n = cond (eqb n 0) Nothing (At (n - 1))
 unfoldable pub faceIn : List ℕ → List Float → ℕ → Face
 faceIn words floats f =
     record {
-      vertices = listAt words (12 * f + 1) (getD words (12 * f + 0) 0);
-      owner = getD words (12 * f + 9) 0;
-      neighbour = found (getD words (12 * f + 10) 0);
-      centre = vecFrom floats (12 * f + 0);
-      area = getD floats (12 * f + 3) nan;
-      normal = vecFrom floats (12 * f + 4);
-      areaVector = vecFrom floats (12 * f + 7);
+      vertices = listAt words (12 * f + firstVertex) (getD words (12 * f + vertexCount) 0);
+      owner = getD words (12 * f + ownerWord) 0;
+      neighbour = found (getD words (12 * f + neighbourWord) 0);
+      centre = vecFrom floats (12 * f + centreFloats);
+      area = getD floats (12 * f + areaFloat) nan;
+      normal = vecFrom floats (12 * f + normalFloats);
+      areaVector = vecFrom floats (12 * f + vectorFloats);
     }
 
 -- cell i, where there are F slots
 unfoldable pub cellIn : List ℕ → List Float → ℕ → ℕ → Cell
 cellIn words floats slots i =
     let at = 16 * slots + 8 * i in
-    let first = getD words (at + 1) 0 in
+    let first = getD words (at + listStart) 0 in
     record {
-      faces = listAt words (13 * slots + first) (getD words (at + 2) 0);
-      neighbours = listAt words (14 * slots + first) (getD words (at + 3) 0);
+      faces = listAt words (13 * slots + first) (getD words (at + faceCount) 0);
+      neighbours = listAt words (14 * slots + first) (getD words (at + neighbourCount) 0);
       centre = vecFrom floats (12 * slots + 4 * i);
-      volume = getD floats (12 * slots + 4 * i + 3) nan;
+      volume = getD floats (12 * slots + 4 * i + volumeFloat) nan;
     }
 
 -- ---- the whole mesh

@@ -10,7 +10,36 @@ ghost use lib.ListN.{length, getD, take};
 ghost use lib.Ieee.{Float, nan};
 ghost use Rattle.mesh_area.specs.Tables.{pointAt, faceAt, cellAt};
 ghost use Rattle.mesh_area.specs.Layout as Layout;
-ghost use Rattle.mesh_area.specs.Layout.{pointsIn, facesIn, cellsIn, vecFrom, meshWords, meshFloats, LentWords, LentFloats};
+ghost use Rattle.mesh_area.specs.Layout.{mostPoints, mostCells, mostSlots, pointsIn, facesIn, cellsIn, vecFrom, meshWords, meshFloats, LentWords, LentFloats};
+
+// The words of a face's record, by their offset: its vertex count, its vertices, its owner, its
+// neighbour + 1 or 0.
+const VERTEX_COUNT: usize = 0;
+
+const FIRST_VERTEX: usize = 1;
+
+const OWNER_WORD: usize = 9;
+
+const NEIGHBOUR_WORD: usize = 10;
+
+// Its floats.
+const CENTRE_FLOATS: usize = 0;
+
+const AREA_FLOAT: usize = 3;
+
+const NORMAL_FLOATS: usize = 4;
+
+const VECTOR_FLOATS: usize = 7;
+
+// The words of a cell's record: where its two lists start, how many faces and how many neighbours
+// they have; and its last float.
+const LIST_START: usize = 1;
+
+const FACE_COUNT: usize = 2;
+
+const NEIGHBOUR_COUNT: usize = 3;
+
+const VOLUME_FLOAT: usize = 3;
 
 // How much the area holds: `slots` is the number of faces of all definitions counted singly,
 // `faces` of those that stand in the table, `cells` of cells.
@@ -22,7 +51,7 @@ pub struct Sizes {
 
 // Point i of a case, read where it is.
 pub fn point_at(case: &[u8], points: usize, i: usize) -> Vec3
-    requires { ⌜ (points ≤ 65536) × (24 * points ≤ length (now case)) ⌝ }
+    requires { ⌜ (points ≤ mostPoints) × (24 * points ≤ length (now case)) ⌝ }
     ensures { λ r. ⌜ r ≡ pointAt (pointsIn (now (case .entry)) points) i ⌝ }
 {
     if i < points {
@@ -61,14 +90,14 @@ fn vec_in(floats: &[f64], end: usize, i: usize) -> Vec3
 
 // Where the mesh's part of the words, and of the floats, ends.
 fn words_end(s: Sizes) -> usize
-    requires { ⌜ (s .slots ≤ 1048576) × (s .cells ≤ 16384) ⌝ }
+    requires { ⌜ (s .slots ≤ mostSlots) × (s .cells ≤ mostCells) ⌝ }
     ensures { λ r. ⌜ r ≡ Layout.wordsEnd s ⌝ }
 {
     16 * s.slots + 8 * s.cells
 }
 
 fn floats_end(s: Sizes) -> usize
-    requires { ⌜ (s .slots ≤ 1048576) × (s .cells ≤ 16384) ⌝ }
+    requires { ⌜ (s .slots ≤ mostSlots) × (s .cells ≤ mostCells) ⌝ }
     ensures { λ r. ⌜ r ≡ Layout.floatsEnd s ⌝ }
 {
     12 * s.slots + 4 * s.cells
@@ -97,7 +126,7 @@ pub fn vertex_count(words: &[u32], s: Sizes, f: usize) -> usize
         × (r < 4294967296) ⌝ }
 {
     if f < s.faces {
-        face_word(words, s, f, 0)
+        face_word(words, s, f, VERTEX_COUNT)
     } else {
         0
     }
@@ -110,8 +139,8 @@ pub fn vertex(words: &[u32], s: Sizes, f: usize, k: usize) -> usize
         × (r < 4294967296) ⌝ }
 {
     if f < s.faces {
-        if k < face_word(words, s, f, 0) {
-            face_word(words, s, f, 1 + k)
+        if k < face_word(words, s, f, VERTEX_COUNT) {
+            face_word(words, s, f, FIRST_VERTEX + k)
         } else {
             0
         }
@@ -127,7 +156,7 @@ pub fn owner_of(words: &[u32], s: Sizes, f: usize) -> usize
         × (r < 4294967296) ⌝ }
 {
     if f < s.faces {
-        face_word(words, s, f, 9)
+        face_word(words, s, f, OWNER_WORD)
     } else {
         0
     }
@@ -139,7 +168,7 @@ pub fn neighbour_of(words: &[u32], s: Sizes, f: usize) -> Found
     ensures { λ r. ⌜ ((floats : List Float) → r ≡ faceAt (facesIn s (now (words .entry)) floats) f .neighbour) ⌝ }
 {
     if f < s.faces {
-        let n = face_word(words, s, f, 10);
+        let n = face_word(words, s, f, NEIGHBOUR_WORD);
         if n == 0 {
             Found::Nothing
         } else {
@@ -156,7 +185,7 @@ pub fn face_centre(floats: &[f64], s: Sizes, f: usize) -> Vec3
     ensures { λ r. ⌜ ((words : List ℕ) → r ≡ faceAt (facesIn s words (now (floats .entry))) f .centre) ⌝ }
 {
     if f < s.faces {
-        face_vec(floats, s, f, 0)
+        face_vec(floats, s, f, CENTRE_FLOATS)
     } else {
         Vec3::new(0.0, 0.0, 0.0)
     }
@@ -168,7 +197,7 @@ pub fn face_normal(floats: &[f64], s: Sizes, f: usize) -> Vec3
     ensures { λ r. ⌜ ((words : List ℕ) → r ≡ faceAt (facesIn s words (now (floats .entry))) f .normal) ⌝ }
 {
     if f < s.faces {
-        face_vec(floats, s, f, 4)
+        face_vec(floats, s, f, NORMAL_FLOATS)
     } else {
         Vec3::new(0.0, 0.0, 0.0)
     }
@@ -180,7 +209,7 @@ pub fn area_vector(floats: &[f64], s: Sizes, f: usize) -> Vec3
     ensures { λ r. ⌜ ((words : List ℕ) → r ≡ faceAt (facesIn s words (now (floats .entry))) f .areaVector) ⌝ }
 {
     if f < s.faces {
-        face_vec(floats, s, f, 7)
+        face_vec(floats, s, f, VECTOR_FLOATS)
     } else {
         Vec3::new(0.0, 0.0, 0.0)
     }
@@ -192,7 +221,7 @@ pub fn face_area(floats: &[f64], s: Sizes, f: usize) -> f64
     ensures { λ r. ⌜ ((words : List ℕ) → r ≡ faceAt (facesIn s words (now (floats .entry))) f .area) ⌝ }
 {
     if f < s.faces {
-        float_in(floats, floats_end(s), 12 * f + 3)
+        float_in(floats, floats_end(s), 12 * f + AREA_FLOAT)
     } else {
         0.0
     }
@@ -213,7 +242,7 @@ pub fn face_count(words: &[u32], s: Sizes, i: usize) -> usize
         × (r < 4294967296) ⌝ }
 {
     if i < s.cells {
-        cell_word(words, s, i, 2)
+        cell_word(words, s, i, FACE_COUNT)
     } else {
         0
     }
@@ -226,8 +255,8 @@ pub fn cell_face(words: &[u32], s: Sizes, i: usize, k: usize) -> usize
         × (r < 4294967296) ⌝ }
 {
     if i < s.cells {
-        if k < cell_word(words, s, i, 2) {
-            let first = cell_word(words, s, i, 1);
+        if k < cell_word(words, s, i, FACE_COUNT) {
+            let first = cell_word(words, s, i, LIST_START);
             word_in(words, words_end(s), 13 * s.slots + first + k)
         } else {
             0
@@ -244,7 +273,7 @@ pub fn neighbour_count(words: &[u32], s: Sizes, i: usize) -> usize
         × (r < 4294967296) ⌝ }
 {
     if i < s.cells {
-        cell_word(words, s, i, 3)
+        cell_word(words, s, i, NEIGHBOUR_COUNT)
     } else {
         0
     }
@@ -257,8 +286,8 @@ pub fn neighbour(words: &[u32], s: Sizes, i: usize, k: usize) -> usize
         0) × (r < 4294967296) ⌝ }
 {
     if i < s.cells {
-        if k < cell_word(words, s, i, 3) {
-            let first = cell_word(words, s, i, 1);
+        if k < cell_word(words, s, i, NEIGHBOUR_COUNT) {
+            let first = cell_word(words, s, i, LIST_START);
             word_in(words, words_end(s), 14 * s.slots + first + k)
         } else {
             0
@@ -286,7 +315,7 @@ pub fn volume_of(floats: &[f64], s: Sizes, i: usize) -> f64
     ensures { λ r. ⌜ ((words : List ℕ) → r ≡ cellAt (cellsIn s words (now (floats .entry))) i .volume) ⌝ }
 {
     if i < s.cells {
-        float_in(floats, floats_end(s), 12 * s.slots + 4 * i + 3)
+        float_in(floats, floats_end(s), 12 * s.slots + 4 * i + VOLUME_FLOAT)
     } else {
         0.0
     }
