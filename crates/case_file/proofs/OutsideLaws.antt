@@ -8,8 +8,6 @@ use lib.ListN.{length, getD, take, drop, replicate, length-append, length-take, 
 use lib.Seq.{length-take-le, getD-take, getD-drop, getD-append-add}
 use borrow.Author.Tests.{lt-ltb, le-ltb}
 use Rattle.arith.specs.Bytes.{le32, le64, floatAt, vecAt}
-use Rattle.arith.proofs.RecordLaws.{tab-same}
-use Rattle.mesh_area.specs.Layout.{pointsIn}
 use Rattle.case_file.specs.Trailer.{trailerWord, countsOf, wordsFrom, fieldFrom, pressuresFrom, trailerFrom, hasOffsets, hasParts, trailerRight, opened, wordsOf}
 use Rattle.case_file.proofs.ReadLaws.{same-readAll}
 use Rattle.case_file.proofs.TrailerLaws.{ends, Opens, opens}
@@ -94,12 +92,9 @@ module _ (file : List ℕ) (right : trailerRight file ≡ true) where
   same-opened = rw (same-counts, same-right, right, opened)
 
   -- points and definition words
-  pub same-points : pointsIn (outside file) (countsOf file .points) ≡ pointsIn file (countsOf file .points)
-  unfolding pointsIn fieldFrom
-  same-points =
-      rw cut
-      (tab-same _ _ (countsOf file .points)
-      (λ i h. vecAt-below (fieldFrom (countsOf file)) (32 * countsOf file .cells) file (omega (arith, long)) (24 * i) (omega arith)))
+  pub same-point : (i : ℕ) → i < countsOf file .points → vecAt (outside file) (24 * i) ≡ vecAt file (24 * i)
+  unfolding fieldFrom
+  same-point i h = rw cut (vecAt-below (fieldFrom (countsOf file)) (32 * countsOf file .cells) file (omega (arith, long)) (24 * i) (omega arith))
 
   pub same-words : wordsOf (outside file) (countsOf file) ≡ wordsOf file (countsOf file)
   unfolding wordsOf wordsFrom
@@ -148,8 +143,8 @@ module _ (file : List ℕ) where
     outside-words = rw (o .same) (same-words file (o .right))
 
     -- refusals 9 and 10, and the mesh
-    pub outside-points : pointsIn (outside file) (n .points) ≡ pointsIn file (n .points)
-    outside-points = rw (o .same) (same-points file (o .right))
+    pub outside-point : (i : ℕ) → i < n .points → vecAt (outside file) (24 * i) ≡ vecAt file (24 * i)
+    outside-point i h = same-point file (o .right) i (rw (o .same) at h)
 
     pub values-there : (i : ℕ) → i < n .cells →
         valuesOf file i ≡ record { velocity = vecAt file (24 * n .points + 4 * n .words + 24 * i); pressure = floatAt file (24 * n .points + 4 * n .words + 24 * n .cells + 8 * i) }

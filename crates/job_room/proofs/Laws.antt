@@ -16,9 +16,9 @@ use Rattle.case_file.specs.Trailer.{countsOf, trailerRight, overLimit, opened, 
 use Rattle.case_file.specs.declared.Counts.{Counts}
 use Rattle.case_file.specs.declared.Opened.{Opened}
 use Rattle.case_file.specs.declared.Opened.the-variants as Opened
-use Rattle.case_file.proofs.OutsideLaws.{outside-opened, outside-words, outside-points}
+use Rattle.case_file.proofs.OutsideLaws.{outside-opened, outside-words}
 use Rattle.mesh.specs.Case.{Surveyed-case, surveyOf, meshOf}
-use Rattle.mesh.proofs.Laws.{survey-shut, survey-wrong, survey-right}
+use Rattle.mesh.proofs.Laws.{survey-shut, survey-wrong, survey-right, outside-points}
 use Rattle.job_room.specs.Room.{Room, Lent, roomOf, requestsWrong, shortage, prepared}
 use Rattle.job_room.specs.Stands.{roomIn, Stands, Preparing, standing, barred, Fits}
 use Rattle.job_room.specs.declared.Place.{Place}

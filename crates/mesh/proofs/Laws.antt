@@ -35,6 +35,9 @@ use Rattle.arith.specs.Vec.{each3}
 use Rattle.reading.proofs.ResultLaws.{bound}
 use Rattle.case_file.specs.Trailer.{wordsFrom, wordsIn}
 use Rattle.arith.specs.Records.{part}
+use Rattle.arith.proofs.RecordLaws.{tab-same}
+use Rattle.case_file.specs.Field.{outside}
+use Rattle.case_file.proofs.OutsideLaws.{outside-point}
 use Rattle.case_definitions.proofs.Walking.{words-part}
 use Rattle.case_definitions.proofs.RecordLaws.{definition-read}
 use Rattle.case_file.proofs.ReadLaws.{length-readAll}
@@ -201,6 +204,12 @@ faces-few file n ds o e =
     let few = opens file n o .words in
     let c = counted-few (n .cells) (wordsOf file n) ds 0 e in
     omega (arith, length-wordsOf file n)
+
+-- ---- the points of a case stand outside its field
+
+pub outside-points : (file : List ℕ) (n : Counts) → opened file ≡ Opened.Case n → pointsIn (outside file) (n .points) ≡ pointsIn file (n .points)
+unfolding pointsIn
+outside-points file n o = tab-same _ _ (n .points) (outside-point file n o)
 
 -- ---- 8, 9 and 10
 
