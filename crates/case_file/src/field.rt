@@ -1,10 +1,14 @@
-// The fields of a case, by cell. Its points are read by `mesh_area::point_at`.
+// The fields of a case, by cell.
+// The points of a case are read by `mesh_area::point_at`.
 use crate::Counts;
 use crate::Opened;
 use arith::Vec3;
 use arith::bytes;
 use reading::Values;
 ghost use mathlib.Core.Path.{_≡_};
+ghost use lib.ListN.{set};
+ghost use Rattle.reading.specs.Asks.{ask, give};
+ghost use Rattle.reading.specs.Served.{Served};
 ghost use Rattle.case_file.specs.Trailer.{opened};
 ghost use Rattle.case_file.specs.Field.{valuesOf};
 
@@ -29,4 +33,22 @@ pub fn values(case: &[u8], n: Counts, i: usize) -> Values
         velocity: bytes::vec_at(case, velocities + 24 * i),
         pressure: bytes::float_at(case, pressures + 8 * i),
     }
+}
+
+// Marks cell i, where it has a mark at all.
+fn mark(marks: &mut [u8], i: usize)
+    ensures { λ _. ⌜ now (marks .exit) ≡ set (now (marks .entry)) i 1 ⌝ }
+{
+    if i < marks.len() {
+        marks[i] = 1;
+    }
+}
+
+// Reads the values of cell i, and marks it.
+pub fn read_cell(case: &[u8], n: Counts, marks: &mut [u8], i: usize) -> Values
+    requires { ⌜ opened (now case) ≡ Opened.Case n ⌝ }
+    ensures { λ r. ⌜ Served (ask i give) (valuesOf (now (case .entry))) (now (marks .entry)) (now (marks .exit)) r ⌝ }
+{
+    mark(marks, i);
+    values(case, n, i)
 }

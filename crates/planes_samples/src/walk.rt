@@ -13,7 +13,6 @@ use planes_sections::pieces;
 use planes_sums::Tally;
 use planes_sums::keep;
 use planes_sums::measures;
-use reading::Values;
 ghost use mathlib.Core.Path.{_≡_};
 ghost use mathlib.Core.List.{List, [], _∷_};
 ghost use Prim.Native.Nat.{_+_, _*_, _<_, _≤_};
@@ -26,18 +25,8 @@ ghost use Rattle.planes_crossings.specs.Work.{Holds};
 ghost use Rattle.planes_cut.specs.Work.{bare};
 ghost use Rattle.planes_samples.specs.Stream.{stream, Streamed, Stepped, Ready};
 ghost use Rattle.planes_sums.specs.Kept.{keptOf, cellIn, sizeOf};
-ghost use lib.ListN.{length, set};
 ghost use Rattle.case_file.specs.Trailer.{opened};
 ghost use Rattle.case_file.specs.Field.{valuesOf};
-
-// The values of cell i, which is marked as read.
-fn read(case: &[u8], n: Counts, marks: &mut [u8], i: usize) -> Values
-    requires { ⌜ (opened (now case) ≡ Opened.Case n) × (i < length (now marks)) ⌝ }
-    ensures { λ r. ⌜ (r ≡ valuesOf (now (case .entry)) i) × (now (marks .exit) ≡ set (now (marks .entry)) i 1) ⌝ }
-{
-    marks[i] = 1;
-    field::values(case, n, i)
-}
 
 // One piece, whose polygon stands in three slices: what is kept with it, or that it is bad.
 fn take_sample(
@@ -54,13 +43,13 @@ fn take_sample(
     answers: &mut [u64],
     marks: &mut [u8],
 ) -> Tallied
-    requires { ⌜ (opened (now case) ≡ Opened.Case n) × (cell < length (now marks)) ⌝ }
+    requires { ⌜ opened (now case) ≡ Opened.Case n ⌝ }
     requires { ⌜ Holds (now x) (now y) (now z) k × (1 ≤ k) × (k ≤ 192) × (sizeOf (keptOf t) < 1073741824) ⌝ }
     ensures { λ r. ⌜ Stepped (stream cut (valuesOf (now (case .entry)))
         (cellIn cell centre k (now (x .entry)) (now (y .entry)) (now (z .entry)) ∷ []) (keptOf t) (now (answers .entry))
         (now (marks .entry))) t r (now (answers .exit)) (now (marks .exit)) ⌝ }
 {
-    let v = read(case, n, marks, cell);
+    let v = field::read_cell(case, n, marks, cell);
     if measures::sound(v) {
         Tallied::Done(keep::add(cut, t, cell, centre, k, v, x, y, z, answers))
     } else {

@@ -1,4 +1,3 @@
--- `casefile::field::values` meets its contract. Assumes nothing.
 use mathlib.Core.Path.{sym}
 use native.Mathlib.Omega.{arith}
 use Rattle.case_file.proofs.OutsideLaws.{values-there, values-none}

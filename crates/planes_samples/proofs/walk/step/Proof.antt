@@ -11,7 +11,7 @@ take-sample-requires c κs =
     let p = c .before .before .before .before .before .before .before .before .before .before .before .before .before .before .piece-of .ensures [] in
     let few = piece-few p _ _ (c .before .before .before .before .before .before .piece .given .1) in
     let full = piece-full p _ _ (c .before .before .before .before .before .before .piece .given .1) in
-    ((c .before .before .before .before .before .before .before .before .before .before .before .before .before .before .before .before .before .before .before .before .before .before .before .before .before .pre .0 .0 .is-open, omega (arith, c .before .before .before .before .before .before .before .before .before .before .before .before .before .before .before .before .before .before .before .before .before .before .before .before .before .pre .0 .0 .room, c .before .before .before .before .before .before .before .before .before .before .before .before .before .before .before .before .before .before .before .before .before .before .before .before .before .pre .0 .1)), (holds-first few (record { in-x = omega (arith, c .before .before .before .before .before .before .before .before .before .before .before .before .before .x .given, c .before .before .before .before .before .before .before .before .before .before .before .before .before .before .before .before .before .before .before .before .before .before .before .before .before .pre .1 .0 .in-x); in-y = omega (arith, c .before .before .before .before .before .before .before .before .before .before .before .y .given, c .before .before .before .before .before .before .before .before .before .before .before .before .before .before .before .before .before .before .before .before .before .before .before .before .before .pre .1 .0 .in-y); in-z = omega (arith, c .before .before .before .before .before .before .before .before .before .z .given, c .before .before .before .before .before .before .before .before .before .before .before .before .before .before .before .before .before .before .before .before .before .before .before .before .before .pre .1 .0 .in-z) }), omega arith, few, c .before .before .before .before .before .before .before .before .before .before .before .before .before .before .before .before .before .before .before .before .before .before .before .before .before .pre .1 .1))
+    (c .before .before .before .before .before .before .before .before .before .before .before .before .before .before .before .before .before .before .before .before .before .before .before .before .before .pre .0 .0 .is-open, (holds-first few (record { in-x = omega (arith, c .before .before .before .before .before .before .before .before .before .before .before .before .before .x .given, c .before .before .before .before .before .before .before .before .before .before .before .before .before .before .before .before .before .before .before .before .before .before .before .before .before .pre .1 .0 .in-x); in-y = omega (arith, c .before .before .before .before .before .before .before .before .before .before .before .y .given, c .before .before .before .before .before .before .before .before .before .before .before .before .before .before .before .before .before .before .before .before .before .before .before .before .before .pre .1 .0 .in-y); in-z = omega (arith, c .before .before .before .before .before .before .before .before .before .z .given, c .before .before .before .before .before .before .before .before .before .before .before .before .before .before .before .before .before .before .before .before .before .before .before .before .before .pre .1 .0 .in-z) }), omega arith, few, c .before .before .before .before .before .before .before .before .before .before .before .before .before .before .before .before .before .before .before .before .before .before .before .before .before .pre .1 .1))
 
 returns : tie.Need-returns
 unfolding bare
