@@ -4,8 +4,7 @@ use native.Mathlib.Omega.{arith}
 use mathlib.Core.Path.{_≡_, refl, sym, ap, _∙_}
 use mathlib.Core.Bool.{Bool, true, false}
 use mathlib.Core.List.{List, [], _∷_}
-use lib.ListN.{length, getD, drop, set}
-use lib.Seq.{set-out}
+use lib.ListN.{length, getD, drop}
 use lib.Ieee.{Float}
 use Rattle.arith.specs.F64.{_≺_, finite, nearer}
 use Rattle.arith.specs.Lists.{fold}
@@ -40,11 +39,6 @@ module _ {t : Asks Vector} {f : ℕ → Values} {m m′ : List ℕ} {r : Vector}
   pub served-found : {m″ : List ℕ} {v : Vec3} {a : Vector} → Served t f m m′ r → r ≡ Here v → Served (h v) f m′ m″ a → Served (t >>= from h) f m m″ a
   unfolding from
   served-found s e u = served-then (from h) (rw e at s) u
-
--- ---- marks
-
-pub unmarked : (m : List ℕ) (i : ℕ) → length m ≤ i → m ≡ set m i 1
-unmarked m i h = sym (set-out m i 1 h)
 
 module _ (g : Grid) (s : Sizes) (w : List ℕ) (f : List Float) where
   abbrev field : StreamlineField

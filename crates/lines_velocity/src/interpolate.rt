@@ -5,16 +5,15 @@ use arith::Found;
 use arith::Vec3;
 use arith::float;
 use case_file::Counts;
+use case_file::field;
 use lines_locate::Grid;
 use mesh_area::Sizes;
-use reading::Values;
 ghost use mathlib.Core.Path.{_≡_};
 ghost use mathlib.Core.List.{List};
 ghost use Prim.Native.Nat.{ℕ, _+_, _*_, _<_, _≤_};
-ghost use lib.ListN.{length, getD, drop, set};
+ghost use lib.ListN.{length, getD, drop};
 ghost use Rattle.arith.specs.Lists.{fold};
 ghost use Rattle.arith.specs.Vec.{minus};
-ghost use Rattle.reading.specs.Asks.{ask, give};
 ghost use Rattle.reading.specs.Served.{Served};
 ghost use Rattle.case_file.specs.declared.Opened.the-variants.{Case};
 ghost use Rattle.case_file.specs.Trailer.{opened};
@@ -23,24 +22,6 @@ ghost use Rattle.mesh_area.specs.Layout.{LentWords, LentFloats};
 ghost use Rattle.lines_locate.specs.Layout.{fieldIn};
 ghost use Rattle.lines_velocity.specs.Velocity as Velocity;
 ghost use Rattle.lines_velocity.specs.Ready.{Ready};
-
-// Marks cell i, where it has a mark at all.
-fn mark(marks: &mut [u8], i: usize)
-    ensures { λ _. ⌜ now (marks .exit) ≡ set (now (marks .entry)) i 1 ⌝ }
-{
-    if i < marks.len() {
-        marks[i] = 1;
-    }
-}
-
-// Reads the values of cell i, and marks it.
-fn read_cell(case: &[u8], n: Counts, marks: &mut [u8], i: usize) -> Values
-    requires { ⌜ opened (now case) ≡ Case n ⌝ }
-    ensures { λ r. ⌜ Served (ask i give) (valuesOf (now (case .entry))) (now (marks .entry)) (now (marks .exit)) r ⌝ }
-{
-    mark(marks, i);
-    case_file::field::values(case, n, i)
-}
 
 // The squared distance of cell i's centre from p.
 fn distance_squared(floats: &[f64], s: Sizes, p: Vec3, i: usize) -> f64
@@ -139,7 +120,7 @@ fn beside(
     let centre = mesh_area::centre_of(floats, s, i);
     let offset = mesh_area::centre_of(floats, s, k).sub(centre);
     if apart(offset) {
-        let v = read_cell(case, n, marks, k);
+        let v = field::read_cell(case, n, marks, k);
         return blended(p, centre, offset, base, v.velocity);
     }
     base
@@ -184,7 +165,7 @@ fn velocity_in(
     ensures { λ r. ⌜ ((g : Grid) → Served (Velocity.velocityIn (fieldIn g s (now (words .entry)) (now (floats .entry)))
         p i) (valuesOf (now (case .entry))) (now (marks .entry)) (now (marks .exit)) r) ⌝ }
 {
-    let v = read_cell(case, n, marks, i);
+    let v = field::read_cell(case, n, marks, i);
     toward(case, n, words, floats, s, marks, p, i, v.velocity)
 }
 
