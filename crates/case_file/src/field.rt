@@ -1,4 +1,4 @@
-// The fields of a case, by cell.
+// The fields of a case, by cell: `read_cell` alone gives the values of a cell, and it marks the cell.
 // The points of a case are read by `mesh_area::point_at`.
 use crate::Counts;
 use crate::Opened;
@@ -13,7 +13,7 @@ ghost use Rattle.case_file.specs.Trailer.{opened};
 ghost use Rattle.case_file.specs.Field.{valuesOf};
 
 // The velocity and the pressure of cell i; zeros where there is none.
-pub fn values(case: &[u8], n: Counts, i: usize) -> Values
+fn values(case: &[u8], n: Counts, i: usize) -> Values
     requires { ⌜ opened (now case) ≡ Opened.Case n ⌝ }
     ensures { λ r. ⌜ r ≡ valuesOf (now (case .entry)) i ⌝ }
 {
