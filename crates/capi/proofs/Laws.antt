@@ -2,7 +2,7 @@
 use Prim.Native.Nat.{ℕ, _+_, _*_, _≤_, _<_}
 use native.Mathlib.Omega.{arith}
 use mathlib.Core.Path.{_≡_, refl}
-use mathlib.Core.Bool.{Bool, _||_}
+use mathlib.Core.Bool.{_||_}
 use mathlib.Core.List.{List}
 use lib.Dec.{ltb}
 use lib.ListN.{length, set}
@@ -13,13 +13,6 @@ use Rattle.case_file.proofs.TrailerLaws.{opens}
 use Rattle.mesh.specs.Case.{Surveyed-case, surveyOf, areaShort}
 use Rattle.mesh.proofs.Laws.{Surveys, survey-right, faces-few}
 use Rattle.job.specs.Promise.{Promised}
-use Rattle.arith.specs.declared.Vec3.{Vec3}
-use Rattle.lines_step.specs.declared.StreamlineOptions.{StreamlineOptions}
-use Rattle.lines.specs.declared.StreamlineDirection.{StreamlineDirection}
-use Rattle.job_single.specs.Single.{rakeWords}
-use Rattle.capi.specs.declared.Vector.{Vector}
-use Rattle.capi.specs.declared.LineOptions.{LineOptions}
-use Rattle.capi.specs.Convert.{vectorOf, directionOf, optionsOf}
 use Rattle.capi.specs.Needs.{wordsNeeded, floatsNeeded, needsNumber, needsOf}
 
 -- ---- the number of a job's result
@@ -28,17 +21,6 @@ pub number-promised : {case requests : List ℕ} {words floats : ℕ} {answers m
     → Promised case requests words floats answers marks (record { result = n; answers = answers′; marks = marks′ }) → r ≡ n
     → Promised case requests words floats answers marks (record { result = r; answers = answers′; marks = marks′ })
 number-promised p e = rw e p
-
--- ---- the words of a rake, from the values of this crate
-
-pub rake-words
-    : (p q : Vec3) (count : ℕ) (d : StreamlineDirection) (o : StreamlineOptions) (start end : Vector) (backward : Bool) (options : LineOptions)
-    → p ≡ vectorOf start
-    → q ≡ vectorOf end
-    → d ≡ directionOf backward
-    → o ≡ optionsOf options
-    → rakeWords p q count d o ≡ rakeWords (vectorOf start) (vectorOf end) count (directionOf backward) (optionsOf options)
-rake-words p q count d o start end backward options a b e f = cc
 
 -- ---- how much a case needs
 

@@ -1,9 +1,12 @@
 -- The values of the exported functions as those of the crates below.
+use Prim.Native.Nat.{ℕ}
 use mathlib.Core.Bool.{Bool, true, false}
 use Rattle.arith.specs.declared.Vec3.{Vec3}
 use Rattle.lines_step.specs.declared.StreamlineOptions.{StreamlineOptions}
 use Rattle.lines.specs.declared.StreamlineDirection.{StreamlineDirection}
 use Rattle.lines.specs.declared.StreamlineDirection.the-variants.{Forward, Backward}
+use Rattle.lines.specs.declared.StreamlineSettings.{StreamlineSettings}
+use Rattle.lines.specs.declared.Rake.{Rake}
 use Rattle.planes_cut.specs.declared.Plane.{Plane}
 use Rattle.capi.specs.declared.Vector.{Vector}
 use Rattle.capi.specs.declared.SectionPlane.{SectionPlane}
@@ -27,3 +30,9 @@ optionsOf o =
       «max_length» = o .«max_length»;
       «stagnation_speed» = o .«stagnation_speed»;
     }
+
+unfoldable pub settingsOf : Bool → LineOptions → StreamlineSettings
+settingsOf backward o = record { direction = directionOf backward; options = optionsOf o }
+
+unfoldable pub rakeOf : Vector → Vector → ℕ → Rake
+rakeOf start end count = record { start = vectorOf start; end = vectorOf end; count = count }

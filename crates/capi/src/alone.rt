@@ -7,7 +7,7 @@ ghost use lib.ListN.{length};
 ghost use Rattle.job_requests.specs.Encode.{bytesOf};
 ghost use Rattle.job.specs.Promise.{Promised};
 ghost use Rattle.job_single.specs.Single.{locateWords, velocityWords, streamlineWords, rakeWords, sectionWords, statisticsWords, integralsWords, probeWords};
-ghost use Rattle.capi.specs.Convert.{vectorOf, planeOf, directionOf, optionsOf};
+ghost use Rattle.capi.specs.Convert.{vectorOf, planeOf, settingsOf, rakeOf};
 
 // The cell at a point.
 #[no_mangle]
@@ -56,15 +56,14 @@ pub extern "C" fn hookyellow_streamline(
     answers: &mut [u64],
 ) -> u64
     ensures { λ r. ⌜ Promised (now (case .entry))
-        (bytesOf (streamlineWords (vectorOf seed) (directionOf backward) (optionsOf options)))
+        (bytesOf (streamlineWords (vectorOf seed) (settingsOf backward options)))
         (length (now (words .entry))) (length (now (floats .entry))) (now (answers .entry)) (now (marks .entry))
         (record { result = r; answers = now (answers .exit); marks = now (marks .exit) }) ⌝ }
 {
     convert::number(job_single::streamline(
         case,
         convert::vector(seed),
-        convert::direction(backward),
-        convert::options(options),
+        convert::settings(backward, options),
         words,
         floats,
         marks,
@@ -87,17 +86,14 @@ pub extern "C" fn hookyellow_rake(
     answers: &mut [u64],
 ) -> u64
     ensures { λ r. ⌜ Promised (now (case .entry))
-        (bytesOf (rakeWords (vectorOf start) (vectorOf end) count (directionOf backward) (optionsOf options)))
+        (bytesOf (rakeWords (rakeOf start end count) (settingsOf backward options)))
         (length (now (words .entry))) (length (now (floats .entry))) (now (answers .entry)) (now (marks .entry))
         (record { result = r; answers = now (answers .exit); marks = now (marks .exit) }) ⌝ }
 {
     convert::number(job_single::rake(
         case,
-        convert::vector(start),
-        convert::vector(end),
-        count,
-        convert::direction(backward),
-        convert::options(options),
+        convert::seeds(start, end, count),
+        convert::settings(backward, options),
         words,
         floats,
         marks,

@@ -4,12 +4,14 @@ use crate::SectionPlane;
 use crate::Vector;
 use arith::Vec3;
 use job::Outcome;
+use lines::Rake;
 use lines::StreamlineDirection;
+use lines::StreamlineSettings;
 use lines_step::StreamlineOptions;
 use planes_cut::Plane;
 ghost use mathlib.Core.Path.{_≡_};
 ghost use Rattle.job.specs.Job.{numberOf};
-ghost use Rattle.capi.specs.Convert.{vectorOf, planeOf, directionOf, optionsOf};
+ghost use Rattle.capi.specs.Convert.{vectorOf, planeOf, directionOf, optionsOf, settingsOf, rakeOf};
 
 // 0, or the refusal.
 pub fn number(o: Outcome) -> u64
@@ -41,7 +43,7 @@ pub fn plane(s: SectionPlane) -> Plane
     }
 }
 
-pub fn direction(backward: bool) -> StreamlineDirection
+fn direction(backward: bool) -> StreamlineDirection
     ensures { λ r. ⌜ r ≡ directionOf backward ⌝ }
 {
     if backward {
@@ -51,7 +53,7 @@ pub fn direction(backward: bool) -> StreamlineDirection
     }
 }
 
-pub fn options(o: LineOptions) -> StreamlineOptions
+fn options(o: LineOptions) -> StreamlineOptions
     ensures { λ r. ⌜ r ≡ optionsOf o ⌝ }
 {
     StreamlineOptions {
@@ -59,5 +61,24 @@ pub fn options(o: LineOptions) -> StreamlineOptions
         max_steps: o.max_steps,
         max_length: o.max_length,
         stagnation_speed: o.stagnation_speed,
+    }
+}
+
+pub fn settings(backward: bool, o: LineOptions) -> StreamlineSettings
+    ensures { λ r. ⌜ r ≡ settingsOf backward o ⌝ }
+{
+    StreamlineSettings {
+        direction: direction(backward),
+        options: options(o),
+    }
+}
+
+pub fn seeds(start: Vector, end: Vector, count: usize) -> Rake
+    ensures { λ r. ⌜ r ≡ rakeOf start end count ⌝ }
+{
+    Rake {
+        start: vector(start),
+        end: vector(end),
+        count,
     }
 }

@@ -30,7 +30,7 @@ fn is_flat(place: Place) -> bool
     ensures { λ r. ⌜ ((file words : List ℕ) (floats : List Float) → r ≡ isFlat (roomIn file words floats place)) ⌝ }
 {
     match place {
-        Place::Flat(_, _, _) => true,
+        Place::Flat(_) => true,
         Place::Solid(_, _) => false,
     }
 }
@@ -39,7 +39,7 @@ fn cells_of(place: Place) -> usize
     ensures { λ r. ⌜ r ≡ countsIn place .cells ⌝ }
 {
     match place {
-        Place::Flat(n, _, _) => n.cells,
+        Place::Flat(t) => t.counts.cells,
         Place::Solid(n, _) => n.cells,
     }
 }

@@ -21,14 +21,15 @@ use Rattle.lines_locate.specs.Locate.{locateWhere, locate}
 use Rattle.lines_locate.specs.Field.{StreamlineField}
 use Rattle.lines_velocity.specs.declared.Vector.{Vector}
 use Rattle.lines_velocity.specs.declared.Vector.the-variants.{Here, Nowhere}
-use Rattle.lines_velocity.specs.Velocity.{locateIn, neighboursOf, distanceSquared, nearerOf, beside, toward, velocityIn, velocityWhere, velocityAt, from, directionAt}
+use Rattle.lines_velocity.specs.Velocity.{locateIn, neighboursOf, distanceSquared, nearerOf, nearestOf, besideIf, beside, besideNearest, toward, velocityIn, velocityWhere, velocityAt, from, directionAt}
 use Rattle.lines_step.specs.declared.Step.{Step}
 use Rattle.lines_step.specs.declared.Step.the-variants.{Next, Ended}
 use Rattle.lines_step.specs.declared.StreamlineOptions.{StreamlineOptions}
 use Rattle.lines_step.specs.RungeKutta.{fourth, third, second, rungeKutta}
 use Rattle.lines_step.specs.Step.{rk4Step, step}
-use Rattle.lines.specs.declared.StreamlineDirection.{StreamlineDirection}
-use Rattle.lines.specs.Line.{signedStep, onward, lineFrom, line, lineAnswer, integrate}
+use Rattle.lines.specs.declared.Rake.{Rake}
+use Rattle.lines.specs.declared.StreamlineSettings.{StreamlineSettings}
+use Rattle.lines.specs.Line.{signedStep, onward, lineFrom, pointsAfter, line, lineAnswer, integrate}
 use Rattle.lines.specs.Rake.{linesWords, integrateRake}
 use Rattle.job_serve.specs.Serve.{decided}
 use Rattle.job_reads.specs.Within.{Sound}
@@ -55,32 +56,32 @@ module _ (n : ℕ) (f : StreamlineField) (sound : Sound n f) where
   unfolding locateIn locate
   located-below p i e = where-below _ _ i e
 
-  nearer-below : (p : Vec3) (j k : ℕ) → j < n → k < n → nearerOf f p j k < n
+  nearer-below : (p : Vec3) (j k : ℕ) → j < n → k < n → nearerOf (f .cells) p j k < n
   unfolding nearerOf
-  nearer-below p j k a b = by (nearer (distanceSquared f p k) (distanceSquared f p j))
+  nearer-below p j k a b = by (nearer (distanceSquared (f .cells) p k) (distanceSquared (f .cells) p j))
     where
       by : (t : Bool) → cond t k j < n
       by true = b
       by false = a
 
-  nearest-below : (p : Vec3) (k : ℕ) (ks : List ℕ) → k < n → All (λ j. j < n) ks → fold (nearerOf f p) k ks < n
+  nearest-below : (p : Vec3) (k : ℕ) (ks : List ℕ) → k < n → All (λ j. j < n) ks → fold (nearerOf (f .cells) p) k ks < n
   unfolding fold
   nearest-below p k [] h g = h
-  nearest-below p k (j ∷ ks) h g = nearest-below p (nearerOf f p k j) ks (nearer-below p k j h (g .0)) (g .1)
+  nearest-below p k (j ∷ ks) h g = nearest-below p (nearerOf (f .cells) p k j) ks (nearer-below p k j h (g .0)) (g .1)
 
-  beside-within : (t : Bool) (p : Vec3) (cell : ℕ) (base : Vec3) (k : ℕ) → k < n → Within n (beside t f p cell base k)
-  unfolding beside
-  beside-within false p cell base k h = given
-  beside-within true p cell base k h = within-bind (asked h (λ v. given)) (λ v. given)
+  beside-within : (t : Bool) (p : Vec3) (i : ℕ) (base : Vec3) (k : ℕ) → k < n → Within n (besideIf t f p i base k)
+  unfolding besideIf
+  beside-within false p i base k h = given
+  beside-within true p i base k h = within-bind (asked h (λ v. given)) (λ v. given)
 
-  toward-within : (p : Vec3) (cell : ℕ) (base : Vec3) (ks : List ℕ) → All (λ k. k < n) ks → Within n (toward f p cell base ks)
-  unfolding toward
-  toward-within p cell base [] h = given
-  toward-within p cell base (k ∷ ks) h = beside-within _ p cell base _ (nearest-below p k ks (h .0) (h .1))
+  nearest-within : (p : Vec3) (i : ℕ) (base : Vec3) (ks : List ℕ) → All (λ k. k < n) ks → Within n (besideNearest f p i base ks)
+  unfolding besideNearest beside nearestOf
+  nearest-within p i base [] h = given
+  nearest-within p i base (k ∷ ks) h = beside-within _ p i base _ (nearest-below p k ks (h .0) (h .1))
 
   velocity-in : (p : Vec3) (i : ℕ) → i < n → Within n (velocityIn f p i)
-  unfolding velocityIn
-  velocity-in p i h = within-bind (asked h (λ v. given)) (λ v. toward-within p i (v .velocity) (neighboursOf f i) (sound .near i))
+  unfolding velocityIn toward
+  velocity-in p i h = within-bind (asked h (λ v. given)) (λ v. nearest-within p i (v .velocity) (neighboursOf (f .cells) i) (sound .near i))
 
   velocity-where : (p : Vec3) (r : Found) → locateIn f p ≡ r → Within n (velocityWhere f p r)
   unfolding velocityWhere
@@ -159,23 +160,23 @@ module _ (n : ℕ) (f : StreamlineField) (sound : Sound n f) where
   line-from-within o h zero p total = given
   line-from-within o h (suc k) p total = within-bind (step-within o h p total) (onward-within (lineFrom f o h k) (line-from-within o h k) total)
 
-  line-within : (o : StreamlineOptions) (d : StreamlineDirection) (seed : Vec3) → Within n (line f o d seed)
-  unfolding line
-  line-within o d seed = within-bind (line-from-within o (signedStep o d) (o .«max_steps») seed 0·0) (λ l. given)
+  line-within : (s : StreamlineSettings) (seed : Vec3) → Within n (line f s seed)
+  unfolding line pointsAfter
+  line-within s seed = within-bind (line-from-within (s .options) (signedStep s) (s .options .«max_steps») seed 0·0) (λ l. given)
 
-  line-answer-within : (o : StreamlineOptions) (d : StreamlineDirection) (seed : Vec3) → Within n (lineAnswer f o d seed)
+  line-answer-within : (s : StreamlineSettings) (seed : Vec3) → Within n (lineAnswer f s seed)
   unfolding lineAnswer
-  line-answer-within o d seed = within-bind (line-within o d seed) (λ l. given)
+  line-answer-within s seed = within-bind (line-within s seed) (λ l. given)
 
-  lines-within : (o : StreamlineOptions) (d : StreamlineDirection) (ps : List Vec3) → Within n (linesWords f o d ps)
+  lines-within : (s : StreamlineSettings) (ps : List Vec3) → Within n (linesWords f s ps)
   unfolding linesWords
-  lines-within o d [] = given
-  lines-within o d (p ∷ ps) = within-bind (line-answer-within o d p) (λ l. within-bind (lines-within o d ps) (λ ws. given))
+  lines-within s [] = given
+  lines-within s (p ∷ ps) = within-bind (line-answer-within s p) (λ l. within-bind (lines-within s ps) (λ ws. given))
 
-  pub integrate-within : (p : Vec3) (d : StreamlineDirection) (o : StreamlineOptions) → Within n (decided (integrate f p d o))
+  pub integrate-within : (p : Vec3) (s : StreamlineSettings) → Within n (decided (integrate f p s))
   unfolding integrate
-  integrate-within p d o = unless-within n 34 35 _ _ _ (line-answer-within o d p)
+  integrate-within p s = unless-within n 34 35 _ _ _ (line-answer-within s p)
 
-  pub rake-within : (start end : Vec3) (count : ℕ) (d : StreamlineDirection) (o : StreamlineOptions) → Within n (decided (integrateRake f start end count d o))
+  pub rake-within : (r : Rake) (s : StreamlineSettings) → Within n (decided (integrateRake f r s))
   unfolding integrateRake
-  rake-within start end count d o = unless-within n 34 35 _ _ _ (within-bind (lines-within o d _) (λ ws. given))
+  rake-within r s = unless-within n 34 35 _ _ _ (within-bind (lines-within s _) (λ ws. given))

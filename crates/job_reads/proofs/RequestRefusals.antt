@@ -22,8 +22,8 @@ use Rattle.planes_sums.specs.Statistics.{summing, addSample, empty, statisticsF
 use Rattle.planes_sums.specs.Integrals.{fit, addIntegral, vacant, integralsFrom, integrals}
 use Rattle.planes_samples.specs.Sampling.{before, onward, sample}
 use Rattle.planes.specs.Answers.{sampled, sectionOf, statisticsOf, integralsOf, probeOf}
-use Rattle.lines_step.specs.declared.StreamlineOptions.{StreamlineOptions}
-use Rattle.lines.specs.declared.StreamlineDirection.{StreamlineDirection}
+use Rattle.lines.specs.declared.Rake.{Rake}
+use Rattle.lines.specs.declared.StreamlineSettings.{StreamlineSettings}
 use Rattle.lines.specs.Line.{integrate}
 use Rattle.lines.specs.Rake.{integrateRake}
 use Rattle.job_requests.specs.declared.Request.{Request}
@@ -42,8 +42,8 @@ data Good : Request → Type 0 where
   refusal : (k : ℕ) → among 30 44 k ≡ true → Good (requests.Refused k)
   locate : {p : Vec3} → Good (requests.Locate p)
   velocity : {p : Vec3} → Good (requests.Velocity p)
-  line : {p : Vec3} {d : StreamlineDirection} {o : StreamlineOptions} → Good (requests.Streamline p d o)
-  lines : {a b : Vec3} {n : ℕ} {d : StreamlineDirection} {o : StreamlineOptions} → Good (requests.Rake a b n d o)
+  line : {p : Vec3} {s : StreamlineSettings} → Good (requests.Streamline p s)
+  lines : {r : Rake} {s : StreamlineSettings} → Good (requests.Rake r s)
   section : {s : Plane} → Good (requests.Section s)
   sums : {s : Plane} {field : ℕ} → Good (requests.Statistics s field)
   means : {s : Plane} → Good (requests.Integrals s)

@@ -28,7 +28,7 @@ pub record Numbers (n : ℕ) (m : Mesh) : Type 0 where
 -- a field of at most n cells, whose neighbours are among them
 pub record Sound (n : ℕ) (f : StreamlineField) : Type 0 where
   pub few : length (f .polygons) ≤ n
-  pub near : (i : ℕ) → All (λ k. k < n) (neighboursOf f i)
+  pub near : (i : ℕ) → All (λ k. k < n) (neighboursOf (f .cells) i)
 
 -- a field over the cells of a mesh, with a polygon for each
 pub record FieldFrom (m : Mesh) (f : StreamlineField) : Type 0 where

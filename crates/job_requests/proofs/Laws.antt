@@ -17,7 +17,7 @@ use Rattle.planes_cut.specs.declared.Plane.{Plane}
 use Rattle.job_requests.specs.declared.Code.{Code}
 use Rattle.job_requests.specs.declared.Request.{Request}
 use Rattle.job_requests.specs.Codes.{codeOf}
-use Rattle.job_requests.specs.Requests.{wordsAt, requestsIn, number, refuseIf, illFormed, wrongDimension, options, streamline, rakeOf, rake, planeOf, statistics, overPlane, planar, byCode, requestOf}
+use Rattle.job_requests.specs.Requests.{wordsAt, requestsIn, number, refuseIf, illFormed, wrongDimension, settings, streamline, rakeOf, rake, planeOf, statistics, overPlane, planar, byCode, requestOf}
 use Rattle.job_requests.specs.declared.Request.the-variants.{Refused}
 use Rattle.job_requests.specs.Bounds.{Allowed}
 
@@ -72,13 +72,13 @@ allowed-either false r q h k = k
 module _ (r : List ℕ) where
   allowed-streamline : (k : ℕ) → Allowed (streamline r k)
   unfolding streamline Allowed
-  allowed-streamline k = allowed-unless 33 _ _ (ltb-false 65536 (options r k .«max_steps»))
+  allowed-streamline k = allowed-unless 33 _ _ (ltb-false 65536 (settings r k .options .«max_steps»))
 
   allowed-rake : (k : ℕ) → Allowed (rake r k)
   unfolding rake rakeOf Allowed
   allowed-rake k =
       allowed-unless 32 _ _ (λ a. allowed-unless 33 _ _ (λ b. allowed-unless 33 _ _ (λ c.
-      (ltb-false (number r 7) 2 a, ltb-false 64 (number r 7) b, ltb-false 65536 (options r k .«max_steps») c))))
+      (ltb-false (number r 7) 2 a, ltb-false 64 (number r 7) b, ltb-false 65536 (settings r k .options .«max_steps») c))))
 
   allowed-over : (code : ℕ) (s : Plane) → Allowed (overPlane r code s)
   unfolding overPlane statistics Allowed

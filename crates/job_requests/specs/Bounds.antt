@@ -7,8 +7,8 @@ unfoldable pub Allowed : Request → Type 0
 Allowed (Refused n) = Unit
 Allowed (Locate p) = Unit
 Allowed (Velocity p) = Unit
-Allowed (Streamline p d o) = o .«max_steps» ≤ 65536
-Allowed (Rake a b count d o) = (2 ≤ count) × (count ≤ 64) × (o .«max_steps» ≤ 65536)
+Allowed (Streamline p s) = s .options .«max_steps» ≤ 65536
+Allowed (Rake r s) = (2 ≤ r .count) × (r .count ≤ 64) × (s .options .«max_steps» ≤ 65536)
 Allowed (Section s) = Unit
 Allowed (Statistics s field) = Unit
 Allowed (Integrals s) = Unit

@@ -13,6 +13,7 @@ use Rattle.arith.specs.declared.Vec3.{Vec3}
 use Rattle.lines_step.specs.declared.StreamlineOptions.{StreamlineOptions}
 use Rattle.lines.specs.declared.StreamlineDirection.{StreamlineDirection}
 use Rattle.lines.specs.declared.StreamlineDirection.the-variants.{Forward, Backward}
+use Rattle.lines.specs.declared.StreamlineSettings.{StreamlineSettings}
 use Rattle.planes_cut.specs.declared.Plane.{Plane}
 use Rattle.planes_cut.specs.Plane.{planeRefusal}
 use Rattle.job_requests.specs.declared.Code.{Code}
@@ -78,13 +79,16 @@ options r k =
       «stagnation_speed» = real r (k + 4);
     }
 
+unfoldable pub settings : List ℕ → ℕ → StreamlineSettings
+settings r k = record { direction = direction r k; options = options r k }
+
 -- refusal 33: "max_steps above 65,536"
 unfoldable pub streamline : List ℕ → ℕ → Request
-streamline r k = refuseIf 33 (ltb 65536 (options r k .«max_steps»)) (Streamline (point r 1) (direction r k) (options r k))
+streamline r k = refuseIf 33 (ltb 65536 (settings r k .options .«max_steps»)) (Streamline (point r 1) (settings r k))
 
 -- the same of a rake with so many seeds
 unfoldable pub rakeOf : List ℕ → ℕ → ℕ → Request
-rakeOf r k count = refuseIf 33 (ltb 65536 (options r k .«max_steps»)) (Rake (point r 1) (point r 4) count (direction r k) (options r k))
+rakeOf r k count = refuseIf 33 (ltb 65536 (settings r k .options .«max_steps»)) (Rake (record { start = point r 1; end = point r 4; count = count }) (settings r k))
 
 -- refusal 32: "rake count below 2"; 33: "count above 64 or max_steps above 65,536"
 unfoldable pub rake : List ℕ → ℕ → Request

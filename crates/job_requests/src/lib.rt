@@ -4,7 +4,9 @@ pub mod encode;
 
 use arith::Vec3;
 use arith::bytes;
+use lines::Rake;
 use lines::StreamlineDirection;
+use lines::StreamlineSettings;
 use lines_step::StreamlineOptions;
 use planes_cut::Plane;
 use planes_cut::axes;
@@ -29,8 +31,8 @@ pub enum Request {
     Refused(u64),
     Locate(Vec3),
     Velocity(Vec3),
-    Streamline(Vec3, StreamlineDirection, StreamlineOptions),
-    Rake(Vec3, Vec3, usize, StreamlineDirection, StreamlineOptions),
+    Streamline(Vec3, StreamlineSettings),
+    Rake(Rake, StreamlineSettings),
     Section(Plane),
     Statistics(Plane, u64),
     Integrals(Plane),
@@ -134,15 +136,26 @@ fn options(bytes: &[u8], at: usize, k: usize) -> StreamlineOptions
     }
 }
 
+// Both.
+fn settings(bytes: &[u8], at: usize, k: usize) -> StreamlineSettings
+    requires { ⌜ (at + 128 ≤ length (now bytes)) × (k < 12) ⌝ }
+    ensures { λ r. ⌜ r ≡ Requests.settings (wordsAt (now (bytes .entry)) at) k ⌝ }
+{
+    StreamlineSettings {
+        direction: direction(bytes, at, k),
+        options: options(bytes, at, k),
+    }
+}
+
 fn streamline(bytes: &[u8], at: usize, k: usize) -> Request
     requires { ⌜ (at + 128 ≤ length (now bytes)) × (k < 12) ⌝ }
     ensures { λ r. ⌜ r ≡ Requests.streamline (wordsAt (now (bytes .entry)) at) k ⌝ }
 {
-    let o = options(bytes, at, k);
-    if o.max_steps > 65536 {
+    let s = settings(bytes, at, k);
+    if s.options.max_steps > 65536 {
         return Request::Refused(33);
     }
-    Request::Streamline(point(bytes, at, 1), direction(bytes, at, k), o)
+    Request::Streamline(point(bytes, at, 1), s)
 }
 
 // The lines from `count` seeds.
@@ -150,17 +163,16 @@ fn rake_of(bytes: &[u8], at: usize, k: usize, count: usize) -> Request
     requires { ⌜ (at + 128 ≤ length (now bytes)) × (k < 12) ⌝ }
     ensures { λ r. ⌜ r ≡ Requests.rakeOf (wordsAt (now (bytes .entry)) at) k count ⌝ }
 {
-    let o = options(bytes, at, k);
-    if o.max_steps > 65536 {
+    let s = settings(bytes, at, k);
+    if s.options.max_steps > 65536 {
         return Request::Refused(33);
     }
-    Request::Rake(
-        point(bytes, at, 1),
-        point(bytes, at, 4),
+    let rake = Rake {
+        start: point(bytes, at, 1),
+        end: point(bytes, at, 4),
         count,
-        direction(bytes, at, k),
-        o,
-    )
+    };
+    Request::Rake(rake, s)
 }
 
 fn rake(bytes: &[u8], at: usize, k: usize) -> Request

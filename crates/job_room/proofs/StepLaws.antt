@@ -33,6 +33,7 @@ use Rattle.lines_field.specs.declared.Built as polygons
 use Rattle.lines_field.specs.declared.Built.the-variants as Traced
 use Rattle.lines_field.specs.Field.{polygonsOf, gridOf, fieldOf, builtGrid}
 use Rattle.lines_locate.specs.Layout.{fieldIn}
+use Rattle.lines_velocity.specs.Ready.{tracerField}
 use Rattle.lines_field.specs.Layout.{Traceable}
 use Rattle.lines_field.proofs.BuildLaws.{lent-words, lent-floats}
 use Rattle.planes_cut.specs.Work.{bare}
@@ -141,14 +142,18 @@ module _ (case : List ℕ) (n : Counts) (s : Sizes) (w : List ℕ) (f : List Flo
       add-field-refused k e =
           let g : roomFrom (n .dimension) m ≡ refused k = room-from-flat ∙ rw (field-refused k e, _>>=_) in barred g
 
-      pub add-field-flat : (g : Grid) → r ≡ Traced.Made g → length w′ ≡ length w → length f′ ≡ length f → Preparing (roomFrom (n .dimension) m) case w′ f′ (Prepared.Ready (Flat n s g))
-      unfolding _>>=_ roomIn Servable countsIn
+      pub add-field-flat : (g : Grid) → r ≡ Traced.Made g → length w′ ≡ length w → length f′ ≡ length f → Preparing (roomFrom (n .dimension) m) case w′ f′ (Prepared.Ready (Flat (record { counts = n; sizes = s; grid = g })))
+      unfolding _>>=_ roomIn Servable countsIn tracerField
       add-field-flat g e lw lf =
           let whole : roomFrom (n .dimension) m ≡ fine (flat (fieldIn g s w′ f′)) = room-from-flat ∙ rw (t .field g e, _>>=_) in
-          standing {p = Flat n s g} whole
+          standing {p = Flat (record { counts = n; sizes = s; grid = g })} whole
           (record {
             opens = d .opens;
-            servable = record { opens = d .opens; lent-words = lent-words s w w′ (d .lent-words) lw; lent-floats = lent-floats s f f′ (d .lent-floats) lf; searchable = t .searchable g e };
+            servable =
+                record {
+                  opens = d .opens;
+                  area = record { lent-words = lent-words s w w′ (d .lent-words) lw; lent-floats = lent-floats s f f′ (d .lent-floats) lf; searchable = t .searchable g e };
+                };
           })
 
 -- ---- 8 to 17

@@ -9,8 +9,7 @@ use Rattle.case_file.specs.declared.Counts.{Counts}
 use Rattle.case_file.specs.declared.Opened.the-variants.{Case}
 use Rattle.case_file.specs.Trailer.{opened}
 use Rattle.mesh_area.specs.Layout.{pointsIn, meshIn}
-use Rattle.lines_locate.specs.Layout.{fieldIn}
-use Rattle.lines_velocity.specs.Ready as Tracer
+use Rattle.lines_velocity.specs.Ready.{tracerField, Ready}
 use Rattle.planes_samples.specs.Stream as Planes
 use Rattle.job_room.specs.Room.{Room, flat, solid, Lent}
 use Rattle.job_room.specs.declared.Place.{Place}
@@ -20,17 +19,17 @@ use Rattle.job_room.specs.declared.Prepared.the-variants as Prepared
 
 -- the room that stands at a place
 unfoldable pub roomIn : List ℕ → List ℕ → List Float → Place → Room
-roomIn file words floats (Flat n s g) = flat (fieldIn g s words floats)
+roomIn file words floats (Flat t) = flat (tracerField t words floats)
 roomIn file words floats (Solid n s) = solid (meshIn (pointsIn file (n .points)) s words floats)
 
 -- the counts of its case
 unfoldable pub countsIn : Place → Counts
-countsIn (Flat n s g) = n
+countsIn (Flat t) = t .counts
 countsIn (Solid n s) = n
 
 -- what the tracer, or the planes, ask of it
 unfoldable pub Servable : List ℕ → List ℕ → List Float → Place → Type 0
-Servable file words floats (Flat n s g) = Tracer.Ready file n words floats s g
+Servable file words floats (Flat t) = Ready file words floats t
 Servable file words floats (Solid n s) = (marks : List ℕ) → n .cells ≤ length marks → Planes.Ready file n s words marks
 
 pub record Stands (file words : List ℕ) (floats : List Float) (p : Place) : Type 0 where

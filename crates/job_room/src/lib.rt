@@ -1,7 +1,7 @@
 // The room of a case: its mesh in the work area and, in 2D, its field. Refusals 1 to 19.
 use case_file::Counts;
 use lines_field::build;
-use lines_locate::Grid;
+use lines_velocity::Tracer;
 use mesh::Surveyed;
 use mesh_area::Sizes;
 ghost use Prim.Native.Nat.{_≤_};
@@ -20,7 +20,7 @@ ghost use Rattle.job_room.specs.Steps.{Shortage, FieldReady};
 
 // Where a room stands in the work area.
 pub enum Place {
-    Flat(Counts, Sizes, Grid),
+    Flat(Tracer),
     Solid(Counts, Sizes),
 }
 
@@ -42,7 +42,14 @@ fn add_field(case: &[u8], n: Counts, s: Sizes, words: &mut [u32], floats: &mut [
     }
     match build::from_dataset(case, n.points, words, floats, s) {
         lines_field::Built::Refused(k) => Prepared::Refused(k),
-        lines_field::Built::Made(g) => Prepared::Ready(Place::Flat(n, s, g)),
+        lines_field::Built::Made(g) => {
+            let t = Tracer {
+                counts: n,
+                sizes: s,
+                grid: g,
+            };
+            Prepared::Ready(Place::Flat(t))
+        }
     }
 }
 

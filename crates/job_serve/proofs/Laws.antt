@@ -20,22 +20,19 @@ use Rattle.reading.proofs.AsksLaws.{run-bind, reads-bind}
 use Rattle.mesh_area.specs.Tables.{Mesh}
 use Rattle.mesh_area.specs.Layout.{pointsIn, meshIn}
 use Rattle.mesh_area.specs.declared.Sizes.{Sizes}
-use Rattle.lines_locate.specs.declared.Grid.{Grid}
 use Rattle.lines_locate.specs.Field.{StreamlineField}
-use Rattle.lines_locate.specs.Locate.{locate}
-use Rattle.lines_locate.specs.Layout.{cellPolygonsIn, fieldIn}
 use Rattle.case_file.specs.declared.Counts.{Counts}
 use Rattle.planes_cut.specs.declared.Plane.{Plane}
 use Rattle.planes_sections.specs.Intersect.{intersect}
 use Rattle.lines_velocity.specs.declared.Vector.{Vector}
 use Rattle.lines_velocity.specs.declared.Vector.the-variants.{Here, Nowhere}
-use Rattle.lines_velocity.specs.Velocity.{velocityAt}
-use Rattle.lines_velocity.specs.Ready as Tracer
-use Rattle.lines_velocity.proofs.VelocityLaws.{locate-in}
-use Rattle.lines_step.specs.declared.StreamlineOptions.{StreamlineOptions}
+use Rattle.lines_velocity.specs.declared.Tracer.{Tracer}
+use Rattle.lines_velocity.specs.Velocity.{locateIn, velocityAt}
+use Rattle.lines_velocity.specs.Ready.{tracerField, Ready}
 use Rattle.lines.specs.declared.Traced.{Traced}
 use Rattle.lines.specs.declared.Traced.the-variants as Traced
-use Rattle.lines.specs.declared.StreamlineDirection.{StreamlineDirection}
+use Rattle.lines.specs.declared.Rake as declared
+use Rattle.lines.specs.declared.StreamlineSettings.{StreamlineSettings}
 use Rattle.lines.specs.Line.{integrate}
 use Rattle.lines.specs.Rake.{integrateRake}
 use Rattle.lines.specs.Answered as Lines
@@ -111,10 +108,10 @@ velocity-four (Here u) = refl
 velocity-four Nowhere = refl
 
 module _ {v : ℕ → Values} {o o′ m : List ℕ} where
-  pub locate-reply : (g : Grid) (s : Sizes) (w : List ℕ) (fs : List Float) (p : Vec3) (r : Found) → r ≡ locate g (cellPolygonsIn s w fs) p → o′ ≡ sets o 0 (foundWords r)
-      → Replied (serveFlat (fieldIn g s w fs) (Locate p)) v o (Answered.Words 1) o o′ m m
+  pub locate-reply : (F : StreamlineField) (p : Vec3) (r : Found) → r ≡ locateIn F p → o′ ≡ sets o 0 (foundWords r)
+      → Replied (serveFlat F (Locate p)) v o (Answered.Words 1) o o′ m m
   unfolding serveFlat
-  locate-reply g s w fs p r e h = rw (sym (locate-in g s w fs p r e)) (replied-yes (foundWords r) 1 (found-one r) h)
+  locate-reply F p r e h = rw (sym e) (replied-yes (foundWords r) 1 (found-one r) h)
 
   pub velocity-reply : (F : StreamlineField) {m′ : List ℕ} (p : Vec3) (r : Vector) → Served (velocityAt F p) v m m′ r → o′ ≡ sets o 0 (velocityWords r)
       → Replied (serveFlat F (Velocity p)) v o (Answered.Words 4) o o′ m m′
@@ -128,26 +125,26 @@ module _ {v : ℕ → Values} {o o′ m : List ℕ} where
         marks = t .marks ∙ ap (markAll m) (sym (reads-bind (velocityAt F p) tail v ∙ append-nil (reads (velocityAt F p) v)));
       }
 
-  pub streamline-reply : {m′ : List ℕ} (F : StreamlineField) (p : Vec3) (d : StreamlineDirection) (x : StreamlineOptions) (r : Traced) (a : Answered) → Lines.Answered (integrate F p d x) v m m′ o o′ r
-      → answerOf a ≡ resultOf r → Replied (serveFlat F (Streamline p d x)) v o a o o′ m m′
+  pub streamline-reply : {m′ : List ℕ} (F : StreamlineField) (p : Vec3) (s : StreamlineSettings) (r : Traced) (a : Answered) → Lines.Answered (integrate F p s) v m m′ o o′ r
+      → answerOf a ≡ resultOf r → Replied (serveFlat F (Streamline p s)) v o a o o′ m m′
   unfolding serveFlat
-  streamline-reply F p d x r a w e = decided-replied v w e
+  streamline-reply F p s r a w e = decided-replied v w e
 
-  pub rake-reply : {m′ : List ℕ} (F : StreamlineField) (a b : Vec3) (n : ℕ) (d : StreamlineDirection) (x : StreamlineOptions) (r : Traced) (t : Answered) → Lines.Answered (integrateRake F a b n d x) v m m′ o o′ r
-      → answerOf t ≡ resultOf r → Replied (serveFlat F (Rake a b n d x)) v o t o o′ m m′
+  pub rake-reply : {m′ : List ℕ} (F : StreamlineField) (k : declared.Rake) (s : StreamlineSettings) (r : Traced) (t : Answered) → Lines.Answered (integrateRake F k s) v m m′ o o′ r
+      → answerOf t ≡ resultOf r → Replied (serveFlat F (Rake k s)) v o t o o′ m m′
   unfolding serveFlat
-  rake-reply F a b n d x r t w e = decided-replied v w e
+  rake-reply F k s r t w e = decided-replied v w e
 
 -- ---- which code it is
 
-pub allowed-streamline : (q : Request) (p : Vec3) (d : StreamlineDirection) (x : StreamlineOptions) → q ≡ Streamline p d x → Allowed q → x .«max_steps» ≤ 65536
+pub allowed-streamline : (q : Request) (p : Vec3) (s : StreamlineSettings) → q ≡ Streamline p s → Allowed q → s .options .«max_steps» ≤ 65536
 unfolding Allowed
-allowed-streamline q p d x e h = rw e at h
+allowed-streamline q p s e h = rw e at h
 
-pub allowed-rake : (q : Request) (a b : Vec3) (n : ℕ) (d : StreamlineDirection) (x : StreamlineOptions) → q ≡ Rake a b n d x → Allowed q
-    → (2 ≤ n) × (n ≤ 64) × (x .«max_steps» ≤ 65536)
+pub allowed-rake : (q : Request) (k : declared.Rake) (s : StreamlineSettings) → q ≡ Rake k s → Allowed q
+    → (2 ≤ k .count) × (k .count ≤ 64) × (s .options .«max_steps» ≤ 65536)
 unfolding Allowed
-allowed-rake q a b n d x e h = rw e at h
+allowed-rake q k s e h = rw e at h
 
 abbrev tag : Request → ℕ
 tag = tagOf the-type
@@ -174,8 +171,8 @@ module _ (F : StreamlineField) {v : ℕ → Values} {o m : List ℕ} where
   flat-other (Refused n) h = absurd (let k = high 0 h in omega arith)
   flat-other (Locate p) h = absurd (let k = high 1 h in omega arith)
   flat-other (Velocity p) h = absurd (let k = high 2 h in omega arith)
-  flat-other (Streamline p d x) h = absurd (let k = high 3 h in omega arith)
-  flat-other (Rake a b n d x) h = absurd (let k = high 4 h in omega arith)
+  flat-other (Streamline p s) h = absurd (let k = high 3 h in omega arith)
+  flat-other (Rake k s) h = absurd (let k = high 4 h in omega arith)
   flat-other (Section s) h = replied-no 31
   flat-other (Statistics s field) h = replied-no 31
   flat-other (Integrals s) h = replied-no 31
@@ -194,8 +191,8 @@ module _ (M : Mesh) (v : ℕ → Values) (o : List ℕ) {m : List ℕ} where
   solid-other (Refused n) h = absurd (let k = low 0 h in omega arith)
   solid-other (Locate p) h = replied-no 31
   solid-other (Velocity p) h = replied-no 31
-  solid-other (Streamline p d x) h = replied-no 31
-  solid-other (Rake a b n d x) h = replied-no 31
+  solid-other (Streamline p s) h = replied-no 31
+  solid-other (Rake k s) h = replied-no 31
   solid-other (Section s) h = absurd (let k = low 5 h in omega arith)
   solid-other (Statistics s field) h = absurd (let k = low 6 h in omega arith)
   solid-other (Integrals s) h = absurd (let k = low 7 h in omega arith)
@@ -220,26 +217,26 @@ module _ (M : Mesh) (v : ℕ → Values) (o : List ℕ) {m : List ℕ} where
 
 -- ---- which room it is
 
-module _ (file words : List ℕ) (floats : List Float) (p : Place) (n : Counts) (s : Sizes) where
-  pub stands-flat : (g : Grid) → p ≡ Flat n s g → Stands file words floats p → Tracer.Ready file n words floats s g
+module _ (file words : List ℕ) (floats : List Float) (p : Place) where
+  pub stands-flat : (t : Tracer) → p ≡ Flat t → Stands file words floats p → Ready file words floats t
   unfolding Servable
-  stands-flat g e h = rw e at (h .servable)
+  stands-flat t e h = rw e at (h .servable)
 
-  pub stands-solid : (marks : List ℕ) → p ≡ Solid n s → Stands file words floats p → countsIn p .cells ≤ length marks → Planes.Ready file n s words marks
+  pub stands-solid : (n : Counts) (s : Sizes) (marks : List ℕ) → p ≡ Solid n s → Stands file words floats p → countsIn p .cells ≤ length marks → Planes.Ready file n s words marks
   unfolding Servable countsIn
-  stands-solid marks e h b = (rw e at (h .servable)) marks (rw e at b)
+  stands-solid n s marks e h b = (rw e at (h .servable)) marks (rw e at b)
 
   module _ (v : ℕ → Values) {r : Answered} (o : List ℕ) {o′ m m′ : List ℕ} (q : Request) where
-    pub in-flat : (g : Grid) → p ≡ Flat n s g → Replied (serveFlat (fieldIn g s words floats) q) v o r o o′ m m′
+    pub in-flat : (t : Tracer) → p ≡ Flat t → Replied (serveFlat (tracerField t words floats) q) v o r o o′ m m′
         → Replied (serve (roomIn file words floats p) q) v (leftUnder (roomIn file words floats p) q v o) r o o′ m m′
     unfolding serve roomIn leftUnder
-    in-flat g e h = rw e h
+    in-flat t e h = rw e h
 
-    pub in-solid : p ≡ Solid n s
+    pub in-solid : (n : Counts) (s : Sizes) → p ≡ Solid n s
         → Replied (serveSolid (meshIn (pointsIn file (n .points)) s words floats) q) v (leftUnder (solid (meshIn (pointsIn file (n .points)) s words floats)) q v o) r o o′ m m′
         → Replied (serve (roomIn file words floats p) q) v (leftUnder (roomIn file words floats p) q v o) r o o′ m m′
     unfolding serve roomIn
-    in-solid e h = rw e h
+    in-solid n s e h = rw e h
 
 -- ---- the answer words keep their number
 
@@ -249,8 +246,8 @@ left-long (flat f) q v o = refl
 left-long (solid m) (Refused n) v o = refl
 left-long (solid m) (Locate p) v o = refl
 left-long (solid m) (Velocity p) v o = refl
-left-long (solid m) (Streamline p d x) v o = refl
-left-long (solid m) (Rake a b n d x) v o = refl
+left-long (solid m) (Streamline p s) v o = refl
+left-long (solid m) (Rake k s) v o = refl
 left-long (solid m) (Section s) v o = length-sets o 1 (flatten (map sampleWords (goods v (intersect m s))))
 left-long (solid m) (Statistics s field) v o = refl
 left-long (solid m) (Integrals s) v o = refl

@@ -39,8 +39,8 @@ unfoldable pub serveFlat : StreamlineField → Request → Asks (Result (List �
 serveFlat f (Refused n) = give (refused n)
 serveFlat f (Locate p) = give (fine (foundWords (locateIn f p)))
 serveFlat f (Velocity p) = velocityAt f p >>= λ v. give (fine (velocityWords v))
-serveFlat f (Streamline p d o) = decided (integrate f p d o)
-serveFlat f (Rake a b n d o) = decided (integrateRake f a b n d o)
+serveFlat f (Streamline p s) = decided (integrate f p s)
+serveFlat f (Rake r s) = decided (integrateRake f r s)
 serveFlat f (Section s) = give (refused 31)
 serveFlat f (Statistics s field) = give (refused 31)
 serveFlat f (Integrals s) = give (refused 31)
@@ -51,8 +51,8 @@ unfoldable pub serveSolid : Mesh → Request → Asks (Result (List ℕ))
 serveSolid m (Refused n) = give (refused n)
 serveSolid m (Locate p) = give (refused 31)
 serveSolid m (Velocity p) = give (refused 31)
-serveSolid m (Streamline p d o) = give (refused 31)
-serveSolid m (Rake a b n d o) = give (refused 31)
+serveSolid m (Streamline p s) = give (refused 31)
+serveSolid m (Rake r s) = give (refused 31)
 serveSolid m (Section s) = sectionOf m s
 serveSolid m (Statistics s field) = statisticsOf m s field
 serveSolid m (Integrals s) = integralsOf m s

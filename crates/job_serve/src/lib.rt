@@ -4,12 +4,12 @@ use arith::Vec3;
 use case_file::Counts;
 use job_requests::Request;
 use job_room::Place;
-use lines::StreamlineDirection;
+use lines::Rake;
+use lines::StreamlineSettings;
 use lines::Traced;
 use lines::integrate;
-use lines::rake;
-use lines_locate::Grid;
-use lines_step::StreamlineOptions;
+use lines::rakes;
+use lines_velocity::Tracer;
 use lines_velocity::Vector;
 use lines_velocity::interpolate;
 use mesh_area::Sizes;
@@ -22,10 +22,9 @@ ghost use lib.ListN.{length};
 ghost use lib.Seq.{sets};
 ghost use lib.Ieee.{Float};
 ghost use Rattle.reading.specs.declared.Values.{Values};
-ghost use Rattle.mesh_area.specs.Layout.{LentWords, LentFloats, pointsIn, meshIn};
+ghost use Rattle.mesh_area.specs.Layout.{pointsIn, meshIn};
 ghost use Rattle.case_file.specs.Field.{valuesOf};
-ghost use Rattle.lines_locate.specs.Layout.{fieldIn, Searchable};
-ghost use Rattle.lines_velocity.specs.Ready as Tracer;
+ghost use Rattle.lines_velocity.specs.Ready.{tracerField, Locatable, Ready};
 ghost use Rattle.lines.specs.Answered.{resultOf};
 ghost use Rattle.planes_samples.specs.Stream as Planes;
 ghost use Rattle.planes.specs.Reply.{answerOf, Replied};
@@ -73,41 +72,32 @@ fn answered(r: Traced) -> Answered
 }
 
 // Code 1.
-fn serve_locate(
-    words: &[u32],
-    floats: &[f64],
-    s: Sizes,
-    g: Grid,
-    out: &mut [u64],
-    p: Vec3,
-) -> Answered
-    requires { ⌜ LentWords s (now words) × LentFloats s (now floats) × Searchable g s (now words) (now floats) ⌝ }
+fn serve_locate(words: &[u32], floats: &[f64], t: Tracer, out: &mut [u64], p: Vec3) -> Answered
+    requires { ⌜ Locatable (now words) (now floats) t ⌝ }
     ensures { λ r. ⌜ ((f : ℕ → Values) (m : List ℕ) → Replied
-        (Serve.serveFlat (fieldIn g s (now (words .entry)) (now (floats .entry))) (Code.Locate p)) f (now (out .entry))
-        r (now (out .entry)) (now (out .exit)) m m) ⌝ }
+        (Serve.serveFlat (tracerField t (now (words .entry)) (now (floats .entry))) (Code.Locate p)) f
+        (now (out .entry)) r (now (out .entry)) (now (out .exit)) m m) ⌝ }
 {
-    put_found(lines_locate::locate_cell(words, floats, s, g, p), out);
+    put_found(interpolate::locate(words, floats, t, p), out);
     Answered::Words(1)
 }
 
 // Code 2.
 fn serve_velocity(
     case: &[u8],
-    n: Counts,
     words: &[u32],
     floats: &[f64],
-    s: Sizes,
-    g: Grid,
+    t: Tracer,
     marks: &mut [u8],
     out: &mut [u64],
     p: Vec3,
 ) -> Answered
-    requires { ⌜ Tracer.Ready (now case) n (now words) (now floats) s g ⌝ }
-    ensures { λ r. ⌜ Replied (Serve.serveFlat (fieldIn g s (now (words .entry)) (now (floats .entry)))
+    requires { ⌜ Ready (now case) (now words) (now floats) t ⌝ }
+    ensures { λ r. ⌜ Replied (Serve.serveFlat (tracerField t (now (words .entry)) (now (floats .entry)))
         (Code.Velocity p)) (valuesOf (now (case .entry))) (now (out .entry)) r (now (out .entry)) (now (out .exit))
         (now (marks .entry)) (now (marks .exit)) ⌝ }
 {
-    let v = interpolate::velocity_at(case, n, words, floats, s, g, marks, p);
+    let v = interpolate::velocity_at(case, words, floats, t, marks, p);
     put_velocity(v, out);
     Answered::Words(4)
 }
@@ -115,65 +105,43 @@ fn serve_velocity(
 // Code 3.
 fn serve_streamline(
     case: &[u8],
-    n: Counts,
     words: &[u32],
     floats: &[f64],
-    s: Sizes,
-    g: Grid,
+    t: Tracer,
     marks: &mut [u8],
     out: &mut [u64],
-    p: Vec3,
-    d: StreamlineDirection,
-    options: StreamlineOptions,
+    seed: Vec3,
+    settings: StreamlineSettings,
 ) -> Answered
-    requires { ⌜ Tracer.Ready (now case) n (now words) (now floats) s g ⌝ }
-    requires { ⌜ options .«max_steps» ≤ 65536 ⌝ }
-    ensures { λ r. ⌜ Replied (Serve.serveFlat (fieldIn g s (now (words .entry)) (now (floats .entry)))
-        (Code.Streamline p d options)) (valuesOf (now (case .entry))) (now (out .entry)) r (now (out .entry))
+    requires { ⌜ Ready (now case) (now words) (now floats) t ⌝ }
+    requires { ⌜ settings .options .«max_steps» ≤ 65536 ⌝ }
+    ensures { λ r. ⌜ Replied (Serve.serveFlat (tracerField t (now (words .entry)) (now (floats .entry)))
+        (Code.Streamline seed settings)) (valuesOf (now (case .entry))) (now (out .entry)) r (now (out .entry))
         (now (out .exit)) (now (marks .entry)) (now (marks .exit)) ⌝ }
 {
-    let t = integrate::integrate(case, n, words, floats, s, g, marks, out, p, d, options);
-    answered(t)
+    let r = integrate::integrate(case, words, floats, t, marks, out, seed, settings);
+    answered(r)
 }
 
 // Code 4.
 fn serve_rake(
     case: &[u8],
-    n: Counts,
     words: &[u32],
     floats: &[f64],
-    s: Sizes,
-    g: Grid,
+    t: Tracer,
     marks: &mut [u8],
     out: &mut [u64],
-    a: Vec3,
-    b: Vec3,
-    count: usize,
-    d: StreamlineDirection,
-    options: StreamlineOptions,
+    rake: Rake,
+    settings: StreamlineSettings,
 ) -> Answered
-    requires { ⌜ Tracer.Ready (now case) n (now words) (now floats) s g ⌝ }
-    requires { ⌜ (2 ≤ count) × (count ≤ 64) × (options .«max_steps» ≤ 65536) ⌝ }
-    ensures { λ r. ⌜ Replied (Serve.serveFlat (fieldIn g s (now (words .entry)) (now (floats .entry)))
-        (Code.Rake a b count d options)) (valuesOf (now (case .entry))) (now (out .entry)) r (now (out .entry))
+    requires { ⌜ Ready (now case) (now words) (now floats) t ⌝ }
+    requires { ⌜ (2 ≤ rake .count) × (rake .count ≤ 64) × (settings .options .«max_steps» ≤ 65536) ⌝ }
+    ensures { λ r. ⌜ Replied (Serve.serveFlat (tracerField t (now (words .entry)) (now (floats .entry)))
+        (Code.Rake rake settings)) (valuesOf (now (case .entry))) (now (out .entry)) r (now (out .entry))
         (now (out .exit)) (now (marks .entry)) (now (marks .exit)) ⌝ }
 {
-    let t = rake::integrate_rake(
-        case,
-        n,
-        words,
-        floats,
-        s,
-        g,
-        marks,
-        out,
-        a,
-        b,
-        count,
-        d,
-        options,
-    );
-    answered(t)
+    let r = rakes::integrate_rake(case, words, floats, t, marks, out, rake, settings);
+    answered(r)
 }
 
 // Codes 1 to 4.
@@ -181,29 +149,23 @@ fn serve_flat(
     case: &[u8],
     words: &[u32],
     floats: &[f64],
-    n: Counts,
-    s: Sizes,
-    g: Grid,
+    t: Tracer,
     marks: &mut [u8],
     out: &mut [u64],
     q: Request,
 ) -> Answered
-    requires { ⌜ Tracer.Ready (now case) n (now words) (now floats) s g ⌝ }
+    requires { ⌜ Ready (now case) (now words) (now floats) t ⌝ }
     requires { ⌜ Allowed q ⌝ }
-    ensures { λ r. ⌜ Replied (Serve.serveFlat (fieldIn g s (now (words .entry)) (now (floats .entry))) q)
+    ensures { λ r. ⌜ Replied (Serve.serveFlat (tracerField t (now (words .entry)) (now (floats .entry))) q)
         (valuesOf (now (case .entry))) (now (out .entry)) r (now (out .entry)) (now (out .exit)) (now (marks .entry))
         (now (marks .exit)) ⌝ }
 {
     match q {
         Request::Refused(k) => Answered::Refused(k),
-        Request::Locate(p) => serve_locate(words, floats, s, g, out, p),
-        Request::Velocity(p) => serve_velocity(case, n, words, floats, s, g, marks, out, p),
-        Request::Streamline(p, d, o) => {
-            serve_streamline(case, n, words, floats, s, g, marks, out, p, d, o)
-        }
-        Request::Rake(a, b, count, d, o) => {
-            serve_rake(case, n, words, floats, s, g, marks, out, a, b, count, d, o)
-        }
+        Request::Locate(p) => serve_locate(words, floats, t, out, p),
+        Request::Velocity(p) => serve_velocity(case, words, floats, t, marks, out, p),
+        Request::Streamline(p, s) => { serve_streamline(case, words, floats, t, marks, out, p, s) }
+        Request::Rake(rake, s) => serve_rake(case, words, floats, t, marks, out, rake, s),
         _ => Answered::Refused(31), // request_of gave 31 already
     }
 }
@@ -255,7 +217,7 @@ pub fn serve(
         (now (out .exit)) (now (marks .entry)) (now (marks .exit)) ⌝ }
 {
     match place {
-        Place::Flat(n, s, g) => serve_flat(case, words, floats, n, s, g, marks, out, q),
+        Place::Flat(t) => serve_flat(case, words, floats, t, marks, out, q),
         Place::Solid(n, s) => serve_solid(case, words, n, s, marks, out, q),
     }
 }

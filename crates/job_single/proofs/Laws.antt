@@ -15,6 +15,8 @@ use Rattle.reading.specs.Result.{fine, _>>=_}
 use Rattle.lines_step.specs.declared.StreamlineOptions.{StreamlineOptions}
 use Rattle.lines.specs.declared.StreamlineDirection.{StreamlineDirection}
 use Rattle.lines.specs.declared.StreamlineDirection.the-variants.{Forward, Backward}
+use Rattle.lines.specs.declared.StreamlineSettings.{StreamlineSettings}
+use Rattle.lines.specs.declared.Rake.{Rake}
 use Rattle.planes_cut.specs.declared.Plane.{Plane}
 use Rattle.answers.specs.Words.{vecWords}
 use Rattle.job_requests.specs.Requests.{requestsIn}
@@ -39,15 +41,15 @@ pub velocity-stored : (p : Vec3) {ws : List ℕ} → ws ≡ sets (coded 2) 1 (ve
 unfolding velocityWords padded vecWords
 velocity-stored p e = e
 
-module _ (d : StreamlineDirection) (o : StreamlineOptions) where
-  pub streamline-stored : (seed : Vec3) {ws ws′ : List ℕ} → ws ≡ sets (coded 3) 1 (vecWords seed) → ws′ ≡ sets ws 4 (lineWords d o) → ws′ ≡ streamlineWords seed d o
+module _ (s : StreamlineSettings) where
+  pub streamline-stored : (seed : Vec3) {ws ws′ : List ℕ} → ws ≡ sets (coded 3) 1 (vecWords seed) → ws′ ≡ sets ws 4 (lineWords s) → ws′ ≡ streamlineWords seed s
   unfolding streamlineWords padded vecWords lineWords
   streamline-stored seed e f = rw e at f
 
-  pub rake-stored : (start end : Vec3) (count : ℕ) {ws ws′ ws″ : List ℕ} → ws ≡ sets (coded 4) 1 (vecWords start) → ws′ ≡ sets ws 4 (vecWords end)
-      → ws″ ≡ sets (set ws′ 7 count) 8 (lineWords d o) → ws″ ≡ rakeWords start end count d o
+  pub rake-stored : (r : Rake) {ws ws′ ws″ : List ℕ} → ws ≡ sets (coded 4) 1 (vecWords (r .start)) → ws′ ≡ sets ws 4 (vecWords (r .end))
+      → ws″ ≡ sets (set ws′ 7 (r .count)) 8 (lineWords s) → ws″ ≡ rakeWords r s
   unfolding rakeWords padded vecWords lineWords
-  rake-stored start end count e f g = rw (f, e) at g
+  rake-stored r e f g = rw (f, e) at g
 
 module _ (s : Plane) where
   pub section-stored : {ws : List ℕ} → ws ≡ sets (coded 5) 1 (planeWords s) → ws ≡ sectionWords s
@@ -100,9 +102,9 @@ unfolding directionWord
 direction-is Forward = omega arith
 direction-is Backward = omega arith
 
-line-words : (d : StreamlineDirection) (o : StreamlineOptions) → OptionsHeld o → All Word (lineWords d o)
+line-words : (s : StreamlineSettings) → OptionsHeld (s .options) → All Word (lineWords s)
 unfolding lineWords
-line-words d o h = (direction-is d, (word-is _ (h .step), (h .steps, (word-is _ (h .length), (word-is _ (h .speed), tt)))))
+line-words s h = (direction-is (s .direction), (word-is _ (h .step), (h .steps, (word-is _ (h .length), (word-is _ (h .speed), tt)))))
 
 plane-words : (s : Plane) → PlaneHeld s → All Word (planeWords s)
 unfolding planeWords
@@ -136,18 +138,24 @@ pub velocity-whole : (p : Vec3) → F64s p → Whole (velocityWords p)
 unfolding velocityWords vecWords
 velocity-whole p h = padded-whole (2 ∷ vecWords p) (omega arith) (omega arith, vec-words p h)
 
-module _ (d : StreamlineDirection) (o : StreamlineOptions) (l : OptionsHeld o) where
-  pub streamline-whole : (seed : Vec3) → F64s seed → Whole (streamlineWords seed d o)
+-- the seeds of a rake
+pub record RakeHeld (r : Rake) : Type 0 where
+  pub start : F64s (r .start)
+  pub end : F64s (r .end)
+  pub count : Word (r .count)
+
+module _ (s : StreamlineSettings) (l : OptionsHeld (s .options)) where
+  pub streamline-whole : (seed : Vec3) → F64s seed → Whole (streamlineWords seed s)
   unfolding streamlineWords vecWords lineWords
   streamline-whole seed h =
-      padded-whole (3 ∷ (vecWords seed ++ lineWords d o)) (omega arith) (omega arith, all-append Word (vecWords seed) (lineWords d o) (vec-words seed h) (line-words d o l))
+      padded-whole (3 ∷ (vecWords seed ++ lineWords s)) (omega arith) (omega arith, all-append Word (vecWords seed) (lineWords s) (vec-words seed h) (line-words s l))
 
-  pub rake-whole : (start end : Vec3) (count : ℕ) → F64s start → F64s end → Word count → Whole (rakeWords start end count d o)
+  pub rake-whole : (r : Rake) → RakeHeld r → Whole (rakeWords r s)
   unfolding rakeWords vecWords lineWords
-  rake-whole start end count h k n =
-      let later : List ℕ = vecWords end ++ count ∷ lineWords d o in
-      padded-whole (4 ∷ (vecWords start ++ later)) (omega arith)
-      (omega arith, all-append Word (vecWords start) later (vec-words start h) (all-append Word (vecWords end) (count ∷ lineWords d o) (vec-words end k) (n, line-words d o l)))
+  rake-whole r h =
+      let later : List ℕ = vecWords (r .end) ++ r .count ∷ lineWords s in
+      padded-whole (4 ∷ (vecWords (r .start) ++ later)) (omega arith)
+      (omega arith, all-append Word (vecWords (r .start)) later (vec-words (r .start) (h .start)) (all-append Word (vecWords (r .end)) (r .count ∷ lineWords s) (vec-words (r .end) (h .end)) (h .count, line-words s l)))
 
 module _ (s : Plane) (h : PlaneHeld s) where
   pub section-whole : Whole (sectionWords s)
@@ -189,12 +197,12 @@ locate-alone p h = list-of-one (locate-whole p h)
 pub velocity-alone : (p : Vec3) → F64s p → Alone (velocityWords p)
 velocity-alone p h = list-of-one (velocity-whole p h)
 
-module _ (d : StreamlineDirection) (o : StreamlineOptions) (l : OptionsHeld o) where
-  pub streamline-alone : (seed : Vec3) → F64s seed → Alone (streamlineWords seed d o)
-  streamline-alone seed h = list-of-one (streamline-whole d o l seed h)
+module _ (s : StreamlineSettings) (l : OptionsHeld (s .options)) where
+  pub streamline-alone : (seed : Vec3) → F64s seed → Alone (streamlineWords seed s)
+  streamline-alone seed h = list-of-one (streamline-whole s l seed h)
 
-  pub rake-alone : (start end : Vec3) (count : ℕ) → F64s start → F64s end → Word count → Alone (rakeWords start end count d o)
-  rake-alone start end count h k n = list-of-one (rake-whole d o l start end count h k n)
+  pub rake-alone : (r : Rake) → RakeHeld r → Alone (rakeWords r s)
+  rake-alone r h = list-of-one (rake-whole s l r h)
 
 module _ (s : Plane) (h : PlaneHeld s) where
   pub section-alone : Alone (sectionWords s)

@@ -12,15 +12,17 @@ use Rattle.arith.specs.declared.Vec3.{Vec3}
 use Rattle.lines_step.specs.declared.StreamlineOptions.{StreamlineOptions}
 use Rattle.lines.specs.declared.StreamlineDirection.{StreamlineDirection}
 use Rattle.lines.specs.declared.StreamlineDirection.the-variants.{Forward, Backward}
+use Rattle.lines.specs.declared.StreamlineSettings.{StreamlineSettings}
+use Rattle.lines.specs.declared.Rake as declared
 use Rattle.planes_cut.specs.declared.Plane.{Plane}
 use Rattle.planes_cut.specs.Plane.{planeRefusal}
 use Rattle.answers.specs.Words.{vecWords}
-use Rattle.job_requests.specs.Requests.{number, real, point, refuseIf, unusedSet, badDirection, illFormed, wrongDimension, direction, options, streamline, rakeOf, rake, planeOf, statistics, overPlane, planar, byCode, requestOf}
+use Rattle.job_requests.specs.Requests.{number, real, point, refuseIf, unusedSet, badDirection, illFormed, wrongDimension, direction, options, settings, streamline, rakeOf, rake, planeOf, statistics, overPlane, planar, byCode, requestOf}
 use Rattle.job_requests.specs.Codes.{row, unknown, codes, codeOf, isUnknown}
 use Rattle.job_requests.specs.declared.Request.{Request}
 use Rattle.job_requests.specs.declared.Request.the-variants.{Locate, Velocity, Streamline, Rake, Section, Statistics, Integrals, Probe}
 use Rattle.job_single.specs.Single.{padded, directionWord, lineWords, planeWords, locateWords, velocityWords, streamlineWords, rakeWords, sectionWords, statisticsWords, integralsWords, probeWords}
-use Rattle.job_single.proofs.Laws.{F64, F64s, OptionsHeld, PlaneHeld}
+use Rattle.job_single.proofs.Laws.{F64, F64s, OptionsHeld, RakeHeld, PlaneHeld}
 
 -- ---- one float, one point, one plane, and a line's direction and options
 
@@ -61,15 +63,16 @@ velocity-read p h = ap Velocity (vec-back p h)
 
 -- ---- codes 3 and 4: refusals 32 and 33 are by the arguments
 
-module _ (d : StreamlineDirection) (o : StreamlineOptions) (l : OptionsHeld o) where
-  pub streamline-read : (seed : Vec3) → F64s seed → requestOf true (streamlineWords seed d o) ≡ refuseIf 33 (ltb 65536 (o .«max_steps»)) (Streamline seed d o)
-  unfolding taken-apart streamline direction options streamlineWords lineWords
-  streamline-read seed h = rw (good-direction d, direction-back d, vec-back seed h, options-back o l)
+module _ (s : StreamlineSettings) (l : OptionsHeld (s .options)) where
+  pub streamline-read : (seed : Vec3) → F64s seed → requestOf true (streamlineWords seed s) ≡ refuseIf 33 (ltb 65536 (s .options .«max_steps»)) (Streamline seed s)
+  unfolding taken-apart streamline settings direction options streamlineWords lineWords
+  streamline-read seed h = rw (good-direction (s .direction), direction-back (s .direction), vec-back seed h, options-back (s .options) l)
 
-  pub rake-read : (start end : Vec3) (count : ℕ) → F64s start → F64s end
-      → requestOf true (rakeWords start end count d o) ≡ refuseIf 32 (ltb count 2) (refuseIf 33 (ltb 64 count) (refuseIf 33 (ltb 65536 (o .«max_steps»)) (Rake start end count d o)))
-  unfolding taken-apart rake rakeOf direction options rakeWords lineWords
-  rake-read start end count h k = rw (good-direction d, direction-back d, vec-back start h, vec-back end k, options-back o l)
+  pub rake-read : (r : declared.Rake) → RakeHeld r
+      → requestOf true (rakeWords r s) ≡ refuseIf 32 (ltb (r .count) 2) (refuseIf 33 (ltb 64 (r .count)) (refuseIf 33 (ltb 65536 (s .options .«max_steps»)) (Rake r s)))
+  unfolding taken-apart rake rakeOf settings direction options rakeWords lineWords
+  rake-read r h =
+      rw (good-direction (s .direction), direction-back (s .direction), vec-back (r .start) (h .start), vec-back (r .end) (h .end), options-back (s .options) l)
 
 -- ---- codes 5 to 8: refusals 36 to 38 are by the arguments
 

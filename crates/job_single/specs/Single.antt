@@ -4,9 +4,10 @@ use mathlib.Core.List.{List, [], _∷_, _++_}
 use lib.ListN.{length, replicate}
 use Rattle.arith.specs.F64.{word}
 use Rattle.arith.specs.declared.Vec3.{Vec3}
-use Rattle.lines_step.specs.declared.StreamlineOptions.{StreamlineOptions}
+use Rattle.lines.specs.declared.Rake.{Rake}
 use Rattle.lines.specs.declared.StreamlineDirection.{StreamlineDirection}
 use Rattle.lines.specs.declared.StreamlineDirection.the-variants.{Forward, Backward}
+use Rattle.lines.specs.declared.StreamlineSettings.{StreamlineSettings}
 use Rattle.planes_cut.specs.declared.Plane.{Plane}
 use Rattle.answers.specs.Words.{vecWords}
 
@@ -19,13 +20,13 @@ directionWord Forward = 0
 directionWord Backward = 1
 
 -- "direction .., step_size, max_steps, max_length, stagnation_speed"
-unfoldable pub lineWords : StreamlineDirection → StreamlineOptions → List ℕ
-lineWords d o =
-    directionWord d
-    ∷ word (o .«step_size»)
-    ∷ o .«max_steps»
-    ∷ word (o .«max_length»)
-    ∷ word (o .«stagnation_speed»)
+unfoldable pub lineWords : StreamlineSettings → List ℕ
+lineWords s =
+    directionWord (s .direction)
+    ∷ word (s .options .«step_size»)
+    ∷ s .options .«max_steps»
+    ∷ word (s .options .«max_length»)
+    ∷ word (s .options .«stagnation_speed»)
     ∷ []
 
 -- "origin, u, v"
@@ -40,12 +41,12 @@ unfoldable pub velocityWords : Vec3 → List ℕ
 velocityWords p = padded (2 ∷ vecWords p)
 
 -- "3 streamline: seed, direction .."
-unfoldable pub streamlineWords : Vec3 → StreamlineDirection → StreamlineOptions → List ℕ
-streamlineWords seed d o = padded (3 ∷ (vecWords seed ++ lineWords d o))
+unfoldable pub streamlineWords : Vec3 → StreamlineSettings → List ℕ
+streamlineWords seed s = padded (3 ∷ (vecWords seed ++ lineWords s))
 
 -- "4 rake: start, end, seed count, then as 3 from direction on."
-unfoldable pub rakeWords : Vec3 → Vec3 → ℕ → StreamlineDirection → StreamlineOptions → List ℕ
-rakeWords start end count d o = padded (4 ∷ (vecWords start ++ (vecWords end ++ count ∷ lineWords d o)))
+unfoldable pub rakeWords : Rake → StreamlineSettings → List ℕ
+rakeWords r s = padded (4 ∷ (vecWords (r .start) ++ (vecWords (r .end) ++ r .count ∷ lineWords s)))
 
 -- "5 section: origin, u, v."
 unfoldable pub sectionWords : Plane → List ℕ

@@ -3,8 +3,9 @@ use arith::Vec3;
 use arith::bytes;
 use job::Outcome;
 use job_requests::encode;
+use lines::Rake;
 use lines::StreamlineDirection;
-use lines_step::StreamlineOptions;
+use lines::StreamlineSettings;
 use planes_cut::Plane;
 ghost use mathlib.Core.Path.{_≡_};
 ghost use Prim.Native.Nat.{_<_};
@@ -26,11 +27,13 @@ fn direction_word(d: StreamlineDirection) -> u64
 }
 
 // Direction and options of a line, from `at` on.
-fn put_line(request: &mut [u64], at: usize, d: StreamlineDirection, options: StreamlineOptions)
+fn put_line(request: &mut [u64], at: usize, settings: StreamlineSettings)
     requires { ⌜ at < 16 ⌝ }
-    ensures { λ _. ⌜ now (request .exit) ≡ sets (now (request .entry)) at (lineWords d options) ⌝ }
+    ensures { λ _. ⌜ now (request .exit) ≡ sets (now (request .entry)) at (lineWords settings) ⌝ }
 {
-    answers::put(request, at, direction_word(d));
+    let direction = settings.direction;
+    let options = settings.options;
+    answers::put(request, at, direction_word(direction));
     answers::put(request, at + 1, bytes::bits_of(options.step_size));
     answers::put(request, at + 2, options.max_steps as u64);
     answers::put(request, at + 3, bytes::bits_of(options.max_length));
@@ -109,14 +112,13 @@ pub fn velocity(
 pub fn streamline(
     case: &[u8],
     seed: Vec3,
-    d: StreamlineDirection,
-    options: StreamlineOptions,
+    settings: StreamlineSettings,
     words: &mut [u32],
     floats: &mut [f64],
     marks: &mut [u8],
     answers: &mut [u64],
 ) -> Outcome
-    ensures { λ r. ⌜ Promised (now (case .entry)) (bytesOf (streamlineWords seed d options))
+    ensures { λ r. ⌜ Promised (now (case .entry)) (bytesOf (streamlineWords seed settings))
         (length (now (words .entry))) (length (now (floats .entry))) (now (answers .entry)) (now (marks .entry))
         (record { result = numberOf r; answers = now (answers .exit); marks = now (marks .exit) }) ⌝ }
     ensures { λ r. ⌜ r ≡ outcomeOf (numberOf r) ⌝ }
@@ -124,34 +126,31 @@ pub fn streamline(
     let mut request = [0; 16];
     request[0] = 3;
     answers::put_vec(&mut request, 1, seed);
-    put_line(&mut request, 4, d, options);
+    put_line(&mut request, 4, settings);
     alone(case, &request, words, floats, marks, answers)
 }
 
-// The lines from `count` seeds, spread from `start` to `end`.
+// The lines from the seeds of a rake.
 pub fn rake(
     case: &[u8],
-    start: Vec3,
-    end: Vec3,
-    count: usize,
-    d: StreamlineDirection,
-    options: StreamlineOptions,
+    seeds: Rake,
+    settings: StreamlineSettings,
     words: &mut [u32],
     floats: &mut [f64],
     marks: &mut [u8],
     answers: &mut [u64],
 ) -> Outcome
-    ensures { λ r. ⌜ Promised (now (case .entry)) (bytesOf (rakeWords start end count d options))
+    ensures { λ r. ⌜ Promised (now (case .entry)) (bytesOf (rakeWords seeds settings))
         (length (now (words .entry))) (length (now (floats .entry))) (now (answers .entry)) (now (marks .entry))
         (record { result = numberOf r; answers = now (answers .exit); marks = now (marks .exit) }) ⌝ }
     ensures { λ r. ⌜ r ≡ outcomeOf (numberOf r) ⌝ }
 {
     let mut request = [0; 16];
     request[0] = 4;
-    answers::put_vec(&mut request, 1, start);
-    answers::put_vec(&mut request, 4, end);
-    request[7] = count as u64;
-    put_line(&mut request, 8, d, options);
+    answers::put_vec(&mut request, 1, seeds.start);
+    answers::put_vec(&mut request, 4, seeds.end);
+    request[7] = seeds.count as u64;
+    put_line(&mut request, 8, settings);
     alone(case, &request, words, floats, marks, answers)
 }
 

@@ -7,7 +7,6 @@ use mathlib.Core.Bool.{Bool, true, false, not}
 use mathlib.Core.List.{List, [], _∷_, _++_, append-assoc, append-nil}
 use lib.ListN.{length, set, getD, drop}
 use lib.Seq.{sets}
-use lib.Ieee.{Float}
 use Rattle.arith.specs.Lists.{anyOf}
 use Rattle.arith.proofs.RecordLaws.{length-tab, getD-tab, drop-tab, drop-end}
 use Rattle.arith.proofs.ListLaws.{any-here, any-next}
@@ -22,15 +21,11 @@ use Rattle.reading.proofs.AsksLaws.{bind-assoc, bind-give, run-bind, reads-bind
 use Rattle.reading.proofs.ServedLaws.{going-start, going-part, going-end}
 use Rattle.reading.specs.Result as result
 use Rattle.reading.specs.Result.{Result, fine, refused, refuse}
-use Rattle.mesh_area.specs.declared.Sizes.{Sizes}
-use Rattle.lines_locate.specs.declared.Grid.{Grid}
-use Rattle.lines_locate.specs.Locate.{locate}
 use Rattle.lines_locate.specs.Field.{StreamlineField}
-use Rattle.lines_locate.specs.Layout.{cellPolygonsIn, fieldIn}
-use Rattle.lines_velocity.proofs.VelocityLaws.{locate-in}
-use Rattle.lines_step.specs.declared.StreamlineOptions.{StreamlineOptions}
+use Rattle.lines_velocity.specs.Velocity.{locateIn}
 use Rattle.lines.specs.declared.Traced.the-variants.{Words, Refused}
-use Rattle.lines.specs.declared.StreamlineDirection.{StreamlineDirection}
+use Rattle.lines.specs.declared.StreamlineSettings.{StreamlineSettings}
+use Rattle.lines.specs.declared.Rake.{Rake}
 use Rattle.lines.specs.Line.{isNowhere, nowhere, lineAnswer}
 use Rattle.lines.specs.Rake.{seedAt, seeds, linesWords}
 use Rattle.lines.specs.Written.{Written}
@@ -40,14 +35,14 @@ use Rattle.lines.proofs.LineLaws.{give-then}
 
 -- ---- a point that locates, or not
 
-module _ (g : Grid) (s : Sizes) (w : List ℕ) (f : List Float) (p : Vec3) (r : Found) (e : r ≡ locate g (cellPolygonsIn s w f) p) where
-  pub nowhere-not : (i : ℕ) → r ≡ At i → false ≡ nowhere (fieldIn g s w f) p
+module _ (F : StreamlineField) (p : Vec3) (r : Found) (e : r ≡ locateIn F p) where
+  pub nowhere-not : (i : ℕ) → r ≡ At i → false ≡ nowhere F p
   unfolding nowhere isNowhere
-  nowhere-not i h = rw (sym (locate-in g s w f p r e) ∙ h)
+  nowhere-not i h = rw (sym e ∙ h)
 
-  pub nowhere-so : r ≡ Nothing → true ≡ nowhere (fieldIn g s w f) p
+  pub nowhere-so : r ≡ Nothing → true ≡ nowhere F p
   unfolding nowhere isNowhere
-  nowhere-so h = rw (sym (locate-in g s w f p r e) ∙ h)
+  nowhere-so h = rw (sym e ∙ h)
 
 -- ---- the answer of a job
 
@@ -77,69 +72,69 @@ module _ {good : Bool} (lost : Bool) (t : Asks (List ℕ)) {a : Bool} (ea : a �
 
 -- ---- the seeds of a rake
 
-module _ (start end : Vec3) (count : ℕ) where
-  length-seeds : length (seeds start end count) ≡ count
+module _ (k : Rake) where
+  length-seeds : length (seeds k) ≡ k .count
   unfolding seeds
-  length-seeds = length-tab (seedAt start end count) count
+  length-seeds = length-tab (seedAt k) (k .count)
 
-  seeds-at : (i : ℕ) → i < count → drop i (seeds start end count) ≡ seedAt start end count i ∷ drop (i + 1) (seeds start end count)
+  seeds-at : (i : ℕ) → i < k .count → drop i (seeds k) ≡ seedAt k i ∷ drop (i + 1) (seeds k)
   unfolding seeds
-  seeds-at i h = drop-tab (seedAt start end count) count i h
+  seeds-at i h = drop-tab (seedAt k) (k .count) i h
 
-  seeds-end : (i : ℕ) → count ≤ i → drop i (seeds start end count) ≡ []
-  seeds-end i h = drop-end (seeds start end count) i (rw length-seeds h)
+  seeds-end : (i : ℕ) → k .count ≤ i → drop i (seeds k) ≡ []
+  seeds-end i h = drop-end (seeds k) i (rw length-seeds h)
 
-  seed-here : (i : ℕ) → i < count → getD (seeds start end count) i start ≡ seedAt start end count i
+  seed-here : (i : ℕ) → i < k .count → getD (seeds k) i (k .start) ≡ seedAt k i
   unfolding seeds
-  seed-here i h = getD-tab (seedAt start end count) count i start h
+  seed-here i h = getD-tab (seedAt k) (k .count) i (k .start) h
 
-  module _ (F : StreamlineField) (i : ℕ) (r : Bool) (inv : anyOf (nowhere F) (drop i (seeds start end count)) ≡ r) where
-    pub seed-lost : (t : Bool) (p : Vec3) → i < count → p ≡ seedAt start end count i → t ≡ nowhere F p → t ≡ true → true ≡ r
+  module _ (F : StreamlineField) (i : ℕ) (r : Bool) (inv : anyOf (nowhere F) (drop i (seeds k)) ≡ r) where
+    pub seed-lost : (t : Bool) (p : Vec3) → i < k .count → p ≡ seedAt k i → t ≡ nowhere F p → t ≡ true → true ≡ r
     seed-lost t p h ep e w =
-        let in-range : i < length (seeds start end count) = rw length-seeds h in
-        sym (any-here (seeds start end count) i start in-range (nowhere F) (rw (seed-here i h, ← ep) (sym e ∙ w))) ∙ inv
+        let in-range : i < length (seeds k) = rw length-seeds h in
+        sym (any-here (seeds k) i (k .start) in-range (nowhere F) (rw (seed-here i h, ← ep) (sym e ∙ w))) ∙ inv
 
-    pub seed-found : (t : Bool) (p : Vec3) → i < count → p ≡ seedAt start end count i → t ≡ nowhere F p → t ≡ false → anyOf (nowhere F) (drop (i + 1) (seeds start end count)) ≡ r
+    pub seed-found : (t : Bool) (p : Vec3) → i < k .count → p ≡ seedAt k i → t ≡ nowhere F p → t ≡ false → anyOf (nowhere F) (drop (i + 1) (seeds k)) ≡ r
     seed-found t p h ep e w =
-        let in-range : i < length (seeds start end count) = rw length-seeds h in
-        sym (any-next (seeds start end count) i start in-range (nowhere F) (rw (seed-here i h, ← ep) (sym e ∙ w))) ∙ inv
+        let in-range : i < length (seeds k) = rw length-seeds h in
+        sym (any-next (seeds k) i (k .start) in-range (nowhere F) (rw (seed-here i h, ← ep) (sym e ∙ w))) ∙ inv
 
-    pub all-found : count ≤ i → false ≡ r
+    pub all-found : k .count ≤ i → false ≡ r
     unfolding anyOf
     all-found h = rw (seeds-end i h) at inv
 
 -- ---- line after line
 
-module _ (F : StreamlineField) (o : StreamlineOptions) (d : StreamlineDirection) where
+module _ (F : StreamlineField) (s : StreamlineSettings) where
   -- what is left where the words of `done` were written
   abbrev pub left : List ℕ → List Vec3 → Asks (List ℕ)
-  left done ps = linesWords F o d ps >>= λ ws. give (done ++ ws)
+  left done ps = linesWords F s ps >>= λ ws. give (done ++ ws)
 
-  left-next : (done : List ℕ) (p : Vec3) (ps : List Vec3) → left done (p ∷ ps) ≡ lineAnswer F o d p >>= λ l. left (done ++ l) ps
+  left-next : (done : List ℕ) (p : Vec3) (ps : List Vec3) → left done (p ∷ ps) ≡ lineAnswer F s p >>= λ l. left (done ++ l) ps
   unfolding linesWords
   left-next done p ps =
-      bind-assoc (lineAnswer F o d p) _ _ ∙ ap (λ r. lineAnswer F o d p >>= r) (fun-ext each)
+      bind-assoc (lineAnswer F s p) _ _ ∙ ap (λ r. lineAnswer F s p >>= r) (fun-ext each)
     where
       same : (l ws : List ℕ) → (give (l ++ ws) >>= λ k. give (done ++ k)) ≡ give ((done ++ l) ++ ws)
       same l ws = give-then (l ++ ws) (λ k. give (done ++ k)) ∙ ap {B = Asks (List ℕ)} give (sym (append-assoc done l ws))
 
-      each : (l : List ℕ) → ((linesWords F o d ps >>= λ ws. give (l ++ ws)) >>= λ k. give (done ++ k)) ≡ left (done ++ l) ps
-      each l = bind-assoc (linesWords F o d ps) _ _ ∙ ap (λ r. linesWords F o d ps >>= r) (fun-ext (same l))
+      each : (l : List ℕ) → ((linesWords F s ps >>= λ ws. give (l ++ ws)) >>= λ k. give (done ++ k)) ≡ left (done ++ l) ps
+      each l = bind-assoc (linesWords F s ps) _ _ ∙ ap (λ r. linesWords F s ps >>= r) (fun-ext (same l))
 
-  pub lines-begun : {f : ℕ → Values} {m : List ℕ} (ps : List Vec3) → Going (linesWords F o d ps) f m (left [] ps) m
-  lines-begun {f} {m} ps = rw (bind-give (linesWords F o d ps)) (going-start (linesWords F o d ps) f m)
+  pub lines-begun : {f : ℕ → Values} {m : List ℕ} (ps : List Vec3) → Going (linesWords F s ps) f m (left [] ps) m
+  lines-begun {f} {m} ps = rw (bind-give (linesWords F s ps)) (going-start (linesWords F s ps) f m)
 
-  module _ {w : Asks (List ℕ)} {f : ℕ → Values} {m₀ m : List ℕ} (start end : Vec3) (count : ℕ) (done : List ℕ) (i : ℕ)
-      (g : Going w f m₀ (left done (drop i (seeds start end count))) m) where
-    pub lines-turned : {m′ b b′ : List ℕ} {at r : ℕ} (p : Vec3) → i < count → p ≡ seedAt start end count i → Written (lineAnswer F o d p) f m m′ b b′ at r
-        → Going w f m₀ (left (done ++ run (lineAnswer F o d p) f) (drop (i + 1) (seeds start end count))) m′
+  module _ {w : Asks (List ℕ)} {f : ℕ → Values} {m₀ m : List ℕ} (k : Rake) (done : List ℕ) (i : ℕ)
+      (g : Going w f m₀ (left done (drop i (seeds k))) m) where
+    pub lines-turned : {m′ b b′ : List ℕ} {at r : ℕ} (p : Vec3) → i < k .count → p ≡ seedAt k i → Written (lineAnswer F s p) f m m′ b b′ at r
+        → Going w f m₀ (left (done ++ run (lineAnswer F s p) f) (drop (i + 1) (seeds k))) m′
     lines-turned p h e t =
-        going-part (λ l. left (done ++ l) (drop (i + 1) (seeds start end count)))
-        (rw (seeds-at start end count i h, ← e, left-next done p (drop (i + 1) (seeds start end count))) at g) (record { answer = refl; marks = t .marks })
+        going-part (λ l. left (done ++ l) (drop (i + 1) (seeds k)))
+        (rw (seeds-at k i h, ← e, left-next done p (drop (i + 1) (seeds k))) at g) (record { answer = refl; marks = t .marks })
 
-    pub lines-ended : count ≤ i → Served w f m₀ m done
+    pub lines-ended : k .count ≤ i → Served w f m₀ m done
     unfolding linesWords _>>=_
-    lines-ended h = going-end (rw append-nil at (rw (seeds-end start end count i h) at g))
+    lines-ended h = going-end (rw append-nil at (rw (seeds-end k i h) at g))
 
 pub lines-written : {w : Asks (List ℕ)} {f : ℕ → Values} {m₀ m o o′ : List ℕ} {at n : ℕ} {done : List ℕ} →
     Served w f m₀ m done → o′ ≡ sets o at done → n ≡ length done → Written w f m₀ m o o′ at n

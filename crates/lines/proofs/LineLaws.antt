@@ -8,7 +8,7 @@ use mathlib.Core.List.{List, [], _∷_, _++_, append-assoc, append-nil}
 use lib.ListN.{length, set, length-append}
 use lib.Seq.{sets}
 use lib.Ieee.{Float}
-use Rattle.arith.specs.F64.{_⊕_, 0·0}
+use Rattle.arith.specs.F64.{_⊕_, _⊗_, 0·0}
 use Rattle.arith.specs.declared.Vec3.{Vec3}
 use Rattle.reading.specs.declared.Values.{Values}
 use Rattle.reading.specs.Asks.{Asks, give, run, reads, _>>=_}
@@ -23,8 +23,8 @@ use Rattle.lines_step.specs.declared.Step.{Step}
 use Rattle.lines_step.specs.declared.Step.the-variants.{Next, Ended}
 use Rattle.lines_step.specs.declared.StreamlineOptions.{StreamlineOptions}
 use Rattle.lines_step.specs.Step.{step}
-use Rattle.lines.specs.declared.StreamlineDirection.{StreamlineDirection}
-use Rattle.lines.specs.Line.{onward, lineFrom, line, signedStep, lineWords, lineAnswer}
+use Rattle.lines.specs.declared.StreamlineSettings.{StreamlineSettings}
+use Rattle.lines.specs.Line.{sign, signedStep, onward, lineFrom, pointsAfter, line, lineWords, lineAnswer}
 use Rattle.lines.specs.Written.{Drawn, Written}
 
 pub give-then : {A B : Type 0} (a : A) (k : A → Asks B) → (give a >>= k) ≡ k a
@@ -84,10 +84,13 @@ module _ (F : StreamlineField) (o : StreamlineOptions) (h : Float) where
 pub ended : {w : Asks (List Vec3)} {f : ℕ → Values} {m₀ m : List ℕ} (done : List Vec3) → Going w f m₀ (give (done ++ [])) m → Served w f m₀ m done
 ended done g = going-end (rw append-nil at g)
 
--- what a drawing promises, from what was served
-pub drawn : {w : Asks (List Vec3)} {f : ℕ → Values} {m₀ m o o′ : List ℕ} {at n : ℕ} {done : List Vec3} →
-    Served w f m₀ m done → o′ ≡ sets o at (pointWords done) → n ≡ length done → Drawn w f m₀ m o o′ at n
-drawn {o} {at} s wr e = record { marks = s .marks; words = wr ∙ ap (λ l. sets o at (pointWords l)) (s .answer); count = e ∙ ap length (s .answer) }
+-- what a drawing promises, from what was served; x is the sign
+pub drawn : (F : StreamlineField) (s : StreamlineSettings) (seed : Vec3) {x : Float} {f : ℕ → Values} {m₀ m o o′ : List ℕ} {at n : ℕ} {done : List Vec3} → x ≡ sign (s .direction)
+    → Served (lineFrom F (s .options) (s .options .«step_size» ⊗ x) (s .options .«max_steps») seed 0·0) f m₀ m done → o′ ≡ sets o at (pointWords done) → n ≡ length done
+    → Drawn (pointsAfter F s seed) f m₀ m o o′ at n
+unfolding pointsAfter signedStep
+drawn F s seed {o} {at} ex t wr e =
+    let u = rw ex at t in record { marks = u .marks; words = wr ∙ ap (λ l. sets o at (pointWords l)) (u .answer); count = e ∙ ap length (u .answer) }
 
 -- ---- the words of a whole line
 
@@ -101,21 +104,19 @@ front : (b : List ℕ) (at c : ℕ) (p : Vec3) (l : List Vec3)
 front b at c p l =
     rw (sets-set (vecWords p) b at (suc at) c (omega arith), sets-append (set b at c) (suc at) (vecWords p) (pointWords l), length-vec p)
 
-pub traced : (F : StreamlineField) (o : StreamlineOptions) (d : StreamlineDirection) (f : ℕ → Values) (m m′ b b₁ b₂ b₃ : List ℕ) (at count : ℕ) (seed : Vec3) (h : Float)
-    → h ≡ signedStep o d → b₁ ≡ sets b (at + 1) (vecWords seed)
-    → Drawn (lineFrom F o h (o .«max_steps») seed 0·0) f m m′ b₁ b₂ (at + 4) count → b₃ ≡ set b₂ at (count + 1) → Written (lineAnswer F o d seed) f m m′ b b₃ at (3 * count + 4)
-traced F o d f m m′ b b₁ b₂ b₃ at count seed h eh e₁ t e₃ =
-    let pts = run (lineFrom F o (signedStep o d) (o .«max_steps») seed 0·0) f in
-    let t′ = rw eh at t in
-    let answer : run (lineAnswer F o d seed) f ≡ lineWords (seed ∷ pts) = unfold lineAnswer line in run-bind (lineFrom F o (signedStep o d) (o .«max_steps») seed 0·0 >>= λ l. give (seed ∷ l)) (λ l. give (lineWords l)) f ∙ ap lineWords (run-bind (lineFrom F o (signedStep o d) (o .«max_steps») seed 0·0) (λ l. give (seed ∷ l)) f) in
-    let asked : reads (lineAnswer F o d seed) f ≡ reads (lineFrom F o (signedStep o d) (o .«max_steps») seed 0·0) f = unfold lineAnswer line in reads-bind (lineFrom F o (signedStep o d) (o .«max_steps») seed 0·0 >>= λ l. give (seed ∷ l)) (λ l. give (lineWords l)) f ∙ append-nil _ ∙ reads-bind (lineFrom F o (signedStep o d) (o .«max_steps») seed 0·0) (λ l. give (seed ∷ l)) f ∙ append-nil _ in
+pub traced : (F : StreamlineField) (s : StreamlineSettings) (f : ℕ → Values) (m m′ b b₁ b₂ b₃ : List ℕ) (at count : ℕ) (seed : Vec3) → b₁ ≡ sets b (at + 1) (vecWords seed)
+    → Drawn (pointsAfter F s seed) f m m′ b₁ b₂ (at + 4) count → b₃ ≡ set b₂ at (count + 1) → Written (lineAnswer F s seed) f m m′ b b₃ at (3 * count + 4)
+traced F s f m m′ b b₁ b₂ b₃ at count seed e₁ t e₃ =
+    let pts = run (pointsAfter F s seed) f in
+    let answer : run (lineAnswer F s seed) f ≡ lineWords (seed ∷ pts) = unfold lineAnswer line in run-bind (pointsAfter F s seed >>= λ l. give (seed ∷ l)) (λ l. give (lineWords l)) f ∙ ap lineWords (run-bind (pointsAfter F s seed) (λ l. give (seed ∷ l)) f) in
+    let asked : reads (lineAnswer F s seed) f ≡ reads (pointsAfter F s seed) f = unfold lineAnswer line in reads-bind (pointsAfter F s seed >>= λ l. give (seed ∷ l)) (λ l. give (lineWords l)) f ∙ append-nil _ ∙ reads-bind (pointsAfter F s seed) (λ l. give (seed ∷ l)) f ∙ append-nil _ in
     let n₁ : at + 4 ≡ suc at + 3 = omega arith in
-    let n₂ : count + 1 ≡ suc (length pts) = add-one count ∙ ap suc (t′ .count) in
+    let n₂ : count + 1 ≡ suc (length pts) = add-one count ∙ ap suc (t .count) in
     let inside : at < at + 4 = omega arith in
     record {
-      marks = t′ .marks ∙ ap (markAll m) (sym asked);
+      marks = t .marks ∙ ap (markAll m) (sym asked);
       words =
-          e₃ ∙ ap (λ l. set l at (count + 1)) (t′ .words) ∙ sets-set (pointWords pts) b₁ at (at + 4) (count + 1) inside
+          e₃ ∙ ap (λ l. set l at (count + 1)) (t .words) ∙ sets-set (pointWords pts) b₁ at (at + 4) (count + 1) inside
           ∙ rw (answer, line-words seed pts, e₁, n₁, n₂, add-one at) (front b at (suc (length pts)) seed pts);
-      count = rw (answer, line-words seed pts, length-append (vecWords seed) (pointWords pts), length-vec seed) (omega (arith, length-points pts, t′ .count));
+      count = rw (answer, line-words seed pts, length-append (vecWords seed) (pointWords pts), length-vec seed) (omega (arith, length-points pts, t .count));
     }

@@ -22,6 +22,7 @@ use Rattle.lines_step.specs.declared.StreamlineOptions.{StreamlineOptions}
 use Rattle.lines_step.specs.Step.{step}
 use Rattle.lines.specs.declared.StreamlineDirection.{StreamlineDirection}
 use Rattle.lines.specs.declared.StreamlineDirection.the-variants.{Forward, Backward}
+use Rattle.lines.specs.declared.StreamlineSettings.{StreamlineSettings}
 
 -- "direction (0 forward, 1 backward)"
 unfoldable pub sign : StreamlineDirection → Float
@@ -29,8 +30,8 @@ sign Forward = 1·0
 sign Backward = -1·0
 
 -- `options.«step_size» * sign`
-unfoldable pub signedStep : StreamlineOptions → StreamlineDirection → Float
-signedStep o d = o .«step_size» ⊗ sign d
+unfoldable pub signedStep : StreamlineSettings → Float
+signedStep s = s .options .«step_size» ⊗ sign (s .direction)
 
 -- after a step: the next point, and what `rest` adds to it
 unfoldable pub onward : (Vec3 → Float → Asks (List Vec3)) → Float → Step → Asks (List Vec3)
@@ -42,9 +43,13 @@ unfoldable pub lineFrom : StreamlineField → StreamlineOptions → Float → �
 lineFrom f o h zero p total = give []
 lineFrom f o h (suc n) p total = step f o h p total >>= onward (lineFrom f o h n) total
 
+-- the points after the seed
+unfoldable pub pointsAfter : StreamlineField → StreamlineSettings → Vec3 → Asks (List Vec3)
+pointsAfter f s seed = lineFrom f (s .options) (signedStep s) (s .options .«max_steps») seed 0·0
+
 -- the whole line, its seed first
-unfoldable pub line : StreamlineField → StreamlineOptions → StreamlineDirection → Vec3 → Asks (List Vec3)
-line f o d seed = lineFrom f o (signedStep o d) (o .«max_steps») seed 0·0 >>= λ l. give (seed ∷ l)
+unfoldable pub line : StreamlineField → StreamlineSettings → Vec3 → Asks (List Vec3)
+line f s seed = pointsAfter f s seed >>= λ l. give (seed ∷ l)
 
 -- finite, and above 0; finite, and not below 0
 unfoldable pub isLength : Float → Bool
@@ -70,12 +75,12 @@ unfoldable pub lineWords : List Vec3 → List ℕ
 lineWords l = length l ∷ pointWords l
 
 -- its answer
-unfoldable pub lineAnswer : StreamlineField → StreamlineOptions → StreamlineDirection → Vec3 → Asks (List ℕ)
-lineAnswer f o d seed = line f o d seed >>= λ l. give (lineWords l)
+unfoldable pub lineAnswer : StreamlineField → StreamlineSettings → Vec3 → Asks (List ℕ)
+lineAnswer f s seed = line f s seed >>= λ l. give (lineWords l)
 
 -- `integrate`
-unfoldable pub integrate : StreamlineField → Vec3 → StreamlineDirection → StreamlineOptions → Result (Asks (List ℕ))
-integrate f seed d o =
-    result._>>=_ (refuse 34 (not (areGood o))) (λ _.
+unfoldable pub integrate : StreamlineField → Vec3 → StreamlineSettings → Result (Asks (List ℕ))
+integrate f seed s =
+    result._>>=_ (refuse 34 (not (areGood (s .options)))) (λ _.
     result._>>=_ (refuse 35 (nowhere f seed)) (λ _.
-    fine (lineAnswer f o d seed)))
+    fine (lineAnswer f s seed)))

@@ -12,25 +12,25 @@ use Rattle.reading.specs.Asks.{Asks, give, _>>=_}
 use Rattle.reading.specs.Result as result
 use Rattle.reading.specs.Result.{Result, fine, refuse}
 use Rattle.lines_locate.specs.Field.{StreamlineField}
-use Rattle.lines_step.specs.declared.StreamlineOptions.{StreamlineOptions}
-use Rattle.lines.specs.declared.StreamlineDirection.{StreamlineDirection}
+use Rattle.lines.specs.declared.Rake.{Rake}
+use Rattle.lines.specs.declared.StreamlineSettings.{StreamlineSettings}
 use Rattle.lines.specs.Line.{lineAnswer, areGood, nowhere}
 
 -- `start + (end - start) * t`, seed i of count
-unfoldable pub seedAt : Vec3 → Vec3 → ℕ → ℕ → Vec3
-seedAt start end count i = plus start (times (minus end start) (ofℕ i ⊘ ofℕ (count - 1)))
+unfoldable pub seedAt : Rake → ℕ → Vec3
+seedAt r i = plus (r .start) (times (minus (r .end) (r .start)) (ofℕ i ⊘ ofℕ (r .count - 1)))
 
-unfoldable pub seeds : Vec3 → Vec3 → ℕ → List Vec3
-seeds start end count = tab (seedAt start end count) count
+unfoldable pub seeds : Rake → List Vec3
+seeds r = tab (seedAt r) (r .count)
 
 -- the words of one line after another: "each line as in 3"
-unfoldable pub linesWords : StreamlineField → StreamlineOptions → StreamlineDirection → List Vec3 → Asks (List ℕ)
-linesWords f o d [] = give []
-linesWords f o d (p ∷ ps) = lineAnswer f o d p >>= λ l. linesWords f o d ps >>= λ ws. give (l ++ ws)
+unfoldable pub linesWords : StreamlineField → StreamlineSettings → List Vec3 → Asks (List ℕ)
+linesWords f s [] = give []
+linesWords f s (p ∷ ps) = lineAnswer f s p >>= λ l. linesWords f s ps >>= λ ws. give (l ++ ws)
 
 -- "4: line count, each line as in 3"; "35 seed (of a rake: any seed) locates nowhere"
-unfoldable pub integrateRake : StreamlineField → Vec3 → Vec3 → ℕ → StreamlineDirection → StreamlineOptions → Result (Asks (List ℕ))
-integrateRake f start end count d o =
-    result._>>=_ (refuse 34 (not (areGood o))) (λ _.
-    result._>>=_ (refuse 35 (anyOf (nowhere f) (seeds start end count))) (λ _.
-    fine (linesWords f o d (seeds start end count) >>= λ ws. give (count ∷ ws))))
+unfoldable pub integrateRake : StreamlineField → Rake → StreamlineSettings → Result (Asks (List ℕ))
+integrateRake f r s =
+    result._>>=_ (refuse 34 (not (areGood (s .options)))) (λ _.
+    result._>>=_ (refuse 35 (anyOf (nowhere f) (seeds r))) (λ _.
+    fine (linesWords f s (seeds r) >>= λ ws. give (r .count ∷ ws))))

@@ -1,20 +1,17 @@
 // `integrate`: the line from a seed, after the refusals 34 and 35.
-use crate::StreamlineDirection;
+use crate::StreamlineSettings;
 use crate::Traced;
 use crate::line;
 use arith::Found;
 use arith::Vec3;
 use arith::float;
-use case_file::Counts;
-use lines_locate::Grid;
 use lines_step::StreamlineOptions;
-use mesh_area::Sizes;
+use lines_velocity::Tracer;
+use lines_velocity::interpolate;
 ghost use mathlib.Core.Path.{_≡_};
 ghost use Prim.Native.Nat.{_≤_};
 ghost use Rattle.case_file.specs.Field.{valuesOf};
-ghost use Rattle.mesh_area.specs.Layout.{LentWords, LentFloats};
-ghost use Rattle.lines_locate.specs.Layout.{fieldIn, Searchable};
-ghost use Rattle.lines_velocity.specs.Ready.{Ready};
+ghost use Rattle.lines_velocity.specs.Ready.{tracerField, Locatable, Ready};
 ghost use Rattle.lines.specs.Line as Line;
 ghost use Rattle.lines.specs.Answered.{Answered};
 
@@ -47,11 +44,11 @@ pub(crate) fn are_good(options: StreamlineOptions) -> bool
 }
 
 // A point locates nowhere.
-pub(crate) fn is_nowhere(words: &[u32], floats: &[f64], s: Sizes, g: Grid, p: Vec3) -> bool
-    requires { ⌜ LentWords s (now words) × LentFloats s (now floats) × Searchable g s (now words) (now floats) ⌝ }
-    ensures { λ r. ⌜ r ≡ Line.nowhere (fieldIn g s (now (words .entry)) (now (floats .entry))) p ⌝ }
+pub(crate) fn is_nowhere(words: &[u32], floats: &[f64], t: Tracer, p: Vec3) -> bool
+    requires { ⌜ Locatable (now words) (now floats) t ⌝ }
+    ensures { λ r. ⌜ r ≡ Line.nowhere (tracerField t (now (words .entry)) (now (floats .entry))) p ⌝ }
 {
-    match lines_locate::locate_cell(words, floats, s, g, p) {
+    match interpolate::locate(words, floats, t, p) {
         Found::At(_) => false,
         Found::Nothing => true,
     }
@@ -60,41 +57,25 @@ pub(crate) fn is_nowhere(words: &[u32], floats: &[f64], s: Sizes, g: Grid, p: Ve
 // The line from a seed: its words go to the answer as far as they fit.
 pub fn integrate(
     case: &[u8],
-    n: Counts,
     words: &[u32],
     floats: &[f64],
-    s: Sizes,
-    g: Grid,
+    t: Tracer,
     marks: &mut [u8],
     out: &mut [u64],
     seed: Vec3,
-    d: StreamlineDirection,
-    options: StreamlineOptions,
+    settings: StreamlineSettings,
 ) -> Traced
-    requires { ⌜ Ready (now case) n (now words) (now floats) s g ⌝ }
-    requires { ⌜ options .«max_steps» ≤ 65536 ⌝ }
-    ensures { λ r. ⌜ Answered (Line.integrate (fieldIn g s (now (words .entry)) (now (floats .entry))) seed d options)
+    requires { ⌜ Ready (now case) (now words) (now floats) t ⌝ }
+    requires { ⌜ settings .options .«max_steps» ≤ 65536 ⌝ }
+    ensures { λ r. ⌜ Answered (Line.integrate (tracerField t (now (words .entry)) (now (floats .entry))) seed settings)
         (valuesOf (now (case .entry))) (now (marks .entry)) (now (marks .exit)) (now (out .entry)) (now (out .exit))
         r ⌝ }
 {
-    if are_good(options) {
-        if is_nowhere(words, floats, s, g, seed) {
+    if are_good(settings.options) {
+        if is_nowhere(words, floats, t, seed) {
             return Traced::Refused(35);
         }
-        let count = line::trace(
-            case,
-            n,
-            words,
-            floats,
-            s,
-            g,
-            marks,
-            out,
-            0,
-            seed,
-            d,
-            options,
-        );
+        let count = line::trace(case, words, floats, t, marks, out, 0, seed, settings);
         return Traced::Words(count);
     }
     Traced::Refused(34)

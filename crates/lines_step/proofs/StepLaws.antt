@@ -13,15 +13,11 @@ use Rattle.reading.specs.declared.Values.{Values}
 use Rattle.reading.specs.Asks.{Asks, give, _>>=_}
 use Rattle.reading.specs.Served.{Served}
 use Rattle.reading.proofs.ServedLaws.{served-give, served-then}
-use Rattle.mesh_area.specs.declared.Sizes.{Sizes}
-use Rattle.lines_locate.specs.declared.Grid.{Grid}
-use Rattle.lines_locate.specs.Locate.{locate}
 use Rattle.lines_locate.specs.Field.{StreamlineField}
-use Rattle.lines_locate.specs.Layout.{cellPolygonsIn, fieldIn}
 use Rattle.lines_velocity.specs.declared.Vector.{Vector}
 use Rattle.lines_velocity.specs.declared.Vector.the-variants.{Here, Nowhere}
 use Rattle.lines_velocity.specs.Velocity.{locateIn, from, directionAt}
-use Rattle.lines_velocity.proofs.VelocityLaws.{served-lost, served-found, locate-in}
+use Rattle.lines_velocity.proofs.VelocityLaws.{served-lost, served-found}
 use Rattle.lines_step.specs.declared.Step.{Step}
 use Rattle.lines_step.specs.declared.Step.the-variants.{Next, Ended}
 use Rattle.lines_step.specs.declared.StreamlineOptions.{StreamlineOptions}
@@ -37,22 +33,22 @@ module _ (direction next : Vec3 → Asks Vector) (p k : Vec3) (h : Float) {v : �
   pub along-found : {m″ : List ℕ} {u : Vec3} {a : Vector} → r ≡ Here u → Served (next u) v m′ m″ a → Served (direction (plus p (times k h)) >>= from next) v m m″ a
   along-found e s = served-found next (rw (eq, ew) at d) e s
 
-module _ (g : Grid) (s : Sizes) (w : List ℕ) (f : List Float) (v : ℕ → Values) (m m′ : List ℕ) (still h : Float) (p : Vec3) (r : Vector)
-    (d : Served (rungeKutta (directionAt (fieldIn g s w f) still) h p) v m m′ r) where
-  pub rk4-lost : r ≡ Nowhere → Served (rk4Step (fieldIn g s w f) still h p) v m m′ Nowhere
+module _ (F : StreamlineField) (v : ℕ → Values) (m m′ : List ℕ) (still h : Float) (p : Vec3) (r : Vector)
+    (d : Served (rungeKutta (directionAt F still) h p) v m m′ r) where
+  pub rk4-lost : r ≡ Nowhere → Served (rk4Step F still h p) v m m′ Nowhere
   unfolding rk4Step
-  rk4-lost e = served-lost (λ q. give (hereIf (locateIn (fieldIn g s w f) q) q)) d e
+  rk4-lost e = served-lost (λ q. give (hereIf (locateIn F q) q)) d e
 
-  module _ (q : Vec3) (l : Found) (e : r ≡ Here q) (el : l ≡ locate g (cellPolygonsIn s w f) q) where
-    pub rk4-outside : l ≡ Nothing → Served (rk4Step (fieldIn g s w f) still h p) v m m′ Nowhere
+  module _ (q : Vec3) (l : Found) (e : r ≡ Here q) (el : l ≡ locateIn F q) where
+    pub rk4-outside : l ≡ Nothing → Served (rk4Step F still h p) v m m′ Nowhere
     unfolding rk4Step hereIf
     rk4-outside n =
-        served-found (λ q. give (hereIf (locateIn (fieldIn g s w f) q) q)) d e (rw (sym (locate-in g s w f q l el) ∙ n) served-give)
+        served-found (λ q. give (hereIf (locateIn F q) q)) d e (rw (sym el ∙ n) served-give)
 
-    pub rk4-inside : (i : ℕ) → l ≡ At i → Served (rk4Step (fieldIn g s w f) still h p) v m m′ (Here q)
+    pub rk4-inside : (i : ℕ) → l ≡ At i → Served (rk4Step F still h p) v m m′ (Here q)
     unfolding rk4Step hereIf
     rk4-inside i n =
-        served-found (λ q. give (hereIf (locateIn (fieldIn g s w f) q) q)) d e (rw (sym (locate-in g s w f q l el) ∙ n) served-give)
+        served-found (λ q. give (hereIf (locateIn F q) q)) d e (rw (sym el ∙ n) served-give)
 
 module _ (f : StreamlineField) (v : ℕ → Values) (m m′ : List ℕ) (o : StreamlineOptions) (h : Float) (p : Vec3) (total : Float) (r : Vector)
     (d : Served (rk4Step f (o .«stagnation_speed») h p) v m m′ r) where

@@ -2,17 +2,15 @@
 use arith::Found;
 use arith::Vec3;
 use arith::float;
-use case_file::Counts;
-use lines_locate::Grid;
+use lines_velocity::Tracer;
 use lines_velocity::Vector;
 use lines_velocity::interpolate::direction_at;
-use mesh_area::Sizes;
+use lines_velocity::interpolate::locate;
 ghost use mathlib.Core.Path.{_≡_};
 ghost use Rattle.reading.specs.Served.{Served};
 ghost use Rattle.case_file.specs.Field.{valuesOf};
-ghost use Rattle.lines_locate.specs.Layout.{fieldIn};
 ghost use Rattle.lines_velocity.specs.Velocity.{directionAt};
-ghost use Rattle.lines_velocity.specs.Ready.{Ready};
+ghost use Rattle.lines_velocity.specs.Ready.{tracerField, Ready};
 ghost use Rattle.lines_step.specs.RungeKutta as RungeKutta;
 ghost use Rattle.lines_step.specs.Step as Steps;
 
@@ -29,6 +27,13 @@ pub struct StreamlineOptions {
     pub stagnation_speed: f64,
 }
 
+// Where a step starts, how long it is (below 0 backward), and the speed that ends a line.
+struct StepStart {
+    point: Vec3,
+    step: f64,
+    stagnation_speed: f64,
+}
+
 // The four directions, weighed 1, 2, 2, 1.
 fn weighed(h: f64, p: Vec3, k1: Vec3, k2: Vec3, k3: Vec3, k4: Vec3) -> Vec3
     ensures { λ r. ⌜ r ≡ RungeKutta.weighed h p k1 k2 k3 k4 ⌝ }
@@ -40,129 +45,124 @@ fn weighed(h: f64, p: Vec3, k1: Vec3, k2: Vec3, k3: Vec3, k4: Vec3) -> Vec3
 // From the third direction on.
 fn fourth(
     case: &[u8],
-    n: Counts,
     words: &[u32],
     floats: &[f64],
-    s: Sizes,
-    g: Grid,
+    t: Tracer,
     marks: &mut [u8],
-    still: f64,
-    h: f64,
-    p: Vec3,
+    start: StepStart,
     k1: Vec3,
     k2: Vec3,
     k3: Vec3,
 ) -> Vector
-    requires { ⌜ Ready (now case) n (now words) (now floats) s g ⌝ }
+    requires { ⌜ Ready (now case) (now words) (now floats) t ⌝ }
     ensures { λ r. ⌜ Served (RungeKutta.fourth
-        (directionAt (fieldIn g s (now (words .entry)) (now (floats .entry))) still) h p k1 k2 k3)
+        (directionAt (tracerField t (now (words .entry)) (now (floats .entry))) (start .«stagnation_speed»))
+        (start .step) (start .point) k1 k2 k3)
         (valuesOf (now (case .entry))) (now (marks .entry)) (now (marks .exit)) r ⌝ }
 {
-    let q = p.add(k3.scale(h));
-    let Vector::Here(k4) = direction_at(case, n, words, floats, s, g, marks, q, still) else {
+    let q = start.point.add(k3.scale(start.step));
+    let Vector::Here(k4) = direction_at(case, words, floats, t, marks, q, start.stagnation_speed)
+    else {
         return Vector::Nowhere;
     };
-    Vector::Here(weighed(h, p, k1, k2, k3, k4))
+    Vector::Here(weighed(start.step, start.point, k1, k2, k3, k4))
 }
 
 // From the second direction on.
 fn third(
     case: &[u8],
-    n: Counts,
     words: &[u32],
     floats: &[f64],
-    s: Sizes,
-    g: Grid,
+    t: Tracer,
     marks: &mut [u8],
-    still: f64,
-    h: f64,
-    p: Vec3,
+    start: StepStart,
     k1: Vec3,
     k2: Vec3,
 ) -> Vector
-    requires { ⌜ Ready (now case) n (now words) (now floats) s g ⌝ }
+    requires { ⌜ Ready (now case) (now words) (now floats) t ⌝ }
     ensures { λ r. ⌜ Served (RungeKutta.third
-        (directionAt (fieldIn g s (now (words .entry)) (now (floats .entry))) still) h p k1 k2)
+        (directionAt (tracerField t (now (words .entry)) (now (floats .entry))) (start .«stagnation_speed»))
+        (start .step) (start .point) k1 k2)
         (valuesOf (now (case .entry))) (now (marks .entry)) (now (marks .exit)) r ⌝ }
 {
-    let q = p.add(k2.scale(h * 0.5));
-    let Vector::Here(k3) = direction_at(case, n, words, floats, s, g, marks, q, still) else {
+    let q = start.point.add(k2.scale(start.step * 0.5));
+    let Vector::Here(k3) = direction_at(case, words, floats, t, marks, q, start.stagnation_speed)
+    else {
         return Vector::Nowhere;
     };
-    fourth(case, n, words, floats, s, g, marks, still, h, p, k1, k2, k3)
+    fourth(case, words, floats, t, marks, start, k1, k2, k3)
 }
 
 // From the first direction on.
 fn second(
     case: &[u8],
-    n: Counts,
     words: &[u32],
     floats: &[f64],
-    s: Sizes,
-    g: Grid,
+    t: Tracer,
     marks: &mut [u8],
-    still: f64,
-    h: f64,
-    p: Vec3,
+    start: StepStart,
     k1: Vec3,
 ) -> Vector
-    requires { ⌜ Ready (now case) n (now words) (now floats) s g ⌝ }
+    requires { ⌜ Ready (now case) (now words) (now floats) t ⌝ }
     ensures { λ r. ⌜ Served (RungeKutta.second
-        (directionAt (fieldIn g s (now (words .entry)) (now (floats .entry))) still) h p k1)
+        (directionAt (tracerField t (now (words .entry)) (now (floats .entry))) (start .«stagnation_speed»))
+        (start .step) (start .point) k1)
         (valuesOf (now (case .entry))) (now (marks .entry)) (now (marks .exit)) r ⌝ }
 {
-    let q = p.add(k1.scale(h * 0.5));
-    let Vector::Here(k2) = direction_at(case, n, words, floats, s, g, marks, q, still) else {
+    let q = start.point.add(k1.scale(start.step * 0.5));
+    let Vector::Here(k2) = direction_at(case, words, floats, t, marks, q, start.stagnation_speed)
+    else {
         return Vector::Nowhere;
     };
-    third(case, n, words, floats, s, g, marks, still, h, p, k1, k2)
+    third(case, words, floats, t, marks, start, k1, k2)
 }
 
-// The point a step of h after p, whether it locates or not.
+// The point a step after the start, whether it locates or not.
 fn runge_kutta(
     case: &[u8],
-    n: Counts,
     words: &[u32],
     floats: &[f64],
-    s: Sizes,
-    g: Grid,
+    t: Tracer,
     marks: &mut [u8],
-    still: f64,
-    h: f64,
-    p: Vec3,
+    start: StepStart,
 ) -> Vector
-    requires { ⌜ Ready (now case) n (now words) (now floats) s g ⌝ }
+    requires { ⌜ Ready (now case) (now words) (now floats) t ⌝ }
     ensures { λ r. ⌜ Served (RungeKutta.rungeKutta
-        (directionAt (fieldIn g s (now (words .entry)) (now (floats .entry))) still) h p) (valuesOf (now (case .entry)))
-        (now (marks .entry)) (now (marks .exit)) r ⌝ }
+        (directionAt (tracerField t (now (words .entry)) (now (floats .entry))) (start .«stagnation_speed»))
+        (start .step) (start .point)) (valuesOf (now (case .entry))) (now (marks .entry)) (now (marks .exit)) r ⌝ }
 {
-    let Vector::Here(k1) = direction_at(case, n, words, floats, s, g, marks, p, still) else {
+    let Vector::Here(k1) = direction_at(
+        case,
+        words,
+        floats,
+        t,
+        marks,
+        start.point,
+        start.stagnation_speed,
+    ) else {
         return Vector::Nowhere;
     };
-    second(case, n, words, floats, s, g, marks, still, h, p, k1)
+    second(case, words, floats, t, marks, start, k1)
 }
 
-// The point a step of h after p, where it locates.
+// The same, where it locates.
 fn rk4_step(
     case: &[u8],
-    n: Counts,
     words: &[u32],
     floats: &[f64],
-    s: Sizes,
-    g: Grid,
+    t: Tracer,
     marks: &mut [u8],
-    still: f64,
-    h: f64,
-    p: Vec3,
+    start: StepStart,
 ) -> Vector
-    requires { ⌜ Ready (now case) n (now words) (now floats) s g ⌝ }
-    ensures { λ r. ⌜ Served (Steps.rk4Step (fieldIn g s (now (words .entry)) (now (floats .entry))) still h p)
+    requires { ⌜ Ready (now case) (now words) (now floats) t ⌝ }
+    ensures { λ r. ⌜ Served (Steps.rk4Step (tracerField t (now (words .entry)) (now (floats .entry)))
+        (start .«stagnation_speed») (start .step) (start .point))
         (valuesOf (now (case .entry))) (now (marks .entry)) (now (marks .exit)) r ⌝ }
 {
-    let Vector::Here(q) = runge_kutta(case, n, words, floats, s, g, marks, still, h, p) else {
+    let Vector::Here(q) = runge_kutta(case, words, floats, t, marks, start) else {
         return Vector::Nowhere;
     };
-    let Found::At(_) = lines_locate::locate_cell(words, floats, s, g, q) else {
+    let Found::At(_) = locate(words, floats, t, q) else {
         return Vector::Nowhere;
     };
     Vector::Here(q)
@@ -185,33 +185,25 @@ fn kept(longest: f64, p: Vec3, total: f64, q: Vec3) -> Step
 // One step of a line that is `total` long at p.
 pub fn line_step(
     case: &[u8],
-    n: Counts,
     words: &[u32],
     floats: &[f64],
-    s: Sizes,
-    g: Grid,
+    t: Tracer,
     marks: &mut [u8],
     options: StreamlineOptions,
     h: f64,
     p: Vec3,
     total: f64,
 ) -> Step
-    requires { ⌜ Ready (now case) n (now words) (now floats) s g ⌝ }
-    ensures { λ r. ⌜ Served (Steps.step (fieldIn g s (now (words .entry)) (now (floats .entry))) options h p total)
+    requires { ⌜ Ready (now case) (now words) (now floats) t ⌝ }
+    ensures { λ r. ⌜ Served (Steps.step (tracerField t (now (words .entry)) (now (floats .entry))) options h p total)
         (valuesOf (now (case .entry))) (now (marks .entry)) (now (marks .exit)) r ⌝ }
 {
-    let Vector::Here(q) = rk4_step(
-        case,
-        n,
-        words,
-        floats,
-        s,
-        g,
-        marks,
-        options.stagnation_speed,
-        h,
-        p,
-    ) else {
+    let start = StepStart {
+        point: p,
+        step: h,
+        stagnation_speed: options.stagnation_speed,
+    };
+    let Vector::Here(q) = rk4_step(case, words, floats, t, marks, start) else {
         return Step::Ended;
     };
     kept(options.max_length, p, total, q)

@@ -18,16 +18,15 @@ use Rattle.reading.specs.declared.Values.{Values}
 use Rattle.reading.specs.Asks.{Asks, give, ask, _>>=_}
 use Rattle.reading.specs.Served.{Served}
 use Rattle.reading.proofs.ServedLaws.{served-give, served-then}
-use Rattle.mesh_area.specs.declared.Sizes.{Sizes}
-use Rattle.mesh_area.specs.Tables.{cellAt}
+use Rattle.mesh_area.specs.Tables.{Cell, cellAt}
 use Rattle.mesh_area.specs.Layout.{cellsIn}
-use Rattle.lines_locate.specs.declared.Grid.{Grid}
-use Rattle.lines_locate.specs.Locate.{locate}
 use Rattle.lines_locate.specs.Field.{StreamlineField}
-use Rattle.lines_locate.specs.Layout.{cellPolygonsIn, fieldIn}
+use Rattle.lines_locate.specs.Layout.{fieldIn}
+use Rattle.lines_velocity.specs.declared.Tracer.{Tracer}
 use Rattle.lines_velocity.specs.declared.Vector.{Vector}
 use Rattle.lines_velocity.specs.declared.Vector.the-variants.{Here, Nowhere}
-use Rattle.lines_velocity.specs.Velocity.{locateIn, centreOf, neighboursOf, distanceSquared, nearerOf, blended, apart, beside, toward, velocityIn, velocityWhere, velocityAt, from, unit}
+use Rattle.lines_velocity.specs.Velocity.{locateIn, centreOf, neighboursOf, distanceSquared, nearerOf, nearestOf, blended, apart, besideIf, beside, besideNearest, toward, velocityIn, velocityWhere, velocityAt, from, unit}
+use Rattle.lines_velocity.specs.Ready.{tracerField}
 
 -- ---- what was found, and what was not
 
@@ -40,98 +39,91 @@ module _ {t : Asks Vector} {f : ℕ → Values} {m m′ : List ℕ} {r : Vector}
   unfolding from
   served-found s e u = served-then (from h) (rw e at s) u
 
-module _ (g : Grid) (s : Sizes) (w : List ℕ) (f : List Float) where
-  abbrev field : StreamlineField
-  field = fieldIn g s w f
+-- ---- the nearest neighbour
 
-  pub centre-in : (i : ℕ) (c : Vec3) → c ≡ cellAt (cellsIn s w f) i .centre → c ≡ centreOf field i
-  unfolding centreOf fieldIn
-  centre-in i c e = e
-
-  pub neighbours-in : (i : ℕ) → neighboursOf field i ≡ cellAt (cellsIn s w f) i .neighbours
-  unfolding neighboursOf fieldIn
-  neighbours-in i = refl
-
-  pub locate-in : (p : Vec3) (r : Found) → r ≡ locate g (cellPolygonsIn s w f) p → r ≡ locateIn field p
-  unfolding locateIn fieldIn
-  locate-in p r e = e
-
-  -- ---- the nearest neighbour
-
-  module _ (p : Vec3) (best i : ℕ) (d e : Float) (t : Bool) (ed : d ≡ distanceSquared field p i) (ee : e ≡ distanceSquared field p best) (et : t ≡ nearer d e) where
-    pub nearer-taken : t ≡ true → i ≡ nearerOf field p best i
+module _ (cells : List Cell) (p : Vec3) where
+  module _ (best i : ℕ) (d e : Float) (t : Bool) (ed : d ≡ distanceSquared cells p i) (ee : e ≡ distanceSquared cells p best) (et : t ≡ nearer d e) where
+    pub nearer-taken : t ≡ true → i ≡ nearerOf cells p best i
     unfolding nearerOf
     nearer-taken h = rw (← ed, ← ee, ← et, h)
 
-    pub nearer-left : t ≡ false → best ≡ nearerOf field p best i
+    pub nearer-left : t ≡ false → best ≡ nearerOf cells p best i
     unfolding nearerOf
     nearer-left h = rw (← ed, ← ee, ← et, h)
 
-  module _ (p : Vec3) (i k count best : ℕ) (r : ℕ) (long : count ≡ length (cellAt (cellsIn s w f) i .neighbours))
-      (inv : fold (nearerOf field p) best (drop k (neighboursOf field i)) ≡ r) where
-    pub nearest-turn : (v best′ : ℕ) → k < count → v ≡ getD (cellAt (cellsIn s w f) i .neighbours) k 0 → best′ ≡ nearerOf field p best v
-        → fold (nearerOf field p) best′ (drop (k + 1) (neighboursOf field i)) ≡ r
+  module _ (i k count best : ℕ) (r : ℕ) (long : count ≡ length (cellAt cells i .neighbours))
+      (inv : fold (nearerOf cells p) best (drop k (neighboursOf cells i)) ≡ r) where
+    pub nearest-turn : (v best′ : ℕ) → k < count → v ≡ getD (cellAt cells i .neighbours) k 0 → best′ ≡ nearerOf cells p best v
+        → fold (nearerOf cells p) best′ (drop (k + 1) (neighboursOf cells i)) ≡ r
+    unfolding neighboursOf
     nearest-turn v best′ h ev eb =
-        rw (eb, ev, neighbours-in i)
-        (sym (foldl-next (cellAt (cellsIn s w f) i .neighbours) k 0 (rw (← long) h) (nearerOf field p) best) ∙ (rw (neighbours-in i) at inv))
+        rw (eb, ev) (sym (foldl-next (cellAt cells i .neighbours) k 0 (rw (← long) h) (nearerOf cells p) best) ∙ inv)
 
     pub nearest-end : count ≤ k → best ≡ r
-    unfolding fold
+    unfolding fold neighboursOf
     nearest-end h =
-        let none : drop k (neighboursOf field i) ≡ [] = rw (neighbours-in i) (drop-end (cellAt (cellsIn s w f) i .neighbours) k (rw (← long) h)) in
+        let none : drop k (cellAt cells i .neighbours) ≡ [] = drop-end (cellAt cells i .neighbours) k (rw (← long) h) in
         rw none at inv
 
-  -- ---- the blend
+-- ---- the blend
 
-  module _ (v : ℕ → Values) (m : List ℕ) (p : Vec3) (i : ℕ) (base : Vec3) where
-    module _ (k : ℕ) (ci ck offset : Vec3) (a : Bool) (ei : ci ≡ cellAt (cellsIn s w f) i .centre) (ek : ck ≡ cellAt (cellsIn s w f) k .centre)
-        (eo : offset ≡ minus ck ci) (ea : a ≡ apart offset) where
-      there : offset ≡ minus (centreOf field k) (centreOf field i)
-      there = eo ∙ rw (centre-in k ck ek, centre-in i ci ei)
+module _ (t : Tracer) (w : List ℕ) (f : List Float) (v : ℕ → Values) (m : List ℕ) (p : Vec3) (i : ℕ) (base : Vec3) where
+  module _ (k : ℕ) (ci ck offset : Vec3) (a : Bool) (ei : ci ≡ cellAt (cellsIn (t .sizes) w f) i .centre) (ek : ck ≡ cellAt (cellsIn (t .sizes) w f) k .centre)
+      (eo : offset ≡ minus ck ci) (ea : a ≡ apart offset) where
+    here : ci ≡ centreOf (tracerField t w f .cells) i
+    unfolding centreOf tracerField fieldIn
+    here = ei
 
-      pub beside-not : a ≡ false → Served (beside (apart (minus (centreOf field k) (centreOf field i))) field p i base k) v m m base
-      unfolding beside
-      beside-not t = rw (← there, ← ea, t) served-give
+    there : offset ≡ minus (centreOf (tracerField t w f .cells) k) (centreOf (tracerField t w f .cells) i)
+    unfolding centreOf tracerField fieldIn
+    there = eo ∙ rw (ek, ei)
 
-      pub beside-read : {m′ : List ℕ} {u : Values} {r : Vec3} → a ≡ true → Served (ask k give) v m m′ u → r ≡ blended p ci offset base (u .velocity)
-          → Served (beside (apart (minus (centreOf field k) (centreOf field i))) field p i base k) v m m′ r
-      unfolding beside
-      beside-read t s e =
-          rw (← there, ← ea, t)
-          (rw (e, centre-in i ci ei, there)
-          (served-then (λ x. give (blended p (centreOf field i) (minus (centreOf field k) (centreOf field i)) base (x .velocity))) s served-give))
+    pub beside-not : a ≡ false → Served (beside (tracerField t w f) p i base k) v m m base
+    unfolding beside besideIf
+    beside-not e = rw (← there, ← ea, e) served-give
 
-    pub toward-none : (count : ℕ) → count ≡ length (cellAt (cellsIn s w f) i .neighbours) → count ≡ 0 → Served (toward field p i base (neighboursOf field i)) v m m base
-    toward-none count e z = rw (neighbours-in i) (by (cellAt (cellsIn s w f) i .neighbours) (sym e ∙ z))
-      where
-        by : (l : List ℕ) → length l ≡ 0 → Served (toward field p i base l) v m m base
-        by [] q = unfold toward in served-give
-        by (x ∷ l) q = absurd (omega arith)
+    pub beside-read : {m′ : List ℕ} {u : Values} {r : Vec3} → a ≡ true → Served (ask k give) v m m′ u → r ≡ blended p ci offset base (u .velocity)
+        → Served (beside (tracerField t w f) p i base k) v m m′ r
+    unfolding beside besideIf
+    beside-read e s er =
+        rw (← there, ← ea, e)
+        (rw (er, here, there)
+        (served-then (λ x. give (blended p (centreOf (tracerField t w f .cells) i) (minus (centreOf (tracerField t w f .cells) k) (centreOf (tracerField t w f .cells) i)) base (x .velocity))) s served-give))
 
-    pub toward-some : {m′ : List ℕ} {r : Vec3} (count k : ℕ) → count ≡ length (cellAt (cellsIn s w f) i .neighbours) → (count ≡ 0 → ⊥)
-        → k ≡ fold (nearerOf field p) (getD (neighboursOf field i) 0 0) (drop 1 (neighboursOf field i))
-        → Served (beside (apart (minus (centreOf field k) (centreOf field i))) field p i base k) v m m′ r → Served (toward field p i base (neighboursOf field i)) v m m′ r
-    toward-some {m′} {r} count k e z ek d = by (neighboursOf field i) (λ q. z (e ∙ sym (ap length (neighbours-in i)) ∙ q)) (rw ek at d)
-      where
-        by : (l : List ℕ) → (length l ≡ 0 → ⊥)
-            → Served (beside (apart (minus (centreOf field (fold (nearerOf field p) (getD l 0 0) (drop 1 l))) (centreOf field i))) field p i base (fold (nearerOf field p) (getD l 0 0) (drop 1 l))) v m m′ r
-            → Served (toward field p i base l) v m m′ r
-        by [] q x = absurd (q refl)
-        by (n ∷ l) q x = unfold toward in x
+  pub toward-none : (count : ℕ) → count ≡ length (cellAt (cellsIn (t .sizes) w f) i .neighbours) → count ≡ 0 → Served (toward (tracerField t w f) p i base) v m m base
+  unfolding toward neighboursOf tracerField fieldIn
+  toward-none count e z = by (cellAt (cellsIn (t .sizes) w f) i .neighbours) (sym e ∙ z)
+    where
+      by : (l : List ℕ) → length l ≡ 0 → Served (besideNearest (tracerField t w f) p i base l) v m m base
+      by [] q = unfold besideNearest in served-give
+      by (x ∷ l) q = absurd (omega arith)
 
-  module _ (v : ℕ → Values) (m : List ℕ) (p : Vec3) where
-    pub velocity-in : {m′ m″ : List ℕ} {u : Values} {r : Vec3} (i : ℕ) → Served (ask i give) v m m′ u → Served (toward field p i (u .velocity) (neighboursOf field i)) v m′ m″ r
-        → Served (velocityIn field p i) v m m″ r
-    unfolding velocityIn
-    velocity-in i s t = served-then (λ x. toward field p i (x .velocity) (neighboursOf field i)) s t
+  pub toward-some : {m′ : List ℕ} {r : Vec3} (count k : ℕ) → count ≡ length (cellAt (cellsIn (t .sizes) w f) i .neighbours) → (count ≡ 0 → ⊥)
+      → k ≡ nearestOf (cellsIn (t .sizes) w f) p (neighboursOf (cellsIn (t .sizes) w f) i)
+      → Served (beside (tracerField t w f) p i base k) v m m′ r → Served (toward (tracerField t w f) p i base) v m m′ r
+  unfolding toward neighboursOf tracerField fieldIn
+  toward-some {m′} {r} count k e z ek d = by (cellAt (cellsIn (t .sizes) w f) i .neighbours) (λ q. z (e ∙ q)) (rw ek at d)
+    where
+      by : (l : List ℕ) → (length l ≡ 0 → ⊥) → Served (beside (tracerField t w f) p i base (nearestOf (tracerField t w f .cells) p l)) v m m′ r
+          → Served (besideNearest (tracerField t w f) p i base l) v m m′ r
+      by [] q x = absurd (q refl)
+      by (n ∷ l) q x = unfold besideNearest in x
 
-    pub velocity-nowhere : {r : Found} → r ≡ locate g (cellPolygonsIn s w f) p → r ≡ Nothing → Served (velocityAt field p) v m m Nowhere
-    unfolding velocityAt velocityWhere
-    velocity-nowhere {r} e n = rw (sym (locate-in p r e) ∙ n) served-give
+-- ---- the velocity
 
-    pub velocity-here : {m′ : List ℕ} {r : Found} {u : Vec3} (i : ℕ) → r ≡ locate g (cellPolygonsIn s w f) p → r ≡ At i → Served (velocityIn field p i) v m m′ u → Served (velocityAt field p) v m m′ (Here u)
-    unfolding velocityAt velocityWhere
-    velocity-here {r = r} i e n s = rw (sym (locate-in p r e) ∙ n) (served-then (λ x. give (Here x)) s served-give)
+module _ (F : StreamlineField) (v : ℕ → Values) (m : List ℕ) (p : Vec3) where
+  pub velocity-in : {m′ m″ : List ℕ} {u : Values} {r : Vec3} (i : ℕ) → Served (ask i give) v m m′ u → Served (toward F p i (u .velocity)) v m′ m″ r
+      → Served (velocityIn F p i) v m m″ r
+  unfolding velocityIn
+  velocity-in i s t = served-then (λ x. toward F p i (x .velocity)) s t
+
+  pub velocity-nowhere : {r : Found} → r ≡ locateIn F p → r ≡ Nothing → Served (velocityAt F p) v m m Nowhere
+  unfolding velocityAt velocityWhere
+  velocity-nowhere e n = rw (sym e ∙ n) served-give
+
+  pub velocity-here : {m′ : List ℕ} {r : Found} {u : Vec3} (i : ℕ) → r ≡ locateIn F p → r ≡ At i → Served (velocityIn F p i) v m m′ u → Served (velocityAt F p) v m m′ (Here u)
+  unfolding velocityAt velocityWhere
+  velocity-here i e n s = rw (sym e ∙ n) (served-then (λ x. give (Here x)) s served-give)
 
 -- ---- the direction of a velocity, by the tests of its speed
 

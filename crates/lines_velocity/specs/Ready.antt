@@ -1,19 +1,26 @@
--- What the functions that take velocities and trace lines ask of their arguments.
+-- A tracer: the field that it traces in, and what the functions that take velocities and trace lines ask of it.
 use Prim.Native.Nat.{ℕ}
 use mathlib.Core.Path.{_≡_}
 use mathlib.Core.List.{List}
 use lib.Ieee.{Float}
-use Rattle.case_file.specs.declared.Counts.{Counts}
 use Rattle.case_file.specs.declared.Opened.the-variants.{Case}
 use Rattle.case_file.specs.Trailer.{opened}
-use Rattle.mesh_area.specs.declared.Sizes.{Sizes}
 use Rattle.mesh_area.specs.Layout.{LentWords, LentFloats}
-use Rattle.lines_locate.specs.declared.Grid.{Grid}
-use Rattle.lines_locate.specs.Layout.{Searchable}
+use Rattle.lines_locate.specs.Field.{StreamlineField}
+use Rattle.lines_locate.specs.Layout.{fieldIn, Searchable}
+use Rattle.lines_velocity.specs.declared.Tracer.{Tracer}
 
--- a case that opens, an area of the right sizes, and a grid whose bins can be searched
-pub record Ready (case : List ℕ) (n : Counts) (words : List ℕ) (floats : List Float) (s : Sizes) (g : Grid) : Type 0 where
-  pub opens : opened case ≡ Case n
-  pub lent-words : LentWords s words
-  pub lent-floats : LentFloats s floats
-  pub searchable : Searchable g s words floats
+-- the field that the area holds under a tracer
+unfoldable pub tracerField : Tracer → List ℕ → List Float → StreamlineField
+tracerField t words floats = fieldIn (t .grid) (t .sizes) words floats
+
+-- an area of the right sizes, and a grid whose bins can be searched
+pub record Locatable (words : List ℕ) (floats : List Float) (t : Tracer) : Type 0 where
+  pub lent-words : LentWords (t .sizes) words
+  pub lent-floats : LentFloats (t .sizes) floats
+  pub searchable : Searchable (t .grid) (t .sizes) words floats
+
+-- the same, and a case that opens
+pub record Ready (case words : List ℕ) (floats : List Float) (t : Tracer) : Type 0 where
+  pub opens : opened case ≡ Case (t .counts)
+  pub area : Locatable words floats t

@@ -3,6 +3,7 @@ use Prim.Native.Nat.{ℕ}
 use mathlib.Core.Path.{_≡_}
 use mathlib.Core.Bool.{Bool, true, false, not, cond, _&&_}
 use mathlib.Core.List.{List, [], _∷_}
+use lib.ListN.{getD, drop}
 use lib.Ieee.{Float}
 use Rattle.arith.specs.F64.{_⊘_, _≺_, _≼_, 2^-52, finite, clamp, nearer}
 use Rattle.arith.specs.Lists.{fold}
@@ -11,7 +12,7 @@ use Rattle.arith.specs.declared.Vec3.{Vec3}
 use Rattle.arith.specs.declared.Found.{Found}
 use Rattle.arith.specs.declared.Found.the-variants.{At, Nothing}
 use Rattle.reading.specs.Asks.{Asks, give, ask, _>>=_}
-use Rattle.mesh_area.specs.Tables.{cellAt}
+use Rattle.mesh_area.specs.Tables.{Cell, cellAt}
 use Rattle.lines_locate.specs.Locate.{locate}
 use Rattle.lines_locate.specs.Field.{StreamlineField}
 use Rattle.lines_velocity.specs.declared.Vector.{Vector}
@@ -22,20 +23,24 @@ unfoldable pub locateIn : StreamlineField → Vec3 → Found
 locateIn f p = locate (f .grid) (f .polygons) p
 
 -- the centre of a cell
-unfoldable pub centreOf : StreamlineField → ℕ → Vec3
-centreOf f i = cellAt (f .cells) i .centre
+unfoldable pub centreOf : List Cell → ℕ → Vec3
+centreOf cells i = cellAt cells i .centre
 
 -- its neighbours, "in face order"
-unfoldable pub neighboursOf : StreamlineField → ℕ → List ℕ
-neighboursOf f i = cellAt (f .cells) i .neighbours
+unfoldable pub neighboursOf : List Cell → ℕ → List ℕ
+neighboursOf cells i = cellAt cells i .neighbours
 
 -- the squared distance of a cell's centre from p
-unfoldable pub distanceSquared : StreamlineField → Vec3 → ℕ → Float
-distanceSquared f p i = normSquared (minus p (centreOf f i))
+unfoldable pub distanceSquared : List Cell → Vec3 → ℕ → Float
+distanceSquared cells p i = normSquared (minus p (centreOf cells i))
 
 -- "first of equal distances"
-unfoldable pub nearerOf : StreamlineField → Vec3 → ℕ → ℕ → ℕ
-nearerOf f p best i = cond (nearer (distanceSquared f p i) (distanceSquared f p best)) i best
+unfoldable pub nearerOf : List Cell → Vec3 → ℕ → ℕ → ℕ
+nearerOf cells p best i = cond (nearer (distanceSquared cells p i) (distanceSquared cells p best)) i best
+
+-- the nearest of some cells, of which there is one
+unfoldable pub nearestOf : List Cell → Vec3 → List ℕ → ℕ
+nearestOf cells p l = fold (nearerOf cells p) (getD l 0 0) (drop 1 l)
 
 -- from `base` toward `there`, by the fraction of p on the way from the centre along the offset
 unfoldable pub blended : Vec3 → Vec3 → Vec3 → Vec3 → Vec3 → Vec3
@@ -46,19 +51,25 @@ unfoldable pub apart : Vec3 → Bool
 apart offset = finite (normSquared offset) && not (normSquared offset ≼ 2^-52)
 
 -- "also the nearest one's, even at fraction 0"
-unfoldable pub beside : Bool → StreamlineField → Vec3 → ℕ → Vec3 → ℕ → Asks Vec3
-beside false f p cell base k = give base
-beside true f p cell base k = ask k give >>= λ v. give (blended p (centreOf f cell) (minus (centreOf f k) (centreOf f cell)) base (v .velocity))
+unfoldable pub besideIf : Bool → StreamlineField → Vec3 → ℕ → Vec3 → ℕ → Asks Vec3
+besideIf false f p i base k = give base
+besideIf true f p i base k = ask k give >>= λ v. give (blended p (centreOf (f .cells) i) (minus (centreOf (f .cells) k) (centreOf (f .cells) i)) base (v .velocity))
+
+-- the blend of cell i's velocity with that of neighbour k
+unfoldable pub beside : StreamlineField → Vec3 → ℕ → Vec3 → ℕ → Asks Vec3
+beside f p i base k = besideIf (apart (minus (centreOf (f .cells) k) (centreOf (f .cells) i))) f p i base k
 
 -- "with neighbours (in face order, first of equal distances)"
-unfoldable pub toward : StreamlineField → Vec3 → ℕ → Vec3 → List ℕ → Asks Vec3
-toward f p cell base [] = give base
-toward f p cell base (n ∷ ns) =
-    let k = fold (nearerOf f p) n ns in beside (apart (minus (centreOf f k) (centreOf f cell))) f p cell base k
+unfoldable pub besideNearest : StreamlineField → Vec3 → ℕ → Vec3 → List ℕ → Asks Vec3
+besideNearest f p i base [] = give base
+besideNearest f p i base (n ∷ ns) = beside f p i base (nearestOf (f .cells) p (n ∷ ns))
+
+unfoldable pub toward : StreamlineField → Vec3 → ℕ → Vec3 → Asks Vec3
+toward f p i base = besideNearest f p i base (neighboursOf (f .cells) i)
 
 -- "Velocity reads the located cell"
 unfoldable pub velocityIn : StreamlineField → Vec3 → ℕ → Asks Vec3
-velocityIn f p i = ask i give >>= λ v. toward f p i (v .velocity) (neighboursOf f i)
+velocityIn f p i = ask i give >>= λ v. toward f p i (v .velocity)
 
 -- "nothing where its point locates nowhere"
 unfoldable pub velocityWhere : StreamlineField → Vec3 → Found → Asks Vector

@@ -1,46 +1,39 @@
 // The velocity at a point, and its direction.
 use crate::Near;
+use crate::Tracer;
 use crate::Vector;
 use arith::Found;
 use arith::Vec3;
 use arith::float;
-use case_file::Counts;
 use case_file::field;
-use lines_locate::Grid;
 use mesh_area::Sizes;
 ghost use mathlib.Core.Path.{_≡_};
 ghost use mathlib.Core.List.{List};
-ghost use Prim.Native.Nat.{ℕ, _+_, _*_, _<_, _≤_};
-ghost use lib.ListN.{length, getD, drop};
-ghost use Rattle.arith.specs.Lists.{fold};
-ghost use Rattle.arith.specs.Vec.{minus};
+ghost use Prim.Native.Nat.{ℕ};
 ghost use Rattle.reading.specs.Served.{Served};
 ghost use Rattle.case_file.specs.declared.Opened.the-variants.{Case};
 ghost use Rattle.case_file.specs.Trailer.{opened};
 ghost use Rattle.case_file.specs.Field.{valuesOf};
-ghost use Rattle.mesh_area.specs.Layout.{LentWords, LentFloats};
-ghost use Rattle.lines_locate.specs.Layout.{fieldIn};
+ghost use Rattle.mesh_area.specs.Layout.{LentWords, LentFloats, cellsIn};
 ghost use Rattle.lines_velocity.specs.Velocity as Velocity;
-ghost use Rattle.lines_velocity.specs.Ready.{Ready};
+ghost use Rattle.lines_velocity.specs.Ready.{tracerField, Locatable, Ready};
 
 // The squared distance of cell i's centre from p.
 fn distance_squared(floats: &[f64], s: Sizes, p: Vec3, i: usize) -> f64
     requires { ⌜ LentFloats s (now floats) ⌝ }
-    ensures { λ r. ⌜ ((g : Grid) (words : List ℕ) → r ≡ Velocity.distanceSquared
-        (fieldIn g s words (now (floats .entry))) p i) ⌝ }
+    ensures { λ r. ⌜ ((words : List ℕ) → r ≡ Velocity.distanceSquared (cellsIn s words (now (floats .entry))) p i) ⌝ }
 {
     p.sub(mesh_area::centre_of(floats, s, i)).norm_squared()
 }
 
 // The nearer one of two cells, with its squared distance; of equal distances the first.
 fn nearer_of(floats: &[f64], s: Sizes, p: Vec3, best: Near, i: usize) -> Near
-    requires { ⌜ LentFloats s (now floats)
-        × ((g : Grid) (words : List ℕ) → best .«distance_squared» ≡ Velocity.distanceSquared
-        (fieldIn g s words (now floats)) p (best .cell)) ⌝ }
-    ensures { λ r. ⌜ ((g : Grid) (words : List ℕ) → r .cell ≡ Velocity.nearerOf
-        (fieldIn g s words (now (floats .entry))) p (best .cell) i)
-        × ((g : Grid) (words : List ℕ) → r .«distance_squared» ≡ Velocity.distanceSquared
-        (fieldIn g s words (now (floats .entry))) p (r .cell)) ⌝ }
+    requires { ⌜ LentFloats s (now floats) × ((words : List ℕ) → best .«distance_squared» ≡
+        Velocity.distanceSquared (cellsIn s words (now floats)) p (best .cell)) ⌝ }
+    ensures { λ r. ⌜ ((words : List ℕ) → r .cell ≡
+        Velocity.nearerOf (cellsIn s words (now (floats .entry))) p (best .cell) i)
+        × ((words : List ℕ) → r .«distance_squared» ≡
+        Velocity.distanceSquared (cellsIn s words (now (floats .entry))) p (r .cell)) ⌝ }
 {
     let d = distance_squared(floats, s, p, i);
     if float::nearer(d, best.distance_squared) {
@@ -56,10 +49,8 @@ fn nearer_of(floats: &[f64], s: Sizes, p: Vec3, best: Near, i: usize) -> Near
 // The nearest neighbour of cell i, which has one.
 fn nearest(words: &[u32], floats: &[f64], s: Sizes, p: Vec3, i: usize) -> usize
     requires { ⌜ LentWords s (now words) × LentFloats s (now floats) ⌝ }
-    ensures { λ r. ⌜ ((g : Grid) → r ≡ fold
-        (Velocity.nearerOf (fieldIn g s (now (words .entry)) (now (floats .entry))) p)
-        (getD (Velocity.neighboursOf (fieldIn g s (now (words .entry)) (now (floats .entry))) i) 0 0)
-        (drop 1 (Velocity.neighboursOf (fieldIn g s (now (words .entry)) (now (floats .entry))) i))) ⌝ }
+    ensures { λ r. ⌜ r ≡ Velocity.nearestOf (cellsIn s (now (words .entry)) (now (floats .entry))) p
+        (Velocity.neighboursOf (cellsIn s (now (words .entry)) (now (floats .entry))) i) ⌝ }
 {
     let count = mesh_area::neighbour_count(words, s, i);
     let first = mesh_area::neighbour(words, s, i, 0);
@@ -102,25 +93,23 @@ fn apart(offset: Vec3) -> bool
 // The blend with the values of neighbour k.
 fn beside(
     case: &[u8],
-    n: Counts,
     floats: &[f64],
-    s: Sizes,
+    t: Tracer,
     marks: &mut [u8],
     p: Vec3,
     i: usize,
     base: Vec3,
     k: usize,
 ) -> Vec3
-    requires { ⌜ (opened (now case) ≡ Case n) × LentFloats s (now floats) ⌝ }
-    ensures { λ r. ⌜ ((g : Grid) (words : List ℕ) → Served
-        (Velocity.beside (Velocity.apart (minus (Velocity.centreOf (fieldIn g s words (now (floats .entry))) k)
-        (Velocity.centreOf (fieldIn g s words (now (floats .entry))) i))) (fieldIn g s words (now (floats .entry))) p i
-        base k) (valuesOf (now (case .entry))) (now (marks .entry)) (now (marks .exit)) r) ⌝ }
+    requires { ⌜ (opened (now case) ≡ Case (t .counts)) × LentFloats (t .sizes) (now floats) ⌝ }
+    ensures { λ r. ⌜ ((words : List ℕ) → Served
+        (Velocity.beside (tracerField t words (now (floats .entry))) p i base k)
+        (valuesOf (now (case .entry))) (now (marks .entry)) (now (marks .exit)) r) ⌝ }
 {
-    let centre = mesh_area::centre_of(floats, s, i);
-    let offset = mesh_area::centre_of(floats, s, k).sub(centre);
+    let centre = mesh_area::centre_of(floats, t.sizes, i);
+    let offset = mesh_area::centre_of(floats, t.sizes, k).sub(centre);
     if apart(offset) {
-        let v = field::read_cell(case, n, marks, k);
+        let v = field::read_cell(case, t.counts, marks, k);
         return blended(p, centre, offset, base, v.velocity);
     }
     base
@@ -129,65 +118,68 @@ fn beside(
 // The velocity of cell i at p, blended toward the nearest neighbour's.
 fn toward(
     case: &[u8],
-    n: Counts,
     words: &[u32],
     floats: &[f64],
-    s: Sizes,
+    t: Tracer,
     marks: &mut [u8],
     p: Vec3,
     i: usize,
     base: Vec3,
 ) -> Vec3
-    requires { ⌜ (opened (now case) ≡ Case n) × LentWords s (now words) × LentFloats s (now floats) ⌝ }
-    ensures { λ r. ⌜ ((g : Grid) → Served (Velocity.toward (fieldIn g s (now (words .entry)) (now (floats .entry))) p i
-        base (Velocity.neighboursOf (fieldIn g s (now (words .entry)) (now (floats .entry))) i))
-        (valuesOf (now (case .entry))) (now (marks .entry)) (now (marks .exit)) r) ⌝ }
+    requires { ⌜ Ready (now case) (now words) (now floats) t ⌝ }
+    ensures { λ r. ⌜ Served (Velocity.toward (tracerField t (now (words .entry)) (now (floats .entry))) p i base)
+        (valuesOf (now (case .entry))) (now (marks .entry)) (now (marks .exit)) r ⌝ }
 {
-    if mesh_area::neighbour_count(words, s, i) == 0 {
+    if mesh_area::neighbour_count(words, t.sizes, i) == 0 {
         return base;
     }
-    let k = nearest(words, floats, s, p, i);
-    beside(case, n, floats, s, marks, p, i, base, k)
+    let k = nearest(words, floats, t.sizes, p, i);
+    beside(case, floats, t, marks, p, i, base, k)
 }
 
 // The velocity at p, which lies in cell i.
 fn velocity_in(
     case: &[u8],
-    n: Counts,
     words: &[u32],
     floats: &[f64],
-    s: Sizes,
+    t: Tracer,
     marks: &mut [u8],
     p: Vec3,
     i: usize,
 ) -> Vec3
-    requires { ⌜ (opened (now case) ≡ Case n) × LentWords s (now words) × LentFloats s (now floats) ⌝ }
-    ensures { λ r. ⌜ ((g : Grid) → Served (Velocity.velocityIn (fieldIn g s (now (words .entry)) (now (floats .entry)))
-        p i) (valuesOf (now (case .entry))) (now (marks .entry)) (now (marks .exit)) r) ⌝ }
+    requires { ⌜ Ready (now case) (now words) (now floats) t ⌝ }
+    ensures { λ r. ⌜ Served (Velocity.velocityIn (tracerField t (now (words .entry)) (now (floats .entry))) p i)
+        (valuesOf (now (case .entry))) (now (marks .entry)) (now (marks .exit)) r ⌝ }
 {
-    let v = field::read_cell(case, n, marks, i);
-    toward(case, n, words, floats, s, marks, p, i, v.velocity)
+    let v = field::read_cell(case, t.counts, marks, i);
+    toward(case, words, floats, t, marks, p, i, v.velocity)
+}
+
+// The cell that p locates in.
+pub fn locate(words: &[u32], floats: &[f64], t: Tracer, p: Vec3) -> Found
+    requires { ⌜ Locatable (now words) (now floats) t ⌝ }
+    ensures { λ r. ⌜ r ≡ Velocity.locateIn (tracerField t (now (words .entry)) (now (floats .entry))) p ⌝ }
+{
+    lines_locate::locate_cell(words, floats, t.sizes, t.grid, p)
 }
 
 // The velocity at p; nowhere where p locates nowhere.
 pub fn velocity_at(
     case: &[u8],
-    n: Counts,
     words: &[u32],
     floats: &[f64],
-    s: Sizes,
-    g: Grid,
+    t: Tracer,
     marks: &mut [u8],
     p: Vec3,
 ) -> Vector
-    requires { ⌜ Ready (now case) n (now words) (now floats) s g ⌝ }
-    ensures { λ r. ⌜ Served (Velocity.velocityAt (fieldIn g s (now (words .entry)) (now (floats .entry))) p)
+    requires { ⌜ Ready (now case) (now words) (now floats) t ⌝ }
+    ensures { λ r. ⌜ Served (Velocity.velocityAt (tracerField t (now (words .entry)) (now (floats .entry))) p)
         (valuesOf (now (case .entry))) (now (marks .entry)) (now (marks .exit)) r ⌝ }
 {
-    let Found::At(i) = lines_locate::locate_cell(words, floats, s, g, p) else {
+    let Found::At(i) = locate(words, floats, t, p) else {
         return Vector::Nowhere;
     };
-    let v = velocity_in(case, n, words, floats, s, marks, p, i);
+    let v = velocity_in(case, words, floats, t, marks, p, i);
     Vector::Here(v)
 }
 
@@ -207,20 +199,18 @@ fn unit(stagnation_speed: f64, v: Vec3) -> Vector
 // The direction of the velocity at p.
 pub fn direction_at(
     case: &[u8],
-    n: Counts,
     words: &[u32],
     floats: &[f64],
-    s: Sizes,
-    g: Grid,
+    t: Tracer,
     marks: &mut [u8],
     p: Vec3,
     stagnation_speed: f64,
 ) -> Vector
-    requires { ⌜ Ready (now case) n (now words) (now floats) s g ⌝ }
-    ensures { λ r. ⌜ Served (Velocity.directionAt (fieldIn g s (now (words .entry)) (now (floats .entry)))
+    requires { ⌜ Ready (now case) (now words) (now floats) t ⌝ }
+    ensures { λ r. ⌜ Served (Velocity.directionAt (tracerField t (now (words .entry)) (now (floats .entry)))
         «stagnation_speed» p) (valuesOf (now (case .entry))) (now (marks .entry)) (now (marks .exit)) r ⌝ }
 {
-    let Vector::Here(v) = velocity_at(case, n, words, floats, s, g, marks, p) else {
+    let Vector::Here(v) = velocity_at(case, words, floats, t, marks, p) else {
         return Vector::Nowhere;
     };
     unit(stagnation_speed, v)

@@ -2,6 +2,16 @@
 pub mod interpolate;
 
 use arith::Vec3;
+use case_file::Counts;
+use lines_locate::Grid;
+use mesh_area::Sizes;
+
+// What a 2D case is traced with: its counts, the sizes of its work area, and the grid of its bins.
+pub struct Tracer {
+    pub counts: Counts,
+    pub sizes: Sizes,
+    pub grid: Grid,
+}
 
 // A velocity, a direction or a point; or that there is none.
 pub enum Vector {

@@ -7,11 +7,11 @@ use Rattle.job_requests.proofs.rake_of.Tie as tie
 
 returns : tie.Need-returns
 unfolding rakeOf refuseIf
-returns c = rw (sym (c .before .before .options .ensures), lt-ltb _ _ (c .if1 .taken))
+returns c = rw (sym (c .before .before .settings .ensures), lt-ltb _ _ (c .if1 .taken))
 
 returns-2 : tie.Need-returns-2
 unfolding rakeOf refuseIf
-returns-2 c = rw (sym (c .before .before .before .before .before .options .ensures), le-ltb _ _ (c .before .before .before .if1 .left), c .before .before .point .ensures, c .before .point2 .ensures, c .direction .ensures)
+returns-2 c = rw (sym (c .before .before .before .before .settings .ensures), le-ltb _ _ (c .before .before .if1 .left), c .before .point .ensures, c .point2 .ensures)
 
 pub rake-of-spec : {M : Type 1} → statement M
 rake-of-spec =
@@ -19,7 +19,6 @@ rake-of-spec =
     (tie.spec
     (λ c κs. search needs)
     returns
-    (λ c κs. search needs)
     (λ c κs. search needs)
     (λ c κs. search needs)
     returns-2)

@@ -7,11 +7,11 @@ use Rattle.job_requests.proofs.streamline.Tie as tie
 
 returns : tie.Need-returns
 unfolding streamline refuseIf
-returns c = rw (sym (c .before .before .options .ensures), lt-ltb _ _ (c .if1 .taken))
+returns c = rw (sym (c .before .before .settings .ensures), lt-ltb _ _ (c .if1 .taken))
 
 returns-2 : tie.Need-returns-2
 unfolding streamline refuseIf
-returns-2 c = rw (sym (c .before .before .before .before .options .ensures), le-ltb _ _ (c .before .before .if1 .left), c .before .point .ensures, c .direction .ensures)
+returns-2 c = rw (sym (c .before .before .before .settings .ensures), le-ltb _ _ (c .before .if1 .left), c .point .ensures)
 
 pub streamline-spec : {M : Type 1} → statement M
 streamline-spec =
@@ -19,6 +19,5 @@ streamline-spec =
     (tie.spec
     (λ c κs. search needs)
     returns
-    (λ c κs. search needs)
     (λ c κs. search needs)
     returns-2)

@@ -7,7 +7,7 @@ enum-known-place : tie.Need-enum-known-place
 enum-known-place c = search needs
 
 serve-flat-requires : tie.Need-serve-flat-requires
-serve-flat-requires c κs = (stands-flat _ _ _ _ _ _ _ (c .before .before .before .place .given .1) (c .before .before .before .before .before .before .before .before .before .before .pre .0), c .before .before .before .before .before .before .before .before .before .before .pre .2)
+serve-flat-requires c κs = (stands-flat _ _ _ _ _ (c .before .before .before .place .given .1) (c .before .before .before .before .before .before .before .before .before .before .pre .0), c .before .before .before .before .before .before .before .before .before .before .pre .2)
 
 enum-known-place-2 : tie.Need-enum-known-place-2
 enum-known-place-2 c = search needs
@@ -22,7 +22,7 @@ same-length-2 : tie.Need-same-length-2
 same-length-2 c = search needs
 
 returns : tie.Need-returns
-returns c = in-flat _ _ _ _ _ _ _ _ _ _ (c .before .before .before .before .before .before .before .before .place .given .1) (c .before .before .before .before .serve-flat .ensures)
+returns c = in-flat _ _ _ _ _ _ _ _ (c .before .before .before .before .before .before .before .before .place .given .1) (c .before .before .before .before .serve-flat .ensures)
 
 same-length-3 : tie.Need-same-length-3
 same-length-3 c = search needs

@@ -22,13 +22,13 @@ enum-known-q-4 : tie.Need-enum-known-q-4
 enum-known-q-4 c = search needs
 
 serve-streamline-requires : tie.Need-serve-streamline-requires
-serve-streamline-requires c κs = (c .before .before .before .before .before .before .before .before .before .before .pre .0, allowed-streamline _ _ _ _ (c .before .before .before .q4 .given .1) (c .before .before .before .before .before .before .before .before .before .before .pre .1))
+serve-streamline-requires c κs = (c .before .before .before .before .before .before .before .before .before .before .pre .0, allowed-streamline _ _ _ (c .before .before .before .q4 .given .1) (c .before .before .before .before .before .before .before .before .before .before .pre .1))
 
 enum-known-q-5 : tie.Need-enum-known-q-5
 enum-known-q-5 c = search needs
 
 serve-rake-requires : tie.Need-serve-rake-requires
-serve-rake-requires c κs = (c .before .before .before .before .before .before .before .before .before .before .pre .0, allowed-rake _ _ _ _ _ _ (c .before .before .before .q5 .given .1) (c .before .before .before .before .before .before .before .before .before .before .pre .1))
+serve-rake-requires c κs = (c .before .before .before .before .before .before .before .before .before .before .pre .0, allowed-rake _ _ _ (c .before .before .before .q5 .given .1) (c .before .before .before .before .before .before .before .before .before .before .pre .1))
 
 returns : tie.Need-returns
 returns c = flat-refused _ _ _ (c .before .q .given .1)

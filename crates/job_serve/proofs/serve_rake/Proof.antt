@@ -16,7 +16,7 @@ same-length-2 : tie.Need-same-length-2
 same-length-2 c = search needs
 
 returns : tie.Need-returns
-returns c = rake-reply _ _ _ _ _ _ _ _ (c .before .before .before .before .before .integrate-rake .ensures) (c .answered .ensures)
+returns c = rake-reply _ _ _ _ _ (c .before .before .before .before .before .integrate-rake .ensures) (c .answered .ensures)
 
 pub serve-rake-spec : {M : Type 1} → statement M
 serve-rake-spec =

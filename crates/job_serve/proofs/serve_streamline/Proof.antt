@@ -16,7 +16,7 @@ same-length-2 : tie.Need-same-length-2
 same-length-2 c = search needs
 
 returns : tie.Need-returns
-returns c = streamline-reply _ _ _ _ _ _ (c .before .before .before .before .before .integrate .ensures) (c .answered .ensures)
+returns c = streamline-reply _ _ _ _ _ (c .before .before .before .before .before .integrate .ensures) (c .answered .ensures)
 
 pub serve-streamline-spec : {M : Type 1} → statement M
 serve-streamline-spec =

@@ -4,7 +4,7 @@ use Rattle.job_single.proofs.rake.Statement.{statement}
 use Rattle.job_single.proofs.rake.Tie as tie
 
 returns : tie.Need-returns
-returns c = rw (rake-stored _ _ _ _ _ (c .before .before .before .before .before .before .before .before .before .before .before .before .before .before .before .before .before .before .before .before .before .put-vec .ensures) (c .before .before .before .before .before .before .before .before .before .before .before .before .before .before .before .before .before .before .put-vec2 .ensures) (c .before .before .before .before .before .before .before .before .before .before .before .before .before .before .before .put-line .ensures)) at (c .before .before .before .before .before .before .before .before .alone .ensures)
+returns c = rw (rake-stored _ _ (c .before .before .before .before .before .before .before .before .before .before .before .before .before .before .before .before .before .before .before .before .before .put-vec .ensures) (c .before .before .before .before .before .before .before .before .before .before .before .before .before .before .before .before .before .before .put-vec2 .ensures) (c .before .before .before .before .before .before .before .before .before .before .before .before .before .before .before .put-line .ensures)) at (c .before .before .before .before .before .before .before .before .alone .ensures)
 
 pub rake-spec : {M : Type 1} → statement M
 rake-spec =

@@ -4,7 +4,7 @@ use Rattle.job_single.proofs.streamline.Statement.{statement}
 use Rattle.job_single.proofs.streamline.Tie as tie
 
 returns : tie.Need-returns
-returns c = rw (streamline-stored _ _ _ (c .before .before .before .before .before .before .before .before .before .before .before .before .before .before .before .before .before .before .put-vec .ensures) (c .before .before .before .before .before .before .before .before .before .before .before .before .before .before .before .put-line .ensures)) at (c .before .before .before .before .before .before .before .before .alone .ensures)
+returns c = rw (streamline-stored _ _ (c .before .before .before .before .before .before .before .before .before .before .before .before .before .before .before .before .before .before .put-vec .ensures) (c .before .before .before .before .before .before .before .before .before .before .before .before .before .before .before .put-line .ensures)) at (c .before .before .before .before .before .before .before .before .alone .ensures)
 
 pub streamline-spec : {M : Type 1} → statement M
 streamline-spec =

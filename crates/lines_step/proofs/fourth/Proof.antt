@@ -31,7 +31,7 @@ unfolding fourth
 returns c =
     let b = c .before .before .before .before in
     let a = b .before .before .before .before .before .before .before .before .args in
-    along-lost (directionAt _ _) (λ k4. give (Here (weighed _ _ _ _ _ k4))) (a .p) (a .k3) (a .h) (b .before .before .before .scale .ensures) (b .before .before .add .ensures) (b .direction-at .ensures) (c .enum-told .given .1)
+    along-lost (directionAt _ _) (λ k4. give (Here (weighed _ _ _ _ _ k4))) (a .start .point) (a .k3) (a .start .step) (b .before .before .before .scale .ensures) (b .before .before .add .ensures) (b .direction-at .ensures) (c .enum-told .given .1)
 
 weighed-requires : tie.Need-weighed-requires
 weighed-requires c κs = search needs
@@ -45,7 +45,7 @@ returns-2 c =
     let n = c .before .before in
     let b = n .before .before .before .before in
     let a = b .before .before .before .before .before .before .before .before .args in
-    rw (c .weighed .ensures) (along-found (directionAt _ _) (λ k4. give (Here (weighed _ _ _ _ _ k4))) (a .p) (a .k3) (a .h) (b .before .before .before .scale .ensures) (b .before .before .add .ensures) (b .direction-at .ensures) (n .k4 .given .1) served-give)
+    rw (c .weighed .ensures) (along-found (directionAt _ _) (λ k4. give (Here (weighed _ _ _ _ _ k4))) (a .start .point) (a .k3) (a .start .step) (b .before .before .before .scale .ensures) (b .before .before .add .ensures) (b .direction-at .ensures) (n .k4 .given .1) served-give)
 
 pub fourth-spec : {M : Type 1} → statement M
 fourth-spec =

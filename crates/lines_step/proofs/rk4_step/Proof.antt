@@ -16,10 +16,10 @@ same-length : tie.Need-same-length
 same-length c = search needs
 
 returns : tie.Need-returns
-returns c = rk4-lost _ _ _ _ _ _ _ _ _ _ _ (c .before .before .before .before .runge-kutta .ensures) (c .enum-told .given .1)
+returns c = rk4-lost _ _ _ _ _ _ _ _ (c .before .before .before .before .runge-kutta .ensures) (c .enum-told .given .1)
 
-locate-cell-requires : tie.Need-locate-cell-requires
-locate-cell-requires c κs = search needs
+locate-requires : tie.Need-locate-requires
+locate-requires c κs = search needs
 
 enum-told-2 : tie.Need-enum-told-2
 enum-told-2 c = search needs
@@ -31,13 +31,13 @@ same-length-2 : tie.Need-same-length-2
 same-length-2 c = search needs
 
 returns-2 : tie.Need-returns-2
-returns-2 c = rk4-outside _ _ _ _ _ _ _ _ _ _ _ (c .before .before .before .before .before .before .before .before .runge-kutta .ensures) _ _ (c .before .before .before .before .q .given .1) (c .before .before .locate-cell .ensures) (c .enum-told3 .given .1)
+returns-2 c = rk4-outside _ _ _ _ _ _ _ _ (c .before .before .before .before .before .before .before .before .runge-kutta .ensures) _ _ (c .before .before .before .before .q .given .1) (c .before .before .locate .ensures) (c .enum-told3 .given .1)
 
 same-length-3 : tie.Need-same-length-3
 same-length-3 c = search needs
 
 returns-3 : tie.Need-returns-3
-returns-3 c = rk4-inside _ _ _ _ _ _ _ _ _ _ _ (c .before .before .before .before .before .before .before .before .runge-kutta .ensures) _ _ (c .before .before .before .before .q .given .1) (c .before .before .locate-cell .ensures) _ (c .enum-told2 .given .1)
+returns-3 c = rk4-inside _ _ _ _ _ _ _ _ (c .before .before .before .before .before .before .before .before .runge-kutta .ensures) _ _ (c .before .before .before .before .q .given .1) (c .before .before .locate .ensures) _ (c .enum-told2 .given .1)
 
 pub rk4-step-spec : {M : Type 1} → statement M
 rk4-step-spec =
@@ -48,7 +48,7 @@ rk4-step-spec =
     enum-told
     same-length
     returns
-    locate-cell-requires
+    locate-requires
     enum-told-2
     enum-told-3
     same-length-2

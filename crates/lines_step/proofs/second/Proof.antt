@@ -28,8 +28,8 @@ returns : tie.Need-returns
 unfolding second
 returns c =
     let b = c .before .before .before .before in
-    let a = b .before .before .before .before .before .before .before .before .args in
-    along-lost (directionAt _ _) (third _ _ _ _) (a .p) (a .k1) (a .h ⊗ 0·5) (b .before .before .before .scale .ensures) (b .before .before .add .ensures) (b .direction-at .ensures) (c .enum-told .given .1)
+    let a = b .before .before .before .before .before .before .before .before .before .args in
+    along-lost (directionAt _ _) (third _ _ _ _) (a .start .point) (a .k1) (a .start .step ⊗ 0·5) (b .before .before .before .scale .ensures) (b .before .before .add .ensures) (b .direction-at .ensures) (c .enum-told .given .1)
 
 third-requires : tie.Need-third-requires
 third-requires c κs = search needs
@@ -42,8 +42,8 @@ unfolding second
 returns-2 c =
     let n = c .before .before .before .before .before in
     let b = n .before .before .before .before in
-    let a = b .before .before .before .before .before .before .before .before .args in
-    along-found (directionAt _ _) (third _ _ _ _) (a .p) (a .k1) (a .h ⊗ 0·5) (b .before .before .before .scale .ensures) (b .before .before .add .ensures) (b .direction-at .ensures) (n .k2 .given .1) (c .before .before .third .ensures)
+    let a = b .before .before .before .before .before .before .before .before .before .args in
+    along-found (directionAt _ _) (third _ _ _ _) (a .start .point) (a .k1) (a .start .step ⊗ 0·5) (b .before .before .before .scale .ensures) (b .before .before .add .ensures) (b .direction-at .ensures) (n .k2 .given .1) (c .before .before .third .ensures)
 
 pub second-spec : {M : Type 1} → statement M
 second-spec =

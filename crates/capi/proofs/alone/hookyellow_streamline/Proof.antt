@@ -4,13 +4,12 @@ use Rattle.capi.proofs.alone.hookyellow_streamline.Statement.{statement
 use Rattle.capi.proofs.alone.hookyellow_streamline.Tie as tie
 
 returns : tie.Need-returns
-returns c = number-promised (rw (c .before .before .before .before .before .before .before .before .before .before .before .before .before .before .before .before .vector .ensures, c .before .before .before .before .before .before .before .before .before .before .before .before .before .before .before .direction .ensures, c .before .before .before .before .before .before .before .before .before .before .before .before .before .before .options .ensures) at (c .before .before .before .before .before .before .before .before .before .streamline .ensures .0)) (c .number .ensures)
+returns c = number-promised (rw (c .before .before .before .before .before .before .before .before .before .before .before .before .before .before .before .vector .ensures, c .before .before .before .before .before .before .before .before .before .before .before .before .before .before .settings .ensures) at (c .before .before .before .before .before .before .before .before .before .streamline .ensures .0)) (c .number .ensures)
 
 pub hookyellow-streamline-spec : {M : Type 1} → statement M
 hookyellow-streamline-spec =
     tie.close
     (tie.spec
-    (λ c κs. search needs)
     (λ c κs. search needs)
     (λ c κs. search needs)
     (λ c κs. search needs)

@@ -2,7 +2,7 @@ use Rattle.lines.proofs.LineLaws.{left, begun, turned, ended, finished,
 use Rattle.answers.specs.Words.{pointWords}
 use Rattle.answers.proofs.WordLaws.{points-more}
 use Rattle.lines.specs.Line.{lineFrom}
-use Rattle.lines_locate.specs.Layout.{fieldIn}
+use Rattle.lines_velocity.specs.Ready.{tracerField}
 use Rattle.case_file.specs.Field.{valuesOf}
 use Rattle.reading.specs.Served.{Going}
 use Rattle.arith.specs.declared.Vec3.{Vec3}
@@ -18,10 +18,13 @@ use Rattle.lines.proofs.line.points_after.Statement.{statement}
 use Rattle.lines.proofs.line.points_after.Tie as tie
 
 abbrev Inv-loop : tie.InvT-loop
-Inv-loop case n words floats s g marks₀ out₀ at h options most total₀ p₀ k₀ marks out total p k = record { done : List Vec3; count : k ≡ length done; below : k ≤ most; kept : length marks ≡ length marks₀; as-long : length out ≡ length out₀; written : out ≡ sets out₀ at (pointWords done); going : Going (lineFrom (fieldIn g s words floats) options h most p₀ 0·0) (valuesOf case) marks₀ (left (fieldIn g s words floats) options h done (most - k) p total) marks }
+Inv-loop case words floats t marks₀ out₀ at options h most total₀ p₀ k₀ marks out total p k = record { done : List Vec3; count : k ≡ length done; below : k ≤ most; kept : length marks ≡ length marks₀; as-long : length out ≡ length out₀; written : out ≡ sets out₀ at (pointWords done); going : Going (lineFrom (tracerField t words floats) options h most p₀ 0·0) (valuesOf case) marks₀ (left (tracerField t words floats) options h done (most - k) p total) marks }
 
 abbrev μ-loop : tie.MeasureT-loop
-μ-loop case n words floats s g marks₀ out₀ at h options most total₀ p₀ k₀ marks out total p k = most - k
+μ-loop case words floats t marks₀ out₀ at options h most total₀ p₀ k₀ marks out total p k = most - k
+
+sign-requires : tie.Need-sign-requires Inv-loop μ-loop
+sign-requires c κs = search needs
 
 loop-holds : tie.Need-loop-holds Inv-loop μ-loop
 unfolding pointWords
@@ -40,7 +43,7 @@ same-length-2 : tie.Need-same-length-2 Inv-loop μ-loop
 same-length-2 c = search needs
 
 returns : tie.Need-returns Inv-loop μ-loop
-returns c = let i = c .before .before .before .before .before .before .before .loop .inv in (drawn (ended (i .done) (rw (c .enum-told .given .1) at (turned _ _ _ (i .done) _ _ _ _ (c .before .before .before .before .before .before .loop-test .taken) (i .going) (c .before .before .before .before .line-step .ensures)))) (i .written) (i .count), i .below)
+returns c = let i = c .before .before .before .before .before .before .before .loop .inv in (drawn _ _ _ (c .before .before .before .before .before .before .before .before .before .sign .ensures) (ended (i .done) (rw (c .enum-told .given .1) at (turned _ _ _ (i .done) _ _ _ _ (c .before .before .before .before .before .before .loop-test .taken) (i .going) (c .before .before .before .before .line-step .ensures)))) (i .written) (i .count), i .below)
 
 enum-known-next : tie.Need-enum-known-next Inv-loop μ-loop
 enum-known-next c = search needs
@@ -70,7 +73,7 @@ same-length-4 : tie.Need-same-length-4 Inv-loop μ-loop
 same-length-4 c = search needs
 
 returns-2 : tie.Need-returns-2 Inv-loop μ-loop
-returns-2 c = let i = c .before .loop .inv in (drawn (finished _ _ _ (i .done) _ _ _ (omega arith) (i .going)) (i .written) (i .count), i .below)
+returns-2 c = let i = c .before .loop .inv in (drawn _ _ _ (c .before .before .before .sign .ensures) (finished _ _ _ (i .done) _ _ _ (omega arith) (i .going)) (i .written) (i .count), i .below)
 
 pub points-after-spec : {M : Type 1} → statement M
 points-after-spec =
@@ -78,6 +81,7 @@ points-after-spec =
     (tie.spec
     Inv-loop
     μ-loop
+    sign-requires
     loop-holds
     line-step-requires
     enum-told

@@ -1,4 +1,3 @@
-use Rattle.lines_locate.specs.Layout.{fieldIn}
 use Rattle.lines_velocity.specs.Velocity.{distanceSquared, centreOf}
 use borrow.Author.Needs.{needs}
 use Rattle.lines_velocity.proofs.interpolate.distance_squared.Statement.{statement}
@@ -14,8 +13,8 @@ norm-squared-requires : tie.Need-norm-squared-requires
 norm-squared-requires c κs = search needs
 
 returns : tie.Need-returns
-unfolding distanceSquared centreOf fieldIn
-returns c = λ g words. rw (c .norm-squared .ensures, c .before .sub .ensures, c .before .before .centre-of .ensures words)
+unfolding distanceSquared centreOf
+returns c = λ words. rw (c .norm-squared .ensures, c .before .sub .ensures, c .before .before .centre-of .ensures words)
 
 pub distance-squared-spec : {M : Type 1} → statement M
 distance-squared-spec = tie.close (tie.spec centre-of-requires sub-requires norm-squared-requires returns)

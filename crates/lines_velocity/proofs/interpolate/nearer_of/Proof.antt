@@ -12,12 +12,12 @@ nearer-requires c κs = search needs
 returns : tie.Need-returns
 returns c =
     let b = c .before .before in
-    (λ g words. nearer-taken g _ words _ _ _ _ _ _ _ (b .distance-squared .ensures g words) (b .before .before .pre .1 g words) (c .before .nearer .ensures) (c .if1 .taken), b .distance-squared .ensures)
+    (λ words. nearer-taken _ _ _ _ _ _ _ (b .distance-squared .ensures words) (b .before .before .pre .1 words) (c .before .nearer .ensures) (c .if1 .taken), b .distance-squared .ensures)
 
 returns-2 : tie.Need-returns-2
 returns-2 c =
     let b = c .before .before in
-    (λ g words. nearer-left g _ words _ _ _ _ _ _ _ (b .distance-squared .ensures g words) (b .before .before .pre .1 g words) (c .before .nearer .ensures) (c .if1 .left), b .before .before .pre .1)
+    (λ words. nearer-left _ _ _ _ _ _ _ (b .distance-squared .ensures words) (b .before .before .pre .1 words) (c .before .nearer .ensures) (c .if1 .left), b .before .before .pre .1)
 
 pub nearer-of-spec : {M : Type 1} → statement M
 nearer-of-spec = tie.close (tie.spec distance-squared-requires nearer-requires returns returns-2)

@@ -1,9 +1,8 @@
-use Rattle.lines_velocity.proofs.VelocityLaws.{nearest-turn, nearest-end, neighbours-in}
-use Rattle.lines_velocity.specs.Velocity.{distanceSquared, nearerOf, neighboursOf}
-use Rattle.lines_locate.specs.Layout.{fieldIn}
-use Rattle.lines_locate.specs.declared.Grid.{Grid}
+use Rattle.lines_velocity.proofs.VelocityLaws.{nearest-turn, nearest-end}
+use Rattle.lines_velocity.specs.Velocity.{distanceSquared, nearerOf, nearestOf, neighboursOf}
+use Rattle.mesh_area.specs.Layout.{cellsIn}
 use Rattle.arith.specs.Lists.{fold}
-use lib.ListN.{getD, drop}
+use lib.ListN.{drop}
 use mathlib.Core.Path.{_≡_}
 use mathlib.Core.List.{List}
 use Prim.Native.Nat.{ℕ, _-_}
@@ -13,8 +12,8 @@ use Rattle.lines_velocity.proofs.interpolate.nearest.Tie as tie
 
 abbrev Inv-loop : tie.InvT-loop
 Inv-loop words floats s p i count first best₀ k₀ best k =
-    ((g : Grid) → fold (nearerOf (fieldIn g s words floats) p) (best .cell) (drop k (neighboursOf (fieldIn g s words floats) i)) ≡ fold (nearerOf (fieldIn g s words floats) p) (getD (neighboursOf (fieldIn g s words floats) i) 0 0) (drop 1 (neighboursOf (fieldIn g s words floats) i)))
-    × ((g : Grid) (words : List ℕ) → best .«distance_squared» ≡ distanceSquared (fieldIn g s words floats) p (best .cell))
+    (fold (nearerOf (cellsIn s words floats) p) (best .cell) (drop k (neighboursOf (cellsIn s words floats) i)) ≡ nearestOf (cellsIn s words floats) p (neighboursOf (cellsIn s words floats) i))
+    × ((words : List ℕ) → best .«distance_squared» ≡ distanceSquared (cellsIn s words floats) p (best .cell))
 
 abbrev μ-loop : tie.MeasureT-loop
 μ-loop words floats s p i count first best₀ k₀ best k = count - k
@@ -29,8 +28,9 @@ distance-squared-requires : tie.Need-distance-squared-requires Inv-loop μ-loop
 distance-squared-requires c κs = search needs
 
 loop-holds : tie.Need-loop-holds Inv-loop μ-loop
+unfolding nearestOf neighboursOf
 loop-holds c =
-    (λ g. rw (c .before .neighbour .ensures .0 (c .before .before .before .before .before .args .floats .now), neighbours-in g _ _ _ _), λ g words. c .distance-squared .ensures g words)
+    (rw (c .before .neighbour .ensures .0 (c .before .before .before .before .before .args .floats .now)), c .distance-squared .ensures)
 
 neighbour-requires-2 : tie.Need-neighbour-requires-2 Inv-loop μ-loop
 neighbour-requires-2 c κs = search needs
@@ -47,11 +47,11 @@ loop-less c = search needs
 loop-again : tie.Need-loop-again Inv-loop μ-loop
 loop-again c =
     let a = c .before .before .before .before .before .before .before .before .before .args in
-    (λ g. nearest-turn g _ _ _ _ _ _ _ _ _ (c .before .before .before .before .before .before .neighbour-count .ensures .0 (a .floats .now)) (c .before .before .before .loop .inv .0 g) _ _ (c .before .before .loop-test .taken) (c .before .neighbour2 .ensures .0 (a .floats .now)) (c .nearer-of .ensures .0 g (a .words .now)), λ g words. c .nearer-of .ensures .1 g words)
+    (nearest-turn _ _ _ _ _ _ _ (c .before .before .before .before .before .before .neighbour-count .ensures .0 (a .floats .now)) (c .before .before .before .loop .inv .0) _ _ (c .before .before .loop-test .taken) (c .before .neighbour2 .ensures .0 (a .floats .now)) (c .nearer-of .ensures .0 (a .words .now)), c .nearer-of .ensures .1)
 
 returns : tie.Need-returns Inv-loop μ-loop
 returns c =
-    λ g. nearest-end g _ _ _ _ _ _ _ _ _ (c .before .before .before .before .neighbour-count .ensures .0 (c .before .before .before .before .before .before .before .args .floats .now)) (c .before .loop .inv .0 g) (c .loop-test .left)
+    nearest-end _ _ _ _ _ _ _ (c .before .before .before .before .neighbour-count .ensures .0 (c .before .before .before .before .before .before .before .args .floats .now)) (c .before .loop .inv .0) (c .loop-test .left)
 
 pub nearest-spec : {M : Type 1} → statement M
 nearest-spec =

@@ -3,8 +3,8 @@ use borrow.Author.Needs.{needs}
 use Rattle.lines_velocity.proofs.interpolate.velocity_at.Statement.{statement}
 use Rattle.lines_velocity.proofs.interpolate.velocity_at.Tie as tie
 
-locate-cell-requires : tie.Need-locate-cell-requires
-locate-cell-requires c κs = search needs
+locate-requires : tie.Need-locate-requires
+locate-requires c κs = search needs
 
 enum-known-i : tie.Need-enum-known-i
 enum-known-i c = search needs
@@ -13,7 +13,7 @@ enum-told : tie.Need-enum-told
 enum-told c = search needs
 
 returns : tie.Need-returns
-returns c = velocity-nowhere _ _ _ _ _ _ _ (c .before .before .locate-cell .ensures) (c .enum-told .given .1)
+returns c = velocity-nowhere _ _ _ _ (c .before .before .locate .ensures) (c .enum-told .given .1)
 
 velocity-in-requires : tie.Need-velocity-in-requires
 velocity-in-requires c κs = search needs
@@ -22,13 +22,13 @@ same-length : tie.Need-same-length
 same-length c = search needs
 
 returns-2 : tie.Need-returns-2
-returns-2 c = velocity-here _ _ _ _ _ _ _ _ (c .before .before .before .before .before .before .before .locate-cell .ensures) (c .before .before .before .before .before .i .given .1) (c .before .before .velocity-in .ensures _)
+returns-2 c = velocity-here _ _ _ _ _ (c .before .before .before .before .before .before .before .locate .ensures) (c .before .before .before .before .before .i .given .1) (c .before .before .velocity-in .ensures)
 
 pub velocity-at-spec : {M : Type 1} → statement M
 velocity-at-spec =
     tie.close
     (tie.spec
-    locate-cell-requires
+    locate-requires
     enum-known-i
     enum-told
     returns

@@ -13,7 +13,7 @@ same-length : tie.Need-same-length
 same-length c = search needs
 
 returns : tie.Need-returns
-returns c = λ g. velocity-in g _ _ _ _ _ _ _ (c .before .before .before .before .before .before .read-cell .ensures) (c .before .before .toward .ensures g)
+returns c = velocity-in _ _ _ _ _ (c .before .before .before .before .before .before .read-cell .ensures) (c .before .before .toward .ensures)
 
 pub velocity-in-spec : {M : Type 1} → statement M
 velocity-in-spec = tie.close (tie.spec read-cell-requires toward-requires same-length returns)

@@ -1,8 +1,8 @@
 use Rattle.lines.proofs.JobLaws.{answered-refused, answered-fine, not-good, is-lost, is-fine, rake-written}
 use Rattle.lines.specs.Rake.{integrateRake}
 use borrow.Author.Needs.{needs}
-use Rattle.lines.proofs.rake.integrate_rake.Statement.{statement}
-use Rattle.lines.proofs.rake.integrate_rake.Tie as tie
+use Rattle.lines.proofs.rakes.integrate_rake.Statement.{statement}
+use Rattle.lines.proofs.rakes.integrate_rake.Tie as tie
 
 are-good-requires : tie.Need-are-good-requires
 are-good-requires c κs = search needs
@@ -20,8 +20,8 @@ trace-all-requires c κs = search needs
 put-requires : tie.Need-put-requires
 put-requires c κs = search needs
 
-add-t25 : tie.Need-add-t25
-add-t25 c = search needs
+add-all : tie.Need-add-all
+add-all c = search needs
 
 same-length : tie.Need-same-length
 same-length c = search needs
@@ -46,7 +46,7 @@ integrate-rake-spec =
     returns
     trace-all-requires
     put-requires
-    add-t25
+    add-all
     same-length
     same-length-2
     returns-2

@@ -1,20 +1,20 @@
 use Rattle.lines.proofs.JobLaws.{seed-lost, seed-found, all-found}
 use Rattle.lines.specs.Line.{nowhere}
 use Rattle.lines.specs.Rake.{seeds}
-use Rattle.lines_locate.specs.Layout.{fieldIn}
+use Rattle.lines_velocity.specs.Ready.{tracerField}
 use Rattle.arith.specs.Lists.{anyOf}
 use lib.ListN.{drop}
 use mathlib.Core.Path.{_≡_}
 use Prim.Native.Nat.{_≤_, _-_}
 use borrow.Author.Needs.{needs}
-use Rattle.lines.proofs.rake.any_nowhere.Statement.{statement}
-use Rattle.lines.proofs.rake.any_nowhere.Tie as tie
+use Rattle.lines.proofs.rakes.any_nowhere.Statement.{statement}
+use Rattle.lines.proofs.rakes.any_nowhere.Tie as tie
 
 abbrev Inv-loop : tie.InvT-loop
-Inv-loop words floats s g start end count i₀ i = (i ≤ count) × (anyOf (nowhere (fieldIn g s words floats)) (drop i (seeds start end count)) ≡ anyOf (nowhere (fieldIn g s words floats)) (seeds start end count))
+Inv-loop words floats t rake count i₀ i = (i ≤ count) × (anyOf (nowhere (tracerField t words floats)) (drop i (seeds rake)) ≡ anyOf (nowhere (tracerField t words floats)) (seeds rake))
 
 abbrev μ-loop : tie.MeasureT-loop
-μ-loop words floats s g start end count i₀ i = count - i
+μ-loop words floats t rake count i₀ i = count - i
 
 loop-holds : tie.Need-loop-holds Inv-loop μ-loop
 loop-holds c = search needs
@@ -26,7 +26,7 @@ is-nowhere-requires : tie.Need-is-nowhere-requires Inv-loop μ-loop
 is-nowhere-requires c κs = search needs
 
 returns : tie.Need-returns Inv-loop μ-loop
-returns c = seed-lost _ _ _ _ _ _ (c .before .before .before .before .loop .inv .1) _ _ (c .before .before .before .loop-test .taken) (c .before .before .seed-at .ensures) (c .before .is-nowhere .ensures) (c .if1 .taken)
+returns c = seed-lost _ _ _ _ (c .before .before .before .before .loop .inv .1) _ _ (c .before .before .before .loop-test .taken) (c .before .before .seed-at .ensures) (c .before .is-nowhere .ensures) (c .if1 .taken)
 
 add-i : tie.Need-add-i Inv-loop μ-loop
 add-i c = search needs
@@ -35,10 +35,10 @@ loop-less : tie.Need-loop-less Inv-loop μ-loop
 loop-less c = search needs
 
 loop-again : tie.Need-loop-again Inv-loop μ-loop
-loop-again c = (search needs, seed-found _ _ _ _ _ _ (c .before .before .before .before .loop .inv .1) _ _ (c .before .before .before .loop-test .taken) (c .before .before .seed-at .ensures) (c .before .is-nowhere .ensures) (c .if1 .left))
+loop-again c = (search needs, seed-found _ _ _ _ (c .before .before .before .before .loop .inv .1) _ _ (c .before .before .before .loop-test .taken) (c .before .before .seed-at .ensures) (c .before .is-nowhere .ensures) (c .if1 .left))
 
 returns-2 : tie.Need-returns-2 Inv-loop μ-loop
-returns-2 c = all-found _ _ _ _ _ _ (c .before .loop .inv .1) (c .loop-test .left)
+returns-2 c = all-found _ _ _ _ (c .before .loop .inv .1) (c .loop-test .left)
 
 pub any-nowhere-spec : {M : Type 1} → statement M
 any-nowhere-spec =

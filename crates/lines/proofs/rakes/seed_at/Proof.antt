@@ -2,8 +2,8 @@ use Rattle.arith.proofs.Counts.{whole-in}
 use Rattle.lines.specs.Rake.{seedAt}
 use native.Mathlib.Omega.{arith}
 use borrow.Author.Needs.{needs}
-use Rattle.lines.proofs.rake.seed_at.Statement.{statement}
-use Rattle.lines.proofs.rake.seed_at.Tie as tie
+use Rattle.lines.proofs.rakes.seed_at.Statement.{statement}
+use Rattle.lines.proofs.rakes.seed_at.Tie as tie
 
 int-to-float-t : tie.Need-int-to-float-t
 int-to-float-t c = whole-in _ (omega arith)

@@ -1,0 +1,16 @@
+use Rattle.lines_locate.specs.Layout.{fieldIn}
+use Rattle.lines_velocity.specs.Velocity.{locateIn}
+use Rattle.lines_velocity.specs.Ready.{tracerField}
+use borrow.Author.Needs.{needs}
+use Rattle.lines_velocity.proofs.interpolate.locate.Statement.{statement}
+use Rattle.lines_velocity.proofs.interpolate.locate.Tie as tie
+
+locate-cell-requires : tie.Need-locate-cell-requires
+locate-cell-requires c κs = search needs
+
+returns : tie.Need-returns
+unfolding locateIn tracerField fieldIn
+returns c = c .locate-cell .ensures
+
+pub locate-spec : {M : Type 1} → statement M
+locate-spec = tie.close (tie.spec locate-cell-requires returns)
