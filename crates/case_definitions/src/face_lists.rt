@@ -92,9 +92,9 @@ fn place_after(n: usize, k: usize) -> usize
     k + 1
 }
 
-// Face c, of n point numbers, was copied, and the next one has no place of its own: the record is no polyhedron.
-fn passed(n: usize, c: FaceCursor) -> Copied
-    requires { ⌜ c .face < 18446744073709551615 ⌝ }
+// Face c of h, which is no polyhedron, was copied with its n point numbers: the next face has no place of its own.
+fn passed(n: usize, h: Head, c: FaceCursor) -> Copied
+    requires { ⌜ c .face < h .faces ⌝ }
     ensures { λ r. ⌜ r ≡ record { count = n; next = record { face = c .face + 1; at = c .at } } ⌝ }
 {
     Copied {
@@ -123,7 +123,7 @@ fn copy_side(words: &[u8], h: Head, c: FaceCursor, out: &mut [u32; 8]) -> Copied
 {
     out[0] = number_at(words, h.first, c.face);
     out[1] = number_at(words, h.first, place_after(h.faces, c.face));
-    passed(2, c)
+    passed(2, h, c)
 }
 
 // The numbers at three places.
@@ -149,12 +149,12 @@ fn copy_places(words: &[u8], h: Head, c: FaceCursor, p: Places, out: &mut [u32; 
     match p {
         Places::Three(i, j, k) => {
             copy_three(words, h.first, i, j, k, out);
-            passed(3, c)
+            passed(3, h, c)
         }
         Places::Four(i, j, k, l) => {
             copy_three(words, h.first, i, j, k, out);
             out[3] = number_at(words, h.first, l);
-            passed(4, c)
+            passed(4, h, c)
         }
     }
 }
@@ -195,6 +195,6 @@ pub fn copy_face(words: &[u8], h: Head, c: FaceCursor, out: &mut [u32; 8]) -> Co
         3 => copy_places(words, h, c, prism(c.face), out),
         4 => copy_places(words, h, c, pyramid(c.face), out),
         5 => copy_list(words, h, c, out),
-        6..=0xffff_ffff => passed(0, c),
+        6..=0xffff_ffff => passed(0, h, c),
     }
 }

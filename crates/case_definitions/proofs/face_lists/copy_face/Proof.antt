@@ -1,7 +1,6 @@
 -- `definitions::face_lists::copy_face` meets its contract. Assumes nothing.
 use mathlib.Core.Path.{refl}
 use native.Mathlib.Omega.{arith}
-use borrow.Author.Needs.{needs}
 use Rattle.case_definitions.specs.Faces.{tetrahedron, hexahedron, prism, pyramid}
 use Rattle.case_definitions.specs.Helpers.{tableOf}
 use Rattle.case_definitions.proofs.FaceLaws.{kind-few, solid-few, solid-ready}
@@ -55,7 +54,7 @@ pub copy-face-spec : {M : Type 1} → statement M
 copy-face-spec =
     tie.close
     (tie.spec
-    (λ c κs. search needs)
+    (λ c κs. let p = c .before .before .before .pre in (p .0, p .1, p .2, c .before .match .keys1))
     tetrahedron-requires
     copy-places-requires
     hexahedron-requires
@@ -64,12 +63,12 @@ copy-face-spec =
     copy-places-requires-3
     pyramid-requires
     copy-places-requires-4
-    (λ c κs. search needs)
-    (λ c κs. search needs)
-    (λ c. search needs)
-    (λ c. search needs)
-    (λ c. search needs)
-    (λ c. search needs)
-    (λ c. search needs)
-    (λ c. search needs)
+    (λ c κs. let p = c .before .before .before .pre in (p .0, p .1, p .2, c .before .match .keys6))
+    (λ c κs. c .before .before .pre .1)
+    (λ c. c .copy-side .ensures)
+    (λ c. c .copy-places .ensures)
+    (λ c. c .copy-places2 .ensures)
+    (λ c. c .copy-places3 .ensures)
+    (λ c. c .copy-places4 .ensures)
+    (λ c. c .copy-list .ensures)
     returns-7)

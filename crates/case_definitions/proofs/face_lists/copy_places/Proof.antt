@@ -1,4 +1,5 @@
 -- `definitions::face_lists::copy_places` meets its contract. Assumes nothing.
+use native.Mathlib.Omega.{arith}
 use borrow.Author.Needs.{needs}
 use Rattle.case_definitions.proofs.FaceLaws.{three-room, four-room, last-room, three-copied, four-copied}
 use Rattle.case_definitions.proofs.face_lists.copy_places.Statement.{statement}
@@ -35,11 +36,11 @@ copy-places-spec =
     (tie.spec
     (λ c. search needs)
     copy-three-requires
-    (λ c κs. search needs)
+    (λ c κs. c .before .before .before .before .before .before .pre .1)
     (λ c. search needs)
     copy-three-requires-2
     number-at-requires
-    (λ c. search needs)
-    (λ c κs. search needs)
+    (λ c. omega arith)
+    (λ c κs. c .before .before .before .before .before .before .before .pre .1)
     returns
     returns-2)

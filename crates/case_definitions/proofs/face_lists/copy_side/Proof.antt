@@ -1,5 +1,5 @@
 -- `definitions::face_lists::copy_side` meets its contract. Assumes nothing.
-use borrow.Author.Needs.{needs}
+use native.Mathlib.Omega.{arith}
 use Rattle.case_definitions.proofs.FaceLaws.{side-of-polygon, side-copied}
 use Rattle.case_definitions.proofs.face_lists.copy_side.Statement.{statement}
 use Rattle.case_definitions.proofs.face_lists.copy_side.Tie as tie
@@ -23,9 +23,9 @@ copy-side-spec =
     tie.close
     (tie.spec
     number-at-requires
-    (λ c. search needs)
-    (λ c κs. search needs)
+    (λ c. omega arith)
+    (λ c κs. c .before .before .pre .1)
     number-at-requires-2
-    (λ c. search needs)
-    (λ c κs. search needs)
+    (λ c. omega arith)
+    (λ c κs. c .before .before .before .before .pre .1)
     returns)

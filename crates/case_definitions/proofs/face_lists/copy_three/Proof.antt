@@ -1,5 +1,5 @@
 -- `definitions::face_lists::copy_three` meets its contract. Assumes nothing.
-use borrow.Author.Needs.{needs}
+use native.Mathlib.Omega.{arith}
 use Rattle.case_definitions.proofs.face_lists.copy_three.Statement.{statement}
 use Rattle.case_definitions.proofs.face_lists.copy_three.Tie as tie
 
@@ -10,10 +10,10 @@ pub copy-three-spec : {M : Type 1} → statement M
 copy-three-spec =
     tie.close
     (tie.spec
-    (λ c κs. search needs)
-    (λ c. search needs)
-    (λ c κs. search needs)
-    (λ c. search needs)
-    (λ c κs. search needs)
-    (λ c. search needs)
+    (λ c κs. c .before .pre .0)
+    (λ c. omega arith)
+    (λ c κs. c .before .before .pre .1)
+    (λ c. omega arith)
+    (λ c κs. c .before .before .before .pre .2)
+    (λ c. omega arith)
     returns)

@@ -1,6 +1,5 @@
 -- `definitions::face_lists::number_at` meets its contract. Assumes nothing.
 use native.Mathlib.Omega.{arith}
-use borrow.Author.Needs.{needs}
 use Rattle.case_file.proofs.ReadLaws.{length-wordsIn}
 use Rattle.case_definitions.proofs.face_lists.number_at.Statement.{statement}
 use Rattle.case_definitions.proofs.face_lists.number_at.Tie as tie
@@ -9,4 +8,4 @@ add-word : tie.Need-add-word
 add-word c = omega (arith, length-wordsIn (c .before .args .words .now))
 
 pub number-at-spec : {M : Type 1} → statement M
-number-at-spec = tie.close (tie.spec add-word (λ c κs. search needs) (λ c. search needs))
+number-at-spec = tie.close (tie.spec add-word (λ c κs. c .before .pre) (λ c. c .word .ensures))

@@ -1,5 +1,4 @@
 -- `definitions::face_lists::place_after` meets its contract. Assumes nothing.
-use borrow.Author.Needs.{needs}
 use borrow.Author.Tests.{eq-eqb, ne-eqb}
 use native.Mathlib.Omega.{arith}
 use Rattle.arith.specs.Lists.{after}
@@ -13,4 +12,4 @@ returns-2 : tie.Need-returns-2
 returns-2 c = (rw (ne-eqb _ _ (c .if1 .left)), omega arith)
 
 pub place-after-spec : {M : Type 1} → statement M
-place-after-spec = tie.close (tie.spec (λ c. search needs) returns (λ c. search needs) returns-2)
+place-after-spec = tie.close (tie.spec (λ c. omega arith) returns (λ c. omega arith) returns-2)
