@@ -6,10 +6,11 @@ use Rattle.arith_root.specs.Root.{root}
 use Rattle.arith.specs.declared.Vec3.{Vec3}
 use Rattle.arith.specs.declared.Vec2.{Vec2}
 
--- a vector, and a pair, by its coordinates
+-- a vector by its coordinates
 abbrev pub vec : Float → Float → Float → Vec3
 vec x y z = record { x = x; y = y; z = z }
 
+-- a pair by its coordinates
 abbrev pub pair : Float → Float → Vec2
 pair x y = record { x = x; y = y }
 

@@ -12,16 +12,20 @@ use Rattle.capi.specs.declared.Vector.{Vector}
 use Rattle.capi.specs.declared.SectionPlane.{SectionPlane}
 use Rattle.capi.specs.declared.LineOptions.{LineOptions}
 
+-- a vector
 unfoldable pub vectorOf : Vector → Vec3
 vectorOf p = record { x = p .x; y = p .y; z = p .z }
 
+-- a plane by its origin and axes
 unfoldable pub planeOf : SectionPlane → Plane
 planeOf s = record { origin = vectorOf (s .origin); u = vectorOf (s .u); v = vectorOf (s .v) }
 
+-- backward, or forward
 unfoldable pub directionOf : Bool → StreamlineDirection
 directionOf true = Backward
 directionOf false = Forward
 
+-- the options of a line
 unfoldable pub optionsOf : LineOptions → StreamlineOptions
 optionsOf o =
     record {

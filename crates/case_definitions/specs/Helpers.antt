@@ -13,11 +13,12 @@ use Rattle.case_definitions.specs.declared.Places.the-variants.{Three, F
 use Rattle.case_definitions.specs.declared.Skipped.{Skipped}
 use Rattle.case_definitions.specs.declared.Skipped.the-variants.{To, Short}
 
--- a count of at most `limit` at a position, with as many words after it
+-- the count of a list that was read, or that it was refused
 unfoldable pub listed : Result (Taken (List ℕ)) → Listed
 listed (refused r) = Bad
 listed (fine w) = Count (length (w .read))
 
+-- a count of at most `limit` at a position, with as many words after it
 unfoldable pub listAt : List ℕ → ℕ → ℕ → Listed
 listAt ws at limit = listed (counted limit numbers (drop at ws))
 

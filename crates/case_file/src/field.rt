@@ -1,5 +1,5 @@
-// The fields of a case, by cell: `read_cell` alone gives the values of a cell, and it marks the cell.
-// The points of a case are read by `mesh_area::point_at`.
+// The fields of a case, by cell: `read_cell` alone gives the values of a cell, and it marks the
+// cell. The points of a case are read by `mesh_area::point_at`.
 use crate::Counts;
 use crate::Opened;
 use arith::Vec3;

@@ -10,6 +10,7 @@ use Rattle.job_room.specs.Room.{Room, flat, solid}
 use Rattle.job_serve.specs.Serve.{serve}
 use Rattle.job_buffers.specs.Answer.{fitting, answerWords}
 
+-- the room is a 2D one
 unfoldable pub isFlat : Room → Bool
 isFlat (flat f) = true
 isFlat (solid m) = false

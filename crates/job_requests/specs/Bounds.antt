@@ -3,6 +3,7 @@ use Prim.Native.Nat.{_≤_}
 use Rattle.job_requests.specs.declared.Request.{Request}
 use Rattle.job_requests.specs.declared.Request.the-variants.{Refused, Locate, Velocity, Streamline, Rake, Section, Statistics, Integrals, Probe}
 
+-- the limits of a request that is not refused
 unfoldable pub Allowed : Request → Type 0
 Allowed (Refused n) = Unit
 Allowed (Locate p) = Unit

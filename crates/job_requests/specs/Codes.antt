@@ -6,8 +6,8 @@ use lib.Dec.{eqb}
 use lib.ListN.{getD}
 use Rattle.job_requests.specs.declared.Code.{Code}
 
--- the dimension that a code needs, how many words it uses, itself counted, and the word at which the arguments of its lines start, from direction on: 0 where
--- it asks for none
+-- the dimension that a code needs, how many words it uses, itself counted, and the word at which
+-- the arguments of its lines start, from direction on: 0 where it asks for none
 unfoldable pub row : ℕ → ℕ → ℕ → Code
 row d n k = record { dimension = d; used = n; line = k }
 

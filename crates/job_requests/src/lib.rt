@@ -19,8 +19,8 @@ ghost use Rattle.job_requests.specs.Requests as Requests;
 ghost use Rattle.job_requests.specs.Requests.{wordsAt};
 ghost use Rattle.job_requests.specs.Bounds.{Allowed};
 
-// A row of the table of codes: the dimension that a code needs, how many words it uses, and the word at which
-// the arguments of its lines start.
+// A row of the table of codes: the dimension that a code needs, how many words it uses, and the
+// word at which the arguments of its lines start.
 pub struct Code {
     pub dimension: usize,
     pub used: usize,

@@ -32,6 +32,7 @@ unfoldable pub Servable : List ℕ → List ℕ → List Float → Place → Typ
 Servable file words floats (Flat t) = Ready file words floats t
 Servable file words floats (Solid n s) = (marks : List ℕ) → n .cells ≤ length marks → Planes.Ready file n s words marks
 
+-- the case is open, and what serves its requests stands in the area
 pub record Stands (file words : List ℕ) (floats : List Float) (p : Place) : Type 0 where
   pub opens : opened file ≡ Case (countsIn p)
   pub servable : Servable file words floats p

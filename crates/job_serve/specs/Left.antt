@@ -8,6 +8,7 @@ use Rattle.job_requests.specs.declared.Request.{Request}
 use Rattle.job_requests.specs.declared.Request.the-variants.{Refused, Locate, Velocity, Streamline, Rake, Section, Statistics, Integrals, Probe}
 use Rattle.job_room.specs.Room.{Room, flat, solid}
 
+-- the polygons that code 5 wrote before its refusal; the others write nothing
 unfoldable pub leftUnder : Room → Request → (ℕ → Values) → List ℕ → List ℕ
 leftUnder (flat f) q v o = o
 leftUnder (solid m) (Refused n) v o = o

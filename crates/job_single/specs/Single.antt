@@ -11,6 +11,7 @@ use Rattle.lines.specs.declared.StreamlineSettings.{StreamlineSettings}
 use Rattle.planes_cut.specs.declared.Plane.{Plane}
 use Rattle.answers.specs.Words.{vecWords}
 
+-- "words not used are zero"
 unfoldable pub padded : List ℕ → List ℕ
 padded ws = ws ++ replicate (16 - length ws) 0
 
@@ -33,10 +34,11 @@ lineWords s =
 unfoldable pub planeWords : Plane → List ℕ
 planeWords s = vecWords (s .origin) ++ (vecWords (s .u) ++ vecWords (s .v))
 
--- "1 locate, 2 velocity: point."
+-- "1 locate, 2 velocity: point."; here 1
 unfoldable pub locateWords : Vec3 → List ℕ
 locateWords p = padded (1 ∷ vecWords p)
 
+-- here 2
 unfoldable pub velocityWords : Vec3 → List ℕ
 velocityWords p = padded (2 ∷ vecWords p)
 

@@ -51,10 +51,11 @@ pointsAfter f s seed = lineFrom f (s .options) (signedStep s) (s .options .«max
 unfoldable pub line : StreamlineField → StreamlineSettings → Vec3 → Asks (List Vec3)
 line f s seed = pointsAfter f s seed >>= λ l. give (seed ∷ l)
 
--- finite, and above 0; finite, and not below 0
+-- finite, and above 0
 unfoldable pub isLength : Float → Bool
 isLength x = finite x && (0·0 ≺ x)
 
+-- finite, and not below 0
 unfoldable pub isSpeed : Float → Bool
 isSpeed x = finite x && (0·0 ≼ x)
 
@@ -62,11 +63,12 @@ isSpeed x = finite x && (0·0 ≼ x)
 unfoldable pub areGood : StreamlineOptions → Bool
 areGood o = isLength (o .«step_size») && (ltb 0 (o .«max_steps») && (isLength (o .«max_length») && isSpeed (o .«stagnation_speed»)))
 
--- 35 "seed locates nowhere"
+-- no cell was found
 unfoldable pub isNowhere : Found → Bool
 isNowhere Nothing = true
 isNowhere (At i) = false
 
+-- 35 "seed (of a rake: any seed) locates nowhere"
 unfoldable pub nowhere : StreamlineField → Vec3 → Bool
 nowhere f p = isNowhere (locateIn f p)
 

@@ -20,6 +20,7 @@ use Rattle.lines.specs.Line.{lineAnswer, areGood, nowhere}
 unfoldable pub seedAt : Rake → ℕ → Vec3
 seedAt r i = plus (r .start) (times (minus (r .end) (r .start)) (ofℕ i ⊘ ofℕ (r .count - 1)))
 
+-- all of them, from start to end
 unfoldable pub seeds : Rake → List Vec3
 seeds r = tab (seedAt r) (r .count)
 

@@ -9,6 +9,7 @@ use Prim.Native.Nat.{ℕ, _+_, _*_, _<_, _≤_}
 use lib.Dec.{eqb, ltb, leb}
 use lib.ListN.{length, getD, take}
 
+-- word k of the eight of cell i
 abbrev pub slotIn : List ℕ → ℕ → ℕ → ℕ → ℕ
 slotIn w base i k = getD w (base + 8 * i + k) 0
 
@@ -24,9 +25,11 @@ flagIn w base n = getD w (base + 8 * n) 0
 abbrev pub place : ℕ → ℕ → ℕ → ℕ
 place base n p = base + 8 * n + 1 + p
 
+-- what stands there
 unfoldable pub poolIn : List ℕ → ℕ → ℕ → ℕ → ℕ
 poolIn w base n p = getD w (place base n p) 0
 
+-- the start of the chain of bin (x, y)
 abbrev pub headIn : List ℕ → ℕ → ℕ → ℕ → ℕ → ℕ → ℕ
 headIn w base n nx x y = poolIn w base n (nx * y + x)
 

@@ -19,9 +19,10 @@ widened b p =
 unfoldable pub boundsOf : List Vec2 → Box
 boundsOf l = fold widened boundless l
 
--- its low corner, and its high corner
+-- its low corner
 abbrev pub lowCorner : Box → Vec2
 lowCorner b = pair (b .left) (b .bottom)
 
+-- its high corner
 abbrev pub highCorner : Box → Vec2
 highCorner b = pair (b .right) (b .top)

@@ -28,7 +28,7 @@ gridFor b n = refuse 18 (areFlat b) >>= λ _. refuse 19 (areMany n) >>= λ _. fi
 unfoldable pub gridOf : ℕ → List (List Vec2) → Result Grid
 gridOf cells ls = gridFor (boundsOf (flatten ls)) (binCounts cells (boundsOf (flatten ls)))
 
--- "In 2D only, 18 flat bounds, 19 a bin count above 65,536 (added)"
+-- "in 2D only, 18 flat bounds, 19 a bin count above 65,536 (added)"
 unfoldable pub fieldOf : Mesh → Result StreamlineField
 fieldOf m =
     gridOf (length (m .cells)) (polygonsOf m) >>= λ g.

@@ -27,10 +27,11 @@ use Rattle.lines_field.specs.Field.{gridOf, polygonsOf, fieldOf, builtGr
 unfoldable pub polygonsIn : Sizes → List ℕ → List Float → List (List Vec2)
 polygonsIn s words floats = tab (polygonIn s words floats) (s .cells)
 
--- point k of those whose x and y stand in two lists, and the first n of them
+-- point k of those whose x and y stand in two lists
 abbrev pub cornerIn : List Float → List Float → ℕ → Vec2
 cornerIn xs ys k = pair (getD xs k nan) (getD ys k nan)
 
+-- the first n of them
 unfoldable pub cornersIn : List Float → List Float → ℕ → List Vec2
 cornersIn xs ys n = tab (cornerIn xs ys) n
 

@@ -18,10 +18,11 @@ use Rattle.lines_locate.specs.declared.Grid.{Grid}
 use Rattle.lines_locate.specs.Bins.{CellPolygon, Binned}
 use Rattle.lines_locate.specs.Field.{StreamlineField}
 
--- where cell i's words, and its floats, start
+-- where cell i's words start
 abbrev pub wordsAt : Sizes → ℕ → ℕ
 wordsAt s i = wordsEnd s + 8 * i
 
+-- where its floats start
 abbrev pub floatsAt : Sizes → ℕ → ℕ
 floatsAt s i = floatsEnd s + 60 * i
 
@@ -46,6 +47,7 @@ cellPolygonIn s words floats i =
       last = binFrom words (wordsAt s i + 2);
     }
 
+-- those of all cells
 unfoldable pub cellPolygonsIn : Sizes → List ℕ → List Float → List CellPolygon
 cellPolygonsIn s words floats = tab (cellPolygonIn s words floats) (s .cells)
 

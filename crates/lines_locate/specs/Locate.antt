@@ -21,10 +21,12 @@ flat p = pair (p .x) (p .y)
 unfoldable pub holds : Bin → Vec2 → CellPolygon → Bool
 holds b q c = isListed b c && contains q (c .polygon)
 
--- the lowest such cell; "a point whose x or y is not finite locates nowhere"
+-- the lowest such cell, where the test holds
 unfoldable pub locateWhere : Bool → Grid → List CellPolygon → Vec2 → Found
 locateWhere false g cells q = Nothing
 locateWhere true g cells q = firstFrom (holds (binFor g q) q) 0 cells
 
+-- "the lowest listed cell that contains the point, tolerance included; a point whose x or y is not
+-- finite locates nowhere"
 unfoldable pub locate : Grid → List CellPolygon → Vec3 → Found
 locate g cells p = locateWhere (finite (p .x) && finite (p .y)) g cells (flat p)

@@ -45,6 +45,7 @@ unfoldable pub crossingWithin : Float → Side Vec2 → Bool
 crossingWithin right s =
     isLevel s || (finite (run s) && (fmax (run s) 0·0 ⊕ s .from .x ≼ right))
 
+-- both ends of a side, and every crossing with it, lie within the limits
 unfoldable pub sideWithin : Limits → Side Vec2 → Bool
 sideWithin l s = endWithin l (s .from) && (endWithin l (s .to) && crossingWithin (l .right) s)
 
@@ -54,10 +55,11 @@ sideWithin l s = endWithin l (s .from) && (endWithin l (s .to) && crossingWithin
 unfoldable pub reach : Side Vec2 → Float
 reach s = cond (isLevel s) (s .from .x) (fmax (run s) 0·0 ⊕ s .from .x)
 
--- the limits about no side, and about one side more
+-- the limits about no side
 unfoldable pub sideless : Limits
 sideless = record { low = +∞; high = -∞; right = -∞ }
 
+-- those about one side more
 unfoldable pub widened : Limits → Side Vec2 → Limits
 widened l s =
     record {

@@ -71,11 +71,12 @@ toward f p i base = besideNearest f p i base (neighboursOf (f .cells) i)
 unfoldable pub velocityIn : StreamlineField → Vec3 → ℕ → Asks Vec3
 velocityIn f p i = ask i give >>= λ v. toward f p i (v .velocity)
 
--- "nothing where its point locates nowhere"
+-- the velocity in the cell that was found, or nowhere
 unfoldable pub velocityWhere : StreamlineField → Vec3 → Found → Asks Vector
 velocityWhere f p Nothing = give Nowhere
 velocityWhere f p (At i) = velocityIn f p i >>= λ v. give (Here v)
 
+-- "Velocity reads the located cell"; "nothing where its point locates nowhere"
 unfoldable pub velocityAt : StreamlineField → Vec3 → Asks Vector
 velocityAt f p = velocityWhere f p (locateIn f p)
 

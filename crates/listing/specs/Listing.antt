@@ -40,6 +40,7 @@ unfoldable pub marksFrom : ℕ → List ℕ → List ℕ
 marksFrom i [] = []
 marksFrom i (m ∷ l) = cond (eqb m 1) (32 ∷ decimalText i) [] ++ marksFrom (suc i) l
 
+-- from cell 0 on
 unfoldable pub marksText : List ℕ → List ℕ
 marksText l = marksFrom 0 l
 

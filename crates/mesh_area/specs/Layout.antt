@@ -32,6 +32,7 @@ mostSlots = 1048576
 
 -- ---- points: "points (3 floats each)", in the case bytes
 
+-- the first n
 unfoldable pub pointsIn : List ℕ → ℕ → List Vec3
 pointsIn case n = tab (λ i. vecAt case (24 * i)) n
 
@@ -79,25 +80,30 @@ volumeFloat = 3
 
 -- ---- the part of the area that holds the mesh
 
+-- where the words of the mesh end
 abbrev pub wordsEnd : Sizes → ℕ
 wordsEnd s = 16 * s .slots + 8 * s .cells
 
+-- where its floats end
 abbrev pub floatsEnd : Sizes → ℕ
 floatsEnd s = 12 * s .slots + 4 * s .cells
 
+-- the words of the mesh
 unfoldable pub meshWords : Sizes → List ℕ → List ℕ
 meshWords s words = take (wordsEnd s) words
 
+-- its floats
 unfoldable pub meshFloats : Sizes → List Float → List Float
 meshFloats s floats = take (floatsEnd s) floats
 
--- "work area under 16F+96C words or 12F+64C floats" is not the case, and F and C are within 01's limits
+-- the words are not "under 16F+96C", and F and C are within 01's limits
 pub record LentWords (s : Sizes) (words : List ℕ) : Type 0 where
   pub few-slots : s .slots ≤ mostSlots
   pub few-faces : s .faces ≤ s .slots
   pub few-cells : s .cells ≤ mostCells
   pub long : 16 * s .slots + 96 * s .cells ≤ length words
 
+-- the floats are not under "12F+64C"
 pub record LentFloats (s : Sizes) (floats : List Float) : Type 0 where
   pub few-slots : s .slots ≤ mostSlots
   pub few-faces : s .faces ≤ s .slots
@@ -118,6 +124,8 @@ vecFrom floats at = vec (getD floats at nan) (getD floats (at + 1) nan) (getD fl
 unfoldable pub found : ℕ → Found
 found n = cond (eqb n 0) Nothing (At (n - 1))
 
+-- face f: its count, up to eight numbers, owner and neighbour in twelve words, its measures in
+-- twelve floats
 unfoldable pub faceIn : List ℕ → List Float → ℕ → Face
 faceIn words floats f =
     record {
@@ -144,9 +152,11 @@ cellIn words floats slots i =
 
 -- ---- the whole mesh
 
+-- its faces
 unfoldable pub facesIn : Sizes → List ℕ → List Float → List Face
 facesIn s words floats = tab (faceIn (meshWords s words) (meshFloats s floats)) (s .faces)
 
+-- its cells
 unfoldable pub cellsIn : Sizes → List ℕ → List Float → List Cell
 cellsIn s words floats = tab (cellIn (meshWords s words) (meshFloats s floats) (s .slots)) (s .cells)
 

@@ -32,19 +32,23 @@ pub record Mesh : Type 0 where
   pub faces : List Face
   pub cells : List Cell
 
--- a point, a face and a cell by number
+-- a point by number
 unfoldable pub pointAt : List Vec3 → ℕ → Vec3
 pointAt ps i = getD ps i origin
 
+-- what stands for a face that is not there
 abbrev pub noFace : Face
 noFace =
     record { vertices = []; owner = 0; neighbour = Nothing; centre = origin; area = 0·0; normal = origin; areaVector = origin }
 
+-- a face by number
 unfoldable pub faceAt : List Face → ℕ → Face
 faceAt fs i = getD fs i noFace
 
+-- what stands for a cell that is not there
 abbrev pub noCell : Cell
 noCell = record { faces = []; neighbours = []; centre = origin; volume = 0·0 }
 
+-- a cell by number
 unfoldable pub cellAt : List Cell → ℕ → Cell
 cellAt cs i = getD cs i noCell

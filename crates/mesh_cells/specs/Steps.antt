@@ -42,6 +42,7 @@ use Rattle.mesh_cells.specs.declared.CellAdded.the-variants as CellAdded
 abbrev pub growingIn : Sizes → List ℕ → List Float → ℕ → ℕ → Growing
 growingIn s words floats first k = record { faces = facesIn s words floats; own = listAt words (13 * s .slots + first) k }
 
+-- a face with these numbers can be placed for a cell
 pub record Placeable (s : Sizes) (words : List ℕ) (floats : List Float) (vertices : List ℕ) (cell : NewCell) : Type 0 where
   pub lent-words : LentWords s words
   pub lent-floats : LentFloats s floats
@@ -130,6 +131,7 @@ pub record CellPut (s : Sizes) (words words′ : List ℕ) (floats floats′ : L
   pub words-put : words′ ≡ puts words (16 * s .slots + 8 * i) (at ∷ first ∷ count ∷ 0 ∷ [])
   pub floats-put : floats′ ≡ puts floats (12 * s .slots + 4 * i) (reference .x ∷ reference .y ∷ reference .z ∷ [])
 
+-- the words and the area are as cell i needs them
 pub record CellReady (ws : List ℕ) (s : Sizes) (words : List ℕ) (floats : List Float) (cell : NewCell) : Type 0 where
   pub headed : Headed ws (cell .head)
   pub lent-words : LentWords s words
@@ -178,11 +180,12 @@ pub record Filled (d : ℕ) (ps : List Vec3) (ws : List ℕ) (defs : List Defini
   pub lists : Lists ws s words i (p .first)
   pub rest : steps (addCell d ps) (record { faces = facesIn (sized s (p .faces)) words floats; cells = draftsIn ws s words floats i }) (drop i defs) ≡ drafts d ps defs
 
--- the definitions of n records, which the words are
+-- the definitions that were read, or none
 unfoldable pub read : Result (List Definition) → List Definition
 read (refused r) = []
 read (fine defs) = defs
 
+-- the definitions of all cells, in the words
 abbrev pub definedIn : Sizes → List ℕ → List Definition
 definedIn s ws = read (Words.definitions (s .cells) ws)
 

@@ -39,6 +39,7 @@ floatsOf g = g .centre .x ∷ g .centre .y ∷ g .centre .z ∷ g .volume ∷ []
 unfoldable pub geometryAt : ℕ → List Vec3 → List ℕ → Sizes → List Float → ℕ → ℕ → Result CellGeometry
 geometryAt d ps ws s floats i at = cellGeometry d ps (vecFrom floats (cellFrom s i)) (facesOf (definitionAt ws at))
 
+-- the floats, the points and the words are as cell i needs them
 pub record RecordReady (case : List ℕ) (points : ℕ) (ws : List ℕ) (floats : List Float) (s : Sizes) (i : ℕ) (h : Head) : Type 0 where
   pub lent-floats : LentFloats s floats
   pub points-there : Points case points

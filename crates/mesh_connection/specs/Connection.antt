@@ -13,11 +13,12 @@ use Rattle.mesh_area.specs.Tables.{Face, Cell, cellAt}
 
 -- ---- reached by rounds, where `touch i j` says that one gets from cell i to cell j
 
--- one of 0 .. n - 1 passes; each does
+-- one of 0 .. n - 1 passes
 unfoldable pub someBelow : (ℕ → Bool) → ℕ → Bool
 someBelow p zero = false
 someBelow p (suc n) = p n || someBelow p n
 
+-- each of them does
 unfoldable pub everyBelow : (ℕ → Bool) → ℕ → Bool
 everyBelow p zero = true
 everyBelow p (suc n) = p n && everyBelow p n
@@ -42,14 +43,16 @@ pub data Reachable (touch : ℕ → ℕ → Bool) (n : ℕ) : ℕ → Type 0 whe
 
 -- ---- over shared faces
 
--- a face's two cells are i and j
+-- a face has two cells, and they are i and j
 unfoldable pub sidesAre : ℕ → ℕ → ℕ → Found → Bool
 sidesAre i j owner Nothing = false
 sidesAre i j owner (At n) = (eqb owner i && eqb n j) || (eqb owner j && eqb n i)
 
+-- the same of a face
 unfoldable pub joins : ℕ → ℕ → Face → Bool
 joins i j f = sidesAre i j (f .owner) (f .neighbour)
 
+-- some face joins i and j
 unfoldable pub share : List Face → ℕ → ℕ → Bool
 share fs i j = anyOf (joins i j) fs
 
@@ -59,8 +62,10 @@ connected n fs = connectedBy (share fs) n
 
 -- ---- over the cells' neighbours, as `ensure_connected` walks them; where faces and cells agree it is the same (proofs/Shared.antt)
 
+-- j is a neighbour of i
 unfoldable pub meets : List Cell → ℕ → ℕ → Bool
 meets cs i j = anyOf (eqb j) (cellAt cs i .neighbours)
 
+-- every cell is reached from cell 0
 unfoldable pub connectedCells : List Cell → Bool
 connectedCells cs = connectedBy (meets cs) (length cs)

@@ -22,6 +22,7 @@ unfoldable pub otherOf : ℕ → ℕ → Found → Found
 otherOf cell owner Nothing = Nothing
 otherOf cell owner (At n) = At (cond (eqb owner cell) n owner)
 
+-- the same of a face
 unfoldable pub beyond : ℕ → Face → Found
 beyond cell f = otherOf cell (f .owner) (f .neighbour)
 
@@ -30,6 +31,7 @@ unfoldable pub addFound : List ℕ → Found → List ℕ
 addFound l Nothing = l
 addFound l (At n) = addNew eqb l n
 
+-- with the cell beyond face f
 unfoldable pub addNeighbour : List Face → ℕ → List ℕ → ℕ → List ℕ
 addNeighbour fs cell l f = addFound l (beyond cell (faceAt fs f))
 
@@ -37,21 +39,23 @@ addNeighbour fs cell l f = addFound l (beyond cell (faceAt fs f))
 unfoldable pub neighboursOf : List Face → ℕ → List ℕ → List ℕ
 neighboursOf fs cell faces = fold (addNeighbour fs cell) [] faces
 
--- the cells, each with its neighbours
+-- cell i with its neighbours
 unfoldable pub linkedAt : List Face → List Cell → ℕ → Cell
 linkedAt fs cs i =
     let c = cellAt cs i in
     record { faces = c .faces; neighbours = neighboursOf fs i (c .faces); centre = c .centre; volume = c .volume }
 
+-- all cells, each with its neighbours
 unfoldable pub linked : List Face → List Cell → List Cell
 linked fs cs = tab (linkedAt fs cs) (length cs)
 
 -- ---- in the area
 
--- where the lists of cell i start, and how many faces it has
+-- where the lists of cell i start
 abbrev pub firstIn : Sizes → List ℕ → ℕ → ℕ
 firstIn s words i = getD words (16 * s .slots + 8 * i + 1) 0
 
+-- how many faces it has
 abbrev pub countIn : Sizes → List ℕ → ℕ → ℕ
 countIn s words i = getD words (16 * s .slots + 8 * i + 2) 0
 

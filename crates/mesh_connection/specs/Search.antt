@@ -55,9 +55,11 @@ pub record Listed (s : Sizes) (w w′ : List ℕ) (i : ℕ) : Type 0 where
 
 -- ---- the search: flag of cell i in word base + 2 i, place k of the queue in word base + 2 k + 1
 
+-- cell i has its flag
 abbrev pub visitedIn : List ℕ → ℕ → ℕ → Bool
 visitedIn w base i = eqb (getD w (base + 2 * i) 0) 1
 
+-- the cell at place k of the queue
 abbrev pub queueIn : List ℕ → ℕ → ℕ → ℕ
 queueIn w base k = getD w (base + 2 * k + 1) 0
 

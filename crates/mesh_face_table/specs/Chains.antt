@@ -22,9 +22,11 @@ last p (suc n) = elim (p n) [ true ↦ suc n | false ↦ last p n ]
 abbrev pub bucketOf : ℕ → List ℕ → ℕ
 bucketOf slots vertices = total vertices % slots
 
+-- face f is in bucket b
 abbrev pub inBucket : (ℕ → Body) → ℕ → ℕ → ℕ → Bool
 inBucket body slots b f = eqb (bucketOf slots (body f .vertices)) b
 
+-- face f has this key
 abbrev pub keyAt : (ℕ → Body) → List ℕ → ℕ → Bool
 keyAt body key f = same (sorted (body f .vertices)) key
 

@@ -19,6 +19,7 @@ pub record Body : Type 0 where
   pub other : ℕ
   pub link : ℕ
 
+-- by their places
 unfoldable pub bodyOf : List ℕ → Body
 bodyOf r =
     record {
@@ -29,6 +30,7 @@ bodyOf r =
       link = getD r 11 0;
     }
 
+-- those of face f
 unfoldable pub bodyIn : List ℕ → ℕ → Body
 bodyIn w f = bodyOf (chunk w 12 f)
 
@@ -36,6 +38,7 @@ bodyIn w f = bodyOf (chunk w 12 f)
 unfoldable pub measuredOf : List Float → FaceGeometry
 measuredOf r = record { centre = vecFrom r 0; area = getD r 3 nan; normal = vecFrom r 4; «area_vector» = vecFrom r 7 }
 
+-- those of face f
 unfoldable pub measuredIn : List Float → ℕ → FaceGeometry
 measuredIn fl f = measuredOf (chunk fl 12 f)
 
@@ -60,10 +63,11 @@ tableIn w fl n = tab (λ f. faceOf (bodyIn w f) (measuredIn fl f)) n
 unfoldable pub headIn : List ℕ → ℕ → ℕ → ℕ
 headIn w slots b = getD w (12 * slots + b) 0
 
--- a face of one cell, and the same face with a second one
+-- a face of one cell
 abbrev pub fresh : List ℕ → ℕ → ℕ → Body
 fresh vertices cell link = record { count = length vertices; vertices = vertices; owner = cell; other = 0; link = link }
 
+-- the same face with a second one
 abbrev pub joined : Body → ℕ → Body
 joined b other = record { count = b .count; vertices = b .vertices; owner = b .owner; other = other; link = b .link }
 

@@ -78,5 +78,6 @@ placed (New i) fs = fine (record { faces = fs; number = i })
 placed (Second i) fs = fine (record { faces = fs; number = i })
 placed Third fs = refused 14
 
+-- the table after a cell has used a face
 unfoldable pub addFace : ℕ → List ℕ → FaceGeometry → List Face → Result Placed
 addFace cell vertices m fs = let g = adding cell vertices m fs in placed (g .answer) (g .faces)

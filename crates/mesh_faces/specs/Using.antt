@@ -72,6 +72,7 @@ pub record Settled (w w′ : List ℕ) (fl fl′ : List Float) (slots n : ℕ) (
 abbrev pub sized : Sizes → ℕ → Sizes
 sized s n = record { slots = s .slots; faces = n; cells = s .cells }
 
+-- a face with these numbers can be used by a cell
 pub record Usable (s : Sizes) (words : List ℕ) (floats : List Float) (vertices : List ℕ) (cell : ℕ) : Type 0 where
   pub lent-words : LentWords s words
   pub lent-floats : LentFloats s floats

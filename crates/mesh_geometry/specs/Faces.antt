@@ -43,6 +43,7 @@ turnedEdge e = vec (e .y) (neg (e .x)) 0·0
 unfoldable pub addCross : List Vec3 → Vec3 → Side ℕ → Vec3
 addCross ps s side = plus s (cross (pointAt ps (side .from)) (pointAt ps (side .to)))
 
+-- the area vector of a face, in 2D or 3D
 unfoldable pub vectorIn : Bool → List Vec3 → List ℕ → Vec3
 vectorIn true ps l = turnedEdge (minus (pointAt ps (getD l 1 0)) (pointAt ps (getD l 0 0)))
 vectorIn false ps l = times (fold (addCross ps) origin (sides l)) 0·5

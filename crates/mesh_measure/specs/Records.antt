@@ -36,6 +36,7 @@ pub record NextFace (ws : List ℕ) (h : Head) (c next : FaceCursor) : Type 0 wh
   pub face : next .face ≡ c .face + 1
   pub at-face : AtFace ws h next
 
+-- an edge added to the sums, and the next face
 pub record EdgeAdded (ps : List Vec3) (ws : List ℕ) (h : Head) (c : FaceCursor) (reference : Vec3) (w : Weight) (r : Weighed) : Type 0 where
   pub sum : r .weight ≡ addTriangle ps reference w (faceAt ws (h .at) (c .face))
   pub next : NextFace ws h c (r .next)

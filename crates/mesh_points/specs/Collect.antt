@@ -40,6 +40,7 @@ unfoldable pub numbersIn : List ℕ → Collected → Result (List ℕ)
 numbersIn out (Numbers n) = fine (take n out)
 numbersIn out Missing = refused 12
 
+-- how many there are
 abbrev pub countOf : Collected → ℕ
 countOf (Numbers n) = n
 countOf Missing = 0

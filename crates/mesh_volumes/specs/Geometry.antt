@@ -33,6 +33,7 @@ addPart w m centre = record { measure = w .measure ⊕ m; moment = plus (w .mome
 unfoldable pub doubled : Vec3 → Vec3 → Float
 doubled a b = a .x ⊗ b .y ⊖ b .x ⊗ a .y
 
+-- an edge's triangle added
 unfoldable pub addTriangle : List Vec3 → Vec3 → Weight → List ℕ → Weight
 addTriangle ps reference w edge =
     let a = minus (pointAt ps (getD edge 0 0)) reference in
@@ -71,6 +72,7 @@ unfoldable pub fanOf : List Vec3 → Vec3 → Weight → Result Oriented → Res
 fanOf ps reference w (refused n) = refused 15
 fanOf ps reference w (fine f) = fine (addFan ps reference w (f .vertices))
 
+-- a face's tetrahedra added
 unfoldable pub addFace3D : List Vec3 → Vec3 → Weight → List ℕ → Result Weight
 addFace3D ps reference w l = fanOf ps reference w (orientedFace 3 ps reference l)
 
@@ -80,15 +82,18 @@ centre3D w = cond (1e-12 ≺ w .measure) (fine (record { centre = over (w .momen
 
 -- ---- by dimension
 
+-- the centre and volume of a cell, in 2D or in 3D
 unfoldable pub geometryIn : Bool → List Vec3 → Vec3 → List (List ℕ) → Result CellGeometry
 geometryIn true ps reference faces = centre2D reference (fold (addTriangle ps reference) weightless faces)
 geometryIn false ps reference faces = steps (addFace3D ps reference) weightless faces >>= centre3D
 
+-- the same, by the number of the dimension
 unfoldable pub cellGeometry : ℕ → List Vec3 → Vec3 → List (List ℕ) → Result CellGeometry
 cellGeometry d ps reference faces = geometryIn (eqb d 2) ps reference faces
 
 -- ---- what an answer means: 15 "zero volume"
 
+-- the geometry, or 15
 unfoldable pub cellOf : CellMeasure → Result CellGeometry
 cellOf (Measure.Cell g) = fine g
 cellOf Measure.ZeroVolume = refused 15

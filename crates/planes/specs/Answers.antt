@@ -34,14 +34,18 @@ probeWords Missed = (2 ^ 64 - 1) ∷ 0 ∷ 0 ∷ 0 ∷ 0 ∷ []
 unfoldable pub sampled : Mesh → Plane → (List Sample → Result (List ℕ)) → Asks (Result (List ℕ))
 sampled m s answer = sample (intersect m s) >>= λ r. give (result._>>=_ r answer)
 
+-- code 5
 unfoldable pub sectionOf : Mesh → Plane → Asks (Result (List ℕ))
 sectionOf m s = sampled m s (λ l. fine (sectionWords l))
 
+-- code 6
 unfoldable pub statisticsOf : Mesh → Plane → ℕ → Asks (Result (List ℕ))
 statisticsOf m s field = sampled m s (statistics (normalOf s) field)
 
+-- code 7
 unfoldable pub integralsOf : Mesh → Plane → Asks (Result (List ℕ))
 integralsOf m s = sampled m s (integrals (normalOf s))
 
+-- code 8
 unfoldable pub probeOf : Mesh → Plane → Vec3 → Asks (Result (List ℕ))
 probeOf m s p = sampled m s (λ l. fine (probeWords (probe s p l)))

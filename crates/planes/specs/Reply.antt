@@ -62,9 +62,11 @@ leftBy f l o = sets o 1 (flatten (map sampleWords (goods f l)))
 
 -- ---- from what was kept to the answer
 
+-- code 6
 unfoldable pub statisticsEnd : Result Sums → Result (List ℕ)
 statisticsEnd r = r >>= statisticsFrom
 
+-- code 7
 unfoldable pub integralsEnd : Result Integral → Result (List ℕ)
 integralsEnd r = r >>= integralsFrom
 
@@ -76,6 +78,7 @@ ended (fine (ofStatistics field r)) = lengthOf (statisticsEnd r)
 ended (fine (ofIntegrals r)) = lengthOf (integralsEnd r)
 ended (fine (ofProbe q r)) = fine 5
 
+-- the words that are written at the end
 unfoldable pub lastWords : Result Kept → List ℕ
 lastWords (refused n) = []
 lastWords (fine (ofSection polygons at)) = polygons ∷ []
@@ -83,10 +86,12 @@ lastWords (fine (ofStatistics field r)) = wordsOf (statisticsEnd r)
 lastWords (fine (ofIntegrals r)) = wordsOf (integralsEnd r)
 lastWords (fine (ofProbe q r)) = probeWords r
 
+-- the answer is that of e, and its words stand from 0 on
 pub record Ended (e : Result (List ℕ)) (r : Answered) (o o′ : List ℕ) : Type 0 where
   pub result : answerOf r ≡ lengthOf e
   pub answers : o′ ≡ sets o 0 (wordsOf e)
 
+-- the same of what was kept
 pub record Closed (t : Result Kept) (r : Answered) (o o′ : List ℕ) : Type 0 where
   pub result : answerOf r ≡ ended t
   pub answers : o′ ≡ sets o 0 (lastWords t)

@@ -14,14 +14,15 @@ use Rattle.planes_cut.specs.declared.Cut.{Cut}
 use Rattle.planes_cut.specs.Cut.{height, near, below, above}
 
 module _ (c : Cut) where
-  -- "distinct points by distance within the tolerance": q is p
+  -- q is as good as p: their distance is within the tolerance
   unfoldable pub close : Vec3 → Vec3 → Bool
   close p q = norm (minus q p) ≼ c .tolerance
 
-  -- the ends of a side lie on both sides of the plane
+  -- a side goes from below the plane to above it
   unfoldable pub rises : Vec3 → Vec3 → Bool
   rises a b = below c a && above c b
 
+  -- its ends lie on both sides of the plane
   unfoldable pub parted : Vec3 → Vec3 → Bool
   parted a b = rises a b || rises b a
 
@@ -29,13 +30,15 @@ module _ (c : Cut) where
   unfoldable pub between : Vec3 → Vec3 → Vec3
   between a b = plus a (times (minus b a) (height c a ⊘ (height c a ⊖ height c b)))
 
-  -- where a side from a to b meets the plane: at its first end, then between its ends
+  -- where a side from a to b meets the plane: at its first end
   unfoldable pub addEnd : List Vec3 → Vec3 → List Vec3
   addEnd l a = cond (near c a) (addNew close l a) l
 
+  -- between its ends
   unfoldable pub addBetween : List Vec3 → Vec3 → Vec3 → List Vec3
   addBetween l a b = cond (parted a b) (addNew close l (between a b)) l
 
+  -- both, in this order
   unfoldable pub addMeeting : List Vec3 → Vec3 → Vec3 → List Vec3
   addMeeting l a b = addBetween (addEnd l a) a b
 
@@ -49,7 +52,7 @@ module _ (m : Mesh) (c : Cut) where
   unfoldable pub onPlane : ℕ → Bool
   onPlane i = near c (pointAt (m .points) i)
 
-  -- the plane holds the face, which another cell owns: "a cell with a face on the plane that it does not own is passed over"
+  -- the plane holds the face, which another cell owns: the cell is passed over
   unfoldable pub foreign : ℕ → ℕ → Bool
   foreign cell f =
       shared (faceAt (m .faces) f .neighbour)

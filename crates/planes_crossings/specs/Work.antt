@@ -19,6 +19,7 @@ use Rattle.planes_crossings.specs.Crossings.{parted, between}
 
 -- ---- points held in three slices
 
+-- point i
 unfoldable pub pointIn : List Float → List Float → List Float → ℕ → Vec3
 pointIn x y z i = vec (getD x i nan) (getD y i nan) (getD z i nan)
 
@@ -68,5 +69,6 @@ sideAt l k = record { from = getD l k 0; to = getD l (after (length l) k) 0 }
 pub record TrueHeight (c : Cut) (a : End) : Type 0 where
   pub same : a .height ≡ height c (a .point)
 
+-- where a side from a to b meets the plane, or that it does not
 unfoldable pub meetingOf : Cut → Vec3 → Vec3 → Meeting
 meetingOf c a b = cond (near c a) (Point a) (cond (parted c a b) (Point (between c a b)) None)

@@ -43,9 +43,10 @@ module _ (c : Cut) where
   unfoldable pub near : Vec3 → Bool
   near p = abs (height p) ≼ c .tolerance
 
-  -- `d < -eps` and `d > eps`
+  -- `d < -eps`
   unfoldable pub below : Vec3 → Bool
   below p = height p ≺ neg (c .tolerance)
 
+  -- `d > eps`
   unfoldable pub above : Vec3 → Bool
   above p = c .tolerance ≺ height p

@@ -14,6 +14,7 @@ use Rattle.planes_cut.specs.Cut.{near, below, above}
 
 -- ---- a mesh in the area, without its measures, which no section uses
 
+-- its points, faces and cells
 unfoldable pub bare : List ℕ → ℕ → Sizes → List ℕ → Mesh
 bare case points s words = meshIn (pointsIn case points) s words []
 
@@ -33,14 +34,16 @@ cornerOf m f k = pointAt (m .points) (getD (faceAt (m .faces) f .vertices) k 0)
 unfoldable pub signWith : Cut → Signs → Vec3 → Signs
 signWith c g p = record { near = g .near || near c p; below = g .below || below c p; above = g .above || above c p }
 
+-- those of no point
 unfoldable pub noSigns : Signs
 noSigns = record { near = false; below = false; above = false }
 
 module _ (m : Mesh) (c : Cut) where
-  -- of a face
+  -- with those of point i
   unfoldable pub addSign : Signs → ℕ → Signs
   addSign g i = signWith c g (pointAt (m .points) i)
 
+  -- with those of face f
   unfoldable pub faceSigns : Signs → ℕ → Signs
   faceSigns g f = fold addSign g (faceAt (m .faces) f .vertices)
 

@@ -1,4 +1,5 @@
--- `plane_monitor::sample`: "A sample reads velocity and pressure of the section's cells in order, up to and including the first bad one."
+-- `plane_monitor::sample`: "A sample reads velocity and pressure of the section's cells in order,
+-- up to and including the first bad one".
 use mathlib.Core.Bool.{Bool, true, false}
 use mathlib.Core.List.{List, [], _∷_}
 use Rattle.reading.specs.Result.{Result, refused, fine}

@@ -46,7 +46,7 @@ middle l = times (fold plus origin l) (1·0 ⊘ ofℕ (length l))
 unfoldable pub wide : Cut → List Vec3 → Bool
 wide c l = c .tolerance ⊗ c .tolerance ≺ areaOf l
 
--- the points about their centre, where there are three or more, "in angle order"
+-- the points about their centre, where there are three or more, in angle order
 unfoldable pub pieceAbout : Cut → ℕ → List Vec3 → Vec3 → List PlaneCell
 pieceAbout c cell l centre =
     let polygon = sort (earlierOn (c .plane) centre) l in

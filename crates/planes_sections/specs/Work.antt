@@ -23,6 +23,7 @@ use Rattle.planes_sections.specs.Intersect.{PlaneCell, earlierOn, pieceA
 
 -- ---- the piece that was found, with its polygon in the slices
 
+-- one, or none
 unfoldable pub pieceIn : ℕ → Piece → List Float → List Float → List Float → List PlaneCell
 pieceIn cell (Of centre n) x y z = record { cell = cell; centre = centre; polygon = heldIn x y z n } ∷ []
 pieceIn cell Empty x y z = []
@@ -41,6 +42,7 @@ Full Empty = Unit
 unfoldable pub arrangedAbout : Cut → List Vec3 → List Vec3
 arrangedAbout c l = cond (leb 3 (length l)) (sort (earlierOn (c .plane) (middle l)) l) []
 
+-- those of a cell, where it is not passed over
 unfoldable pub arrangedOf : Mesh → Cut → ℕ → Cell → List Vec3
 arrangedOf m c cell k = cond (anyOf (foreign m c cell) (k .faces)) [] (arrangedAbout c (meetings m c (k .faces)))
 

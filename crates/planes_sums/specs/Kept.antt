@@ -51,6 +51,7 @@ pub data Kept : Type 0 where
   ofIntegrals : Result Integral → Kept
   ofProbe : Vec2 → Probed → Kept
 
+-- what each case of the answer stands for
 unfoldable pub keptOf : Tally → Kept
 keptOf (Section polygons at) = ofSection polygons at
 keptOf (Statistics field r) = ofStatistics field (sumsOf r)
@@ -72,6 +73,7 @@ weighingOf normal t a v = cond (fit a v) (fine (weighing normal t a v)) (refused
 abbrev pub addSummed : Vec3 → ℕ → Result Sums → Sample → Result Sums
 addSummed normal field r s = r >>= λ t. addSample normal field t s
 
+-- likewise
 abbrev pub addWeighed : Vec3 → Result Integral → Sample → Result Integral
 addWeighed normal r s = r >>= λ t. addIntegral normal t s
 
@@ -87,7 +89,7 @@ addTo c (ofStatistics field r) s = ofStatistics field (addSummed (c .normal) fie
 addTo c (ofIntegrals r) s = ofIntegrals (addWeighed (c .normal) r s)
 addTo c (ofProbe q r) s = ofProbe q (addProbed c q r s)
 
--- what it writes of a sample: "Code 5's polygons", as far as they fit
+-- what it writes of a sample: a polygon of code 5, as far as it fits
 unfoldable pub written : Kept → List ℕ → Sample → List ℕ
 written (ofSection polygons at) o s = sets o at (sampleWords s)
 written (ofStatistics field r) o s = o
@@ -96,10 +98,11 @@ written (ofProbe q r) o s = o
 
 -- ---- the words of the contracts
 
--- a piece and a sample whose polygon stands in three slices
+-- a piece whose polygon stands in three slices
 abbrev pub cellIn : ℕ → Vec3 → ℕ → List Float → List Float → List Float → PlaneCell
 cellIn cell centre n x y z = record { cell = cell; centre = centre; polygon = heldIn x y z n }
 
+-- the sample of such a piece
 abbrev pub sampleIn : ℕ → Vec3 → ℕ → Values → List Float → List Float → List Float → Sample
 sampleIn cell centre n v x y z = record { geometry = cellIn cell centre n x y z; values = v }
 

@@ -47,6 +47,7 @@ unfoldable pub summing : Bool → Sums → Float → Float → Float → Result 
 summing false t measure value flux = fine t
 summing true t measure value flux = cond (finite flux) (fine (including t measure value flux)) (refused 40)
 
+-- a sample, by its measure, its value and its flux
 unfoldable pub addSample : Vec3 → ℕ → Sums → Sample → Result Sums
 addSample normal field t s =
     let measure = measureOf normal (s .geometry .polygon) in

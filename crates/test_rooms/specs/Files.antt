@@ -11,7 +11,8 @@ use Rattle.reading.specs.Result.{Result, fine}
 use Rattle.test_rooms.specs.Printed.{Printed, Known, bytes, lends}
 use Rattle.test_rooms.specs.OnePass.{Computes}
 
--- "points, definition words, velocities, pressures, then a 32-byte trailer"
+-- "points (3 floats each), definition words (u32), velocities (3 floats per cell), pressures (one
+-- per cell), then a 32-byte trailer"
 unfoldable pub caseFile : ℕ → List Vec3 → List ℕ → List Vec3 → List Float → List ℕ
 caseFile dimension points words velocities pressures =
     let a = 24 * length points in

@@ -23,6 +23,7 @@ unfoldable pub ran : Asks (List ℕ) → (ℕ → Values) → Printed
 ran (give a) f = record { words = a; cells = [] }
 ran (ask i k) f = let r = ran (k (f i)) f in record { words = r .words; cells = i ∷ r .cells }
 
+-- each number is below n
 unfoldable pub below : ℕ → List ℕ → Bool
 below n [] = true
 below n (i ∷ l) = ltb i n && below n l
@@ -33,13 +34,16 @@ pub record Seen : Type 0 where
   pub marks : List ℕ
   pub inside : Bool
 
+-- what was told, as it is seen
 unfoldable pub seen : ℕ → Printed → Bool → Seen
 seen cells p inside = record { words = p .words; marks = markAll (replicate cells 0) (p .cells); inside = inside }
 
+-- a job in one pass
 unfoldable pub onePass : ℕ → Result (Asks (List ℕ)) → (ℕ → Values) → Result Seen
 onePass cells (refused k) f = refused k
 onePass cells (fine t) f = let r = ran t f in fine (seen cells r (below cells (r .cells)))
 
+-- what is to be seen
 unfoldable pub due : ℕ → Result Printed → Result Seen
 due cells (refused k) = refused k
 due cells (fine p) = fine (seen cells p true)
@@ -50,20 +54,24 @@ pub record Computes (file requests : List ℕ) (lent : Lent) (p : Result Printed
 
 -- ---- then the room is known
 
+-- the pass has the answer
 ran-words : (t : Asks (List ℕ)) (f : ℕ → Values) → run t f ≡ ran t f .words
 unfolding ran
 ran-words (give a) f = refl
 ran-words (ask i k) f = ran-words (k (f i)) f
 
+-- the pass has the cells
 ran-cells : (t : Asks (List ℕ)) (f : ℕ → Values) → reads t f ≡ ran t f .cells
 unfolding ran
 ran-cells (give a) f = refl
 ran-cells (ask i k) f = ap (λ (l : List ℕ). i ∷ l) (ran-cells (k (f i)) f)
 
+-- both of two tests hold
 both : (a b : Bool) → a && b ≡ true → (a ≡ true) × (b ≡ true)
 both true b e = (refl, e)
 both false b e = (cc, cc)
 
+-- marks of the first cells leave the rest
 marks-inside : (l m rest : List ℕ) → below (length m) l ≡ true → markAll (m ++ rest) l ≡ markAll m l ++ rest
 unfolding below
 marks-inside [] m rest e = refl
@@ -72,6 +80,7 @@ marks-inside (i ∷ l) m rest e =
     rw (set-append-left m rest i 1 (ltb-true i (length m) (h .0)))
     (marks-inside l (set m i 1) rest (ap (λ (n : ℕ). below n l) (length-set m i 1) ∙ h .1))
 
+-- a job whose pass gives what is told ends as told
 ends-so
     : (j : Result (Asks (List ℕ))) (f : ℕ → Values) (cells : ℕ) (p : Result Printed) (answers marks : List ℕ)
     → onePass cells j f ≡ due cells p
@@ -90,6 +99,7 @@ ends-so (fine t) f cells (fine p) answers marks e =
     (ap (λ (n : ℕ). below n (ran t f .cells)) (length-replicate cells 0) ∙ i) in
     rw (ran-words t f, ran-cells t f, w, m, b)
 
+-- a room that is computed is known
 pub by-computing : {file requests : List ℕ} {lent : Lent} {p : Result Printed} → Computes file requests lent p → Known file requests lent p
 unfolding outcome
 by-computing {file} {requests} {lent} {p} e =

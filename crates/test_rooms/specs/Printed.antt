@@ -10,11 +10,12 @@ use Rattle.case_file.specs.Field.{cellsOf}
 use Rattle.job_room.specs.Room.{Lent}
 use Rattle.job.specs.Job.{outcome}
 
--- `width` bytes of n, and of each number of a list
+-- `width` bytes of n, before those of l
 unfoldable pub bytesFrom : ℕ → ℕ → List ℕ → List ℕ
 bytesFrom zero n l = l
 bytesFrom (suc width) n l = n % 256 ∷ bytesFrom width (n / 256) l
 
+-- `width` bytes of each number of a list
 unfoldable pub bytes : ℕ → List ℕ → List ℕ
 bytes width [] = []
 bytes width (n ∷ l) = bytesFrom width n (bytes width l)

@@ -14,12 +14,15 @@ use Rattle.test_rooms.specs.Printed.{bytes, bytesFrom, lends}
 use Rattle.test_rooms.specs.OnePass.{ran, below, seen, onePass, due, by-computing}
 use Rattle.test_rooms.specs.Files.{caseFile, request, told, Gives, Computed}
 
+-- a quarter
 abbrev 0·25 : Float
 0·25 = float 0x3fd0000000000000
 
+-- three quarters
 abbrev 0·75 : Float
 0·75 = float 0x3fe8000000000000
 
+-- one and a half
 abbrev 1·5 : Float
 1·5 = float 0x3ff8000000000000
 
@@ -36,10 +39,11 @@ pair =
 unfoldable pub square : Float → List Vec3
 square h = vec 0·0 0·0 h ∷ vec 1·0 0·0 h ∷ vec 1·0 1·0 h ∷ vec 0·0 1·0 h ∷ []
 
--- "Unit cube, velocity (0,0,2), pressure 3", and "Cube 1 stacked on cube 0"
+-- "Unit cube, velocity (0,0,2), pressure 3"
 unfoldable pub cube : List ℕ
 cube = caseFile 3 (square 0·0 ++ square 1·0) (2 ∷ 0 ∷ 1 ∷ 2 ∷ 3 ∷ 4 ∷ 5 ∷ 6 ∷ 7 ∷ []) (vec 0·0 0·0 2·0 ∷ []) (3·0 ∷ [])
 
+-- "Cube 1 stacked on cube 0"
 unfoldable pub stack : List ℕ
 stack =
     caseFile 3 (square 0·0 ++ (square 1·0 ++ square 2·0))
@@ -47,14 +51,15 @@ stack =
     (vec 0·0 0·0 2·0 ∷ vec 0·0 0·0 2·0 ∷ [])
     (3·0 ∷ 3·0 ∷ [])
 
--- the requests of the table
+-- locate (x, 0.5)
 unfoldable pub locate : Float → List ℕ
 locate x = 1 ∷ vecWords (vec x 0·5 0·0)
 
+-- velocity at (x, 0.5)
 unfoldable pub velocity : Float → List ℕ
 velocity x = 2 ∷ vecWords (vec x 0·5 0·0)
 
--- "Line from (0.25,0.5), forward, step 0.25, 10 steps, length 0.5"
+-- "Line from (0.25,0.5), forward, step 0.25, 10 steps, .. length 0.5"
 unfoldable pub streamline : Float → List ℕ
 streamline stagnation = 3 ∷ (vecWords (vec 0·25 0·5 0·0) ++ 0 ∷ word 0·25 ∷ 10 ∷ word 0·5 ∷ word stagnation ∷ [])
 
@@ -62,6 +67,7 @@ streamline stagnation = 3 ∷ (vecWords (vec 0·25 0·5 0·0) ++ 0 ∷ word 0·2
 unfoldable pub level : ℕ → Float → List ℕ
 level code h = code ∷ (vecWords (vec 0·0 0·0 h) ++ (vecWords (vec 1·0 0·0 0·0) ++ vecWords (vec 0·0 1·0 0·0)))
 
+-- all that the table computes with
 unfoldable pub opening : Unit {0}
 unfolding computing caseFile request told bytes bytesFrom lends ran below seen onePass due pair square cube stack locate velocity streamline level
 opening = tt
@@ -92,6 +98,7 @@ pub record Rooms (Row : List ℕ → List ℕ → List ℕ → List ℕ → Type
 abbrev pub Starred : Type 0
 Starred = Rooms Gives
 
+-- each row computed in one pass
 computed : Rooms Computed
 unfolding opening
 computed =
@@ -110,6 +117,7 @@ computed =
       root-of-least = refl;
     }
 
+-- the table holds
 pub starred : Starred
 starred =
     record {

@@ -19,7 +19,7 @@ pub record Piece : Type 0 where
 unfoldable pub copied : List ℕ → ℕ → List ℕ → List ℕ
 copied bytes from room = take from room ++ (bytes ++ drop (from + length bytes) room)
 
--- the length of the text with a piece more: the bytes "are repeated up to that length"
+-- the length of the text with a piece more: the bytes are repeated up to `length-after`
 unfoldable pub endWith : Piece → ℕ → ℕ
 endWith p from = max (from + length (p .bytes)) (p .length-after)
 
