@@ -68,7 +68,7 @@ use Rattle.mesh_cells.specs.Steps.{read}
 use Rattle.mesh_centres.specs.Finish.{finished, finishedAs}
 use Rattle.mesh_centres.specs.Steps.{geometryAt, firstCells}
 use Rattle.mesh.specs.Case.{surveyOf, areaShort, meshOf, caseFaces, meshFrom, builtAs, sizesFor, LaidOut}
-use Rattle.mesh.specs.Mesh.{joined, acceptable, completed, filled, fromCells}
+use Rattle.mesh.specs.Mesh.{acceptable, joined, completed, filled, fromCells}
 use Rattle.mesh.specs.Steps.{draftsHeld, acceptedAs}
 use Rattle.lines_field.specs.Bins.{listedIn, aspect, binCounts, areFlat, areMany}
 use Rattle.lines_field.specs.Bounds.{boundless, widened as widened-2, boundsOf}
@@ -76,8 +76,8 @@ use Rattle.lines_field.specs.Corners.{alike, addCorner, addCorners, cornersOf, 
 use Rattle.lines_field.specs.Field.{polygonsOf, gridFor, gridOf, fieldOf, builtGrid}
 use Rattle.lines_field.specs.Layout.{polygonsIn, cornersIn}
 use Rattle.lines_vertices.specs.Shapes.{keyIn}
-use Rattle.lines_velocity.specs.Velocity.{locateIn, centreOf, neighboursOf as neighboursOf-2, distanceSquared, nearerOf, nearestOf, blended, apart, besideIf, beside, besideNearest, toward, velocityIn, velocityWhere, velocityAt, from, unit, directionAt}
 use Rattle.lines_velocity.specs.Ready.{tracerField}
+use Rattle.lines_velocity.specs.Velocity.{locateIn, centreOf, neighboursOf as neighboursOf-2, distanceSquared, nearerOf, nearestOf, blended, apart, besideIf, beside, besideNearest, toward, velocityIn, velocityWhere, velocityAt, from, unit, directionAt}
 use Rattle.lines_step.specs.RungeKutta.{weighed, fourth, third, second, rungeKutta}
 use Rattle.lines_step.specs.Step.{hereIf, rk4Step, kept, step}
 use Rattle.lines.specs.Answered.{resultOf, countOf, readsOf, wordsOf as wordsOf-3}
@@ -96,7 +96,6 @@ use Rattle.job.specs.Job.{jobOf, outcome, numberOf, outcomeOf}
 use Rattle.job.specs.List.{isFlat, replyTo, serveAll}
 use Rattle.job.specs.Serving.{answerTo}
 
--- all of them
 unfoldable pub computing : Unit {0}
-unfolding add sub mul div lt le eq ofBits toBits ofInt round toUnsigned isNan neg size odd mag SquareRoot isqrt rounded root unitsOf leftward quarter slope angleOf precedes turnsBefore le32 le64 floatAt vecAt readAll finite abs signed fmin fmax clamp nearer within ceilℕ fold anyOf allOf countWhere firstFrom only flatten addNew insertBefore sort sidesWith windows sides same sorted rising crosses evenOdd tab upTo angleAt earlier sortedPlaces comparable placeIn those tie InOrder plus minus times over dot normSquared norm cross each3 done Named _>>=_ _>>=_-2 refuse steps mapAll vecWords pointWords valuesWords pointsIn meshWords meshFloats listAt vecFrom found faceIn cellIn facesIn cellsIn meshIn pointAt faceAt cellAt blank outside cellsOf nought valuesIn valuesOf trailerWord countsOf wordsFrom fieldFrom pressuresFrom trailerFrom isDimension hasOffsets hasParts trailerRight overLimit opened openedCase wordsIn wordsOf numbers counted faceLists made kinds definition definitions tetrahedron hexahedron prism pyramid ends picked facesOf faceCount addFaceCount facesCounted listed listAt-2 skipped tableOf placesOf firstOf headOf cursorAt stepped stepAt walked walkedFaces readOf definitionAt faceAt-2 faceFrom nextFace total vectorOf faceOf insertNew rising-2 addPoint average turnedEdge addCross vectorIn areaVector enough longEnough faceAreaVector faceWith measured inward turnedIf orientedFace leftOrder weightless addPart doubled addTriangle centre2D sixth addVolume addTetrahedron addFan fanOf addFace3D centre3D geometryIn cellGeometry cellOf last bodyOf bodyIn measuredOf measuredIn faceOf-2 tableIn headIn freshAt hasKey faceWithKey newFace withNeighbour joining settled adding placed addFace wordsAfter floatsAfter someBelow everyBelow oneRound rounds connectedBy sidesAre joins share connected meets connectedCells otherOf beyond addFound addNeighbour neighboursOf linkedAt linked countBelow widest farthest epsOf tolerance cutOf height near below above finiteAxes notUnit notOrthogonal invalid originBeyond planeRefusal normalOf along bare cornerOf signWith noSigns addSign faceSigns signsOf mayMeet inBin poolIn passed between onLine onEdge contains limitsFrom misses endWithin run isLevel crossingWithin sideWithin reach sideless widened narrowest unlimited limitsOf pairFrom pairsFrom sideFrom binAlong binFor reaches isListed countIn polygonIn binFrom cellPolygonIn cellPolygonsIn fieldIn flat holds locateWhere locate close rises parted between-2 addEnd addBetween addMeeting shared onPlane foreign addSide addFace-2 meetings pointIn heldIn sideAt meetingOf earlierOn addArea areaOf middle wide pieceAbout pieceOf piecesFrom intersect pieceIn verticesOf arrangedAbout arrangedOf angleOn noIntegral weighing fit addIntegral finiteIntegral vacant integralWords integralsFrom integrals sumsOf integralOf keptOf summingOf weighingOf addProbed addTo written usedOf sizeOf project covers firstOver off probe sound addVector vectorOf-2 measureOf scalarOf noSums including counted-2 summing addSample finiteSums empty fractionWords statisticsWords statisticsFrom statistics sampleWords before onward sample talliedOf stream sectionWords probeWords sampled sectionOf statisticsOf integralsOf probeOf answerOf lengthOf wordsOf-2 replied goods leftBy statisticsEnd integralsEnd ended lastWords missing fitting answerWords headerOf behind neighbourBehind misplaced facesAt fansOf wrongKind missing-2 referenceOf insertBelow numbersIn checked referenceCase measuredFrom addFaceOf addCell drafts draftIn draftsIn read finished finishedAs geometryAt firstCells surveyOf areaShort meshOf caseFaces meshFrom builtAs sizesFor LaidOut joined acceptable completed filled fromCells draftsHeld acceptedAs listedIn aspect binCounts areFlat areMany boundless widened-2 boundsOf alike addCorner addCorners cornersOf about turnsAbout polygonOf polygonsOf gridFor gridOf fieldOf builtGrid polygonsIn cornersIn keyIn locateIn centreOf neighboursOf-2 distanceSquared nearerOf nearestOf blended apart besideIf beside besideNearest toward velocityIn velocityWhere velocityAt from unit directionAt tracerField weighed fourth third second rungeKutta hereIf rk4Step kept step resultOf countOf readsOf wordsOf-3 sign signedStep onward-2 lineFrom pointsAfter line isLength isSpeed areGood isNowhere nowhere lineWords lineAnswer integrate seedAt seeds linesWords integrateRake Allowed row unknown codes codeOf isUnknown bytesFrom wordBytes bytesOf wordsAt requestsIn number real point refuseIf unusedSet badDirection illFormed wrongDimension direction options settings streamline rakeOf rake planeOf statistics-2 overPlane planar byCode requestOf roomFrom roomOf requestsWrong shortage prepared roomIn countsIn Servable shortAs Shortage leftUnder foundWords velocityWords decided serveFlat serveSolid serve jobOf outcome numberOf outcomeOf isFlat replyTo serveAll answerTo
+unfolding add sub mul div lt le eq ofBits toBits ofInt round toUnsigned isNan neg size odd mag SquareRoot isqrt rounded root unitsOf leftward quarter slope angleOf precedes turnsBefore le32 le64 floatAt vecAt readAll finite abs signed fmin fmax clamp nearer within ceilℕ fold anyOf allOf countWhere firstFrom only flatten addNew insertBefore sort sidesWith windows sides same sorted rising crosses evenOdd tab upTo angleAt earlier sortedPlaces comparable placeIn those tie InOrder plus minus times over dot normSquared norm cross each3 done Named _>>=_ _>>=_-2 refuse steps mapAll vecWords pointWords valuesWords pointsIn meshWords meshFloats listAt vecFrom found faceIn cellIn facesIn cellsIn meshIn pointAt faceAt cellAt blank outside cellsOf nought valuesIn valuesOf trailerWord countsOf wordsFrom fieldFrom pressuresFrom trailerFrom isDimension hasOffsets hasParts trailerRight overLimit opened openedCase wordsIn wordsOf numbers counted faceLists made kinds definition definitions tetrahedron hexahedron prism pyramid ends picked facesOf faceCount addFaceCount facesCounted listed listAt-2 skipped tableOf placesOf firstOf headOf cursorAt stepped stepAt walked walkedFaces readOf definitionAt faceAt-2 faceFrom nextFace total vectorOf faceOf insertNew rising-2 addPoint average turnedEdge addCross vectorIn areaVector enough longEnough faceAreaVector faceWith measured inward turnedIf orientedFace leftOrder weightless addPart doubled addTriangle centre2D sixth addVolume addTetrahedron addFan fanOf addFace3D centre3D geometryIn cellGeometry cellOf last bodyOf bodyIn measuredOf measuredIn faceOf-2 tableIn headIn freshAt hasKey faceWithKey newFace withNeighbour joining settled adding placed addFace wordsAfter floatsAfter someBelow everyBelow oneRound rounds connectedBy sidesAre joins share connected meets connectedCells otherOf beyond addFound addNeighbour neighboursOf linkedAt linked countBelow widest farthest epsOf tolerance cutOf height near below above finiteAxes notUnit notOrthogonal invalid originBeyond planeRefusal normalOf along bare cornerOf signWith noSigns addSign faceSigns signsOf mayMeet inBin poolIn passed between onLine onEdge contains limitsFrom misses endWithin run isLevel crossingWithin sideWithin reach sideless widened narrowest unlimited limitsOf pairFrom pairsFrom sideFrom binAlong binFor reaches isListed countIn polygonIn binFrom cellPolygonIn cellPolygonsIn fieldIn flat holds locateWhere locate close rises parted between-2 addEnd addBetween addMeeting shared onPlane foreign addSide addFace-2 meetings pointIn heldIn sideAt meetingOf earlierOn addArea areaOf middle wide pieceAbout pieceOf piecesFrom intersect pieceIn verticesOf arrangedAbout arrangedOf angleOn noIntegral weighing fit addIntegral finiteIntegral vacant integralWords integralsFrom integrals sumsOf integralOf keptOf summingOf weighingOf addProbed addTo written usedOf sizeOf project covers firstOver off probe sound addVector vectorOf-2 measureOf scalarOf noSums including counted-2 summing addSample finiteSums empty fractionWords statisticsWords statisticsFrom statistics sampleWords before onward sample talliedOf stream sectionWords probeWords sampled sectionOf statisticsOf integralsOf probeOf answerOf lengthOf wordsOf-2 replied goods leftBy statisticsEnd integralsEnd ended lastWords missing fitting answerWords headerOf behind neighbourBehind misplaced facesAt fansOf wrongKind missing-2 referenceOf insertBelow numbersIn checked referenceCase measuredFrom addFaceOf addCell drafts draftIn draftsIn read finished finishedAs geometryAt firstCells surveyOf areaShort meshOf caseFaces meshFrom builtAs sizesFor LaidOut acceptable joined completed filled fromCells draftsHeld acceptedAs listedIn aspect binCounts areFlat areMany boundless widened-2 boundsOf alike addCorner addCorners cornersOf about turnsAbout polygonOf polygonsOf gridFor gridOf fieldOf builtGrid polygonsIn cornersIn keyIn tracerField locateIn centreOf neighboursOf-2 distanceSquared nearerOf nearestOf blended apart besideIf beside besideNearest toward velocityIn velocityWhere velocityAt from unit directionAt weighed fourth third second rungeKutta hereIf rk4Step kept step resultOf countOf readsOf wordsOf-3 sign signedStep onward-2 lineFrom pointsAfter line isLength isSpeed areGood isNowhere nowhere lineWords lineAnswer integrate seedAt seeds linesWords integrateRake Allowed row unknown codes codeOf isUnknown bytesFrom wordBytes bytesOf wordsAt requestsIn number real point refuseIf unusedSet badDirection illFormed wrongDimension direction options settings streamline rakeOf rake planeOf statistics-2 overPlane planar byCode requestOf roomFrom roomOf requestsWrong shortage prepared roomIn countsIn Servable shortAs Shortage leftUnder foundWords velocityWords decided serveFlat serveSolid serve jobOf outcome numberOf outcomeOf isFlat replyTo serveAll answerTo
 computing = tt
