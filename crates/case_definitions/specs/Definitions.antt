@@ -1,4 +1,8 @@
 -- "The definition words are read through one walker, cell after cell."
+-- `Taken`: what was read, and what is left.
+-- `numbers`, `counted`, `faceLists`: runs of words.
+-- `made`, `kinds`, `definition`: one record.
+-- `definitions`: all of them, or refusal 3.
 use Prim.Native.Nat.{ℕ, zero, suc}
 use mathlib.Core.Bool.{true, false, cond}
 use mathlib.Core.List.{List, [], _∷_}

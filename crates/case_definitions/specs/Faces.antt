@@ -1,4 +1,8 @@
 -- What a cell is made of, and its faces: `CellDefinition::faces`, without what refusal 11 refuses.
+-- `Definition`: what a record says.
+-- `tetrahedron`, `hexahedron`, `prism`, `pyramid`: the face tables.
+-- `ends`, `picked`, `facesOf`: the faces of a cell.
+-- `faceCount`, `addFaceCount`, `facesCounted`: how many there are.
 use Prim.Native.Nat.{ℕ, _+_}
 use mathlib.Core.List.{List, [], _∷_, map}
 use lib.ListN.{length, getD}

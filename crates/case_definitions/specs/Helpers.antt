@@ -1,4 +1,7 @@
 -- The words of the contracts of `step`, `walk` and `copy_face`'s helpers.
+-- `listed`, `listAt`, `skipped`: a counted run at a position.
+-- `KindAt`, `SolidAt`: which record stands at a position.
+-- `tableOf`, `placesOf`: a face table, and a row of it.
 use Prim.Native.Nat.{ℕ, _+_, _-_, _<_, _≤_}
 use mathlib.Core.Path.{_≡_}
 use mathlib.Core.List.{List, [], _∷_}

@@ -1,4 +1,8 @@
 -- The walker as the code has it: positions among the words ws, in the place of the words that are left.
+-- `firstOf`, `headOf`, `cursorAt`: a record's head and a position.
+-- `stepped`, `stepAt`: the record at a position. `walked`, `walkedFaces`: all of them.
+-- `readOf`, `definitionAt`, `faceAt`, `faceFrom`: what stands there.
+-- `Headed`, `AtFace`, `nextFace`, `FaceCopied`: a head, a face of it, and that face copied.
 use Prim.Native.Nat.{ℕ, zero, suc, _+_, _-_, _≤_}
 use mathlib.Core.Path.{_≡_}
 use mathlib.Core.Bool.{cond}

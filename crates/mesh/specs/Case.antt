@@ -1,4 +1,7 @@
 -- What a case says outside its fields: its counts and its cells' definitions, and the mesh of them.
+-- `Surveyed-case`, `surveyOf`: refusals 1, 2 and 3. `areaShort`: 4. `meshOf`: 8 to 17.
+-- `caseFaces`: F. `meshFrom`: a case alone.
+-- `Surveying`, `builtAs`, `sizesFor`, `LaidOut`, `Building`: what the answers stand for.
 use Prim.Native.Nat.{ℕ, _+_, _*_, _≤_}
 use mathlib.Core.Path.{_≡_}
 use mathlib.Core.Bool.{Bool, _||_}

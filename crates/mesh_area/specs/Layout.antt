@@ -3,6 +3,13 @@
 -- face lists, from 14F on their neighbour lists. Cell i from 16F + 8i on: its definition's position, where its two lists start, how
 -- many faces and how many neighbours they have. What follows from 16F + 8C on is the tracer's.
 -- Floats: face f from 12f on: centre, area, normal, area vector. Cell i from 12F + 4i on: centre, volume. From 12F + 4C on: the tracer's.
+-- `mostPoints`, `mostCells`, `mostSlots`: the limits.
+-- `pointsIn`: the points of a case.
+-- `vertexCount` to `volumeFloat`: the parts of a record, by their offset.
+-- `wordsEnd`, `floatsEnd`, `meshWords`, `meshFloats`: the mesh's part of the area.
+-- `LentWords`, `LentFloats`: the area is long enough.
+-- `listAt`, `vecFrom`, `found`: numbers, a point, a number or none, where they stand.
+-- `faceIn`, `cellIn`: one record. `facesIn`, `cellsIn`, `meshIn`: the whole mesh.
 use Prim.Native.Nat.{ℕ, zero, suc, _+_, _-_, _*_, _≤_}
 use mathlib.Core.Bool.{Bool, cond}
 use mathlib.Core.List.{List, []}

@@ -1,4 +1,7 @@
 -- What a mesh is: points, faces and cells, with mesh.rs's fields.
+-- `Face`, `Cell`, `Mesh`: what each has.
+-- `pointAt`, `faceAt`, `cellAt`: a point, a face, a cell by number.
+-- `noFace`, `noCell`: what stands past the last one.
 use Prim.Native.Nat.{ℕ}
 use mathlib.Core.List.{List, []}
 use lib.ListN.{getD}

@@ -1,4 +1,8 @@
 -- The first pass of `from_cells`, cell by cell: "11 to 14 cell by cell: 11, then 12, then face by face 13 and 14".
+-- `measuredFrom`: the geometry of a face that is turned outward.
+-- `Growing`, `addFaceOf`: the faces of a cell, one after another.
+-- `Draft`, `Drafts`: a cell before its centre is known, and the table with the cells so far.
+-- `addCell`, `drafts`: one cell more, and all of them.
 use Prim.Native.Nat.{ℕ}
 use mathlib.Core.List.{List, [], _∷_, _++_}
 use lib.ListN.{length}

@@ -1,4 +1,7 @@
 -- How the area holds the drafts, and what `add_cells` promises of it.
+-- `cellWord`, `draftIn`, `draftsIn`: the drafts in the area.
+-- `Lists`: where their lists stand. `Held`: all of it.
+-- `Adding`: what `add_cells` answers.
 use Prim.Native.Nat.{ℕ, _+_, _*_, _≤_, _<_}
 use mathlib.Core.Path.{_≡_}
 use mathlib.Core.List.{List, []}

@@ -1,4 +1,8 @@
 -- The contracts of the parts of `add_cells`: what each needs, what it leaves in the area, and what its answer means.
+-- `place_face`: `Placeable`, `Grew`, `Placing`. `add_face`: `FaceReady`, `Listed`, `addFaceAt`, `FaceAdding`.
+-- `add_faces`: `FacesReady`, `addFaces`, `FacesAdding`. `growingIn`: the table and a cell's list, in the area.
+-- `put_cell`: `CellPut`. `fill_cell`: `CellReady`, `CellStored`, `CellFilling`. `new_cell`: `CellFinding`.
+-- `add_cell`: `CellTurn`, `CellAdding`. `fill_cells` and `add_cells`: `Filled`, `read`, `definedIn`, `Addable`.
 use Prim.Native.Nat.{ℕ, _+_, _-_, _*_, _≤_, _<_}
 use mathlib.Core.Path.{_≡_}
 use mathlib.Core.List.{List, [], _∷_, _++_}

@@ -1,4 +1,7 @@
 -- The contracts of the parts of `finish_cells`.
+-- `cellFrom`, `floatsOf`: a cell's floats. `geometryAt`: its geometry.
+-- `finish_record`: `RecordReady`, `RecordFinishing`. `finish_cell`: `CellReady`, `CellFinishing`.
+-- `finish_cells`: `firstCells`, `Going`.
 use Prim.Native.Nat.{ℕ, _+_, _-_, _*_, _≤_, _<_}
 use mathlib.Core.Path.{_≡_}
 use mathlib.Core.List.{List, [], _∷_, _++_}

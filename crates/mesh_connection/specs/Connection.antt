@@ -1,4 +1,8 @@
 -- `ensure_connected`: "17 not connected". Every cell can be reached from cell 0 over faces that two cells share.
+-- `someBelow`, `everyBelow`: of the numbers below n.
+-- `oneRound`, `rounds`, `connectedBy`: reached by rounds. `Reachable`: without counting them.
+-- `sidesAre`, `joins`, `share`, `connected`: over shared faces.
+-- `meets`, `connectedCells`: over the cells' neighbours.
 use Prim.Native.Nat.{ℕ, zero, suc, _<_}
 use mathlib.Core.Path.{_≡_}
 use mathlib.Core.Bool.{Bool, true, false, _&&_, _||_}

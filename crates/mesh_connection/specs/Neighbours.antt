@@ -1,4 +1,9 @@
 -- A cell's neighbours: the cells on the other side of its faces, "in face order".
+-- `otherOf`, `beyond`: the cell on the other side of a face.
+-- `addFound`, `addNeighbour`, `neighboursOf`: the neighbours of a cell.
+-- `linkedAt`, `linked`: the cells with their neighbours.
+-- `firstIn`, `countIn`, `Laid`: the cells' lists in the area.
+-- `Outside`, `Linked`: what `fill_neighbours` leaves.
 use Prim.Native.Nat.{ℕ, _+_, _*_, _≤_, _<_}
 use mathlib.Core.Path.{_≡_}
 use mathlib.Core.Bool.{cond}

@@ -1,4 +1,8 @@
 -- What the functions of this crate keep and promise of the words.
+-- `Beyond`, `Added`, `Crossed`, `neighboursIn`, `Written`, `Listed`: a cell's neighbour list, face by face.
+-- `visitedIn`, `queueIn`, `Cleared`: the flags and the queue.
+-- `Marked`, `Met`: one cell met. `countBelow`, `neighboursAt`: what is counted, and over what.
+-- `Placed`, `Queued`, `Searching`: the invariant. `Connected`: what `ensure_connected` promises.
 use Prim.Native.Nat.{ℕ, zero, suc, _+_, _*_, _<_, _≤_}
 use mathlib.Core.Path.{_≡_}
 use mathlib.Core.Bool.{Bool, true, false, cond}

@@ -1,6 +1,10 @@
 -- How the area holds the face table so that a face is found by its bucket.
 -- A face's bucket is the sum of its point numbers modulo F. The head of a bucket is its last face, + 1, or 0; the link of a face
 -- is the face before it in its bucket, + 1, or 0.
+-- `last`: the last number that passes.
+-- `bucketOf`, `inBucket`, `keyAt`: which bucket and which key a face has.
+-- `Chains`, `Chained`: the invariant, of words and of the area.
+-- `Searchable`: what a search needs.
 use Prim.Native.Nat.{ℕ, zero, suc, _*_, _%_, _<_, _≤_}
 use mathlib.Core.Path.{_≡_}
 use mathlib.Core.Bool.{Bool, true, false}

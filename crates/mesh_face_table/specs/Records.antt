@@ -1,4 +1,9 @@
 -- The record of a face in the lent area, and what is stored there.
+-- `Body`, `bodyOf`, `bodyIn`: the words of a face.
+-- `measuredOf`, `measuredIn`, `floatsOf`: the floats of a face.
+-- `faceOf`, `tableIn`: the face that they hold, and the first n faces.
+-- `headIn`: the head of a bucket.
+-- `fresh`, `joined`, `freshAt`: a face of one cell, of two, and the first of them stored.
 use Prim.Native.Nat.{ℕ, _+_, _*_}
 use mathlib.Core.List.{List, [], _∷_}
 use lib.ListN.{length, getD, take}

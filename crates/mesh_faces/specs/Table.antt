@@ -1,4 +1,8 @@
 -- The face table of `from_cells` as a list, and what the use of a face by a cell does to it.
+-- `hasKey`, `faceWithKey`: the face that has these numbers.
+-- `newFace`, `withNeighbour`: a face of one cell, and of two.
+-- `Grown`, `joining`, `settled`, `adding`: the table after the use of a face, and the answer.
+-- `Placed`, `placed`, `addFace`: the same, or refusal 14.
 use Prim.Native.Nat.{ℕ}
 use mathlib.Core.Bool.{Bool}
 use mathlib.Core.List.{List, [], _∷_, _++_}

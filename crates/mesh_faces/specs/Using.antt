@@ -1,4 +1,9 @@
 -- What the use of a face by a cell asks and leaves.
+-- `Ready`, `Extended`: what `add` needs and leaves.
+-- `wordsAfter`, `floatsAfter`, `after`, `storedAt`: the area after an answer.
+-- `Settled`: what `settle` leaves.
+-- `sized`: the sizes with another number of faces.
+-- `Usable`, `Used`: what `use_face` needs and leaves.
 use Prim.Native.Nat.{ℕ, _+_, _*_, _<_, _≤_}
 use mathlib.Core.Path.{_≡_}
 use mathlib.Core.List.{List, [], _∷_, _++_}

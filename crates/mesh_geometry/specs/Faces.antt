@@ -1,4 +1,10 @@
 -- What one face of a cell is: mesh.rs's `unique_vertices`, `average_point`, `face_area_vector` and `oriented_face`.
+-- `insertNew`, `rising`: the distinct point numbers of a cell.
+-- `addPoint`, `average`: the average of points.
+-- `turnedEdge`, `addCross`, `vectorIn`, `areaVector`: the area vector of a face.
+-- `enough`, `longEnough`, `faceAreaVector`: the same, or refusal 13.
+-- `Oriented`, `faceWith`, `measured`: a face as its vertices stand.
+-- `inward`, `turnedIf`, `orientedFace`, `leftOrder`: a face turned outward.
 use Prim.Native.Nat.{ℕ}
 use mathlib.Core.Bool.{Bool, true, false, cond}
 use mathlib.Core.List.{List, [], _∷_, reverse}

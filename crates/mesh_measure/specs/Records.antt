@@ -1,4 +1,7 @@
 -- The words of the contracts.
+-- `Points`: the bytes hold the points. `facesAt`: the faces of a record.
+-- `FaceTaken`, `NextFace`: a face, and the next one.
+-- `EdgeAdded`, `FanAdded`, `fansOf`: what an edge or a face adds.
 use Prim.Native.Nat.{ℕ, _+_, _*_, _≤_, _<_}
 use mathlib.Core.Path.{_≡_}
 use mathlib.Core.List.{List}

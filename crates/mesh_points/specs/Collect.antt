@@ -1,4 +1,7 @@
 -- What `from_cells` asks of a cell before its faces: refusals 11 and 12, and the average of its points.
+-- `wrongKind`: 11. `missing`: 12. `referenceOf`: the average.
+-- `insertBelow`, `numbersIn`, `countOf`, `Collecting`: the numbers, one after another.
+-- `checked`, `referenceCase`: the three together, and what the answer stands for.
 use Prim.Native.Nat.{ℕ, _≤_}
 use mathlib.Core.Path.{_≡_}
 use mathlib.Core.Bool.{Bool, not, _||_}

@@ -1,4 +1,9 @@
 -- mesh.rs's `cell_geometry`: a cell's centre and its area or volume, from the triangles or tetrahedra about its average.
+-- `weightless`, `addPart`: the sums.
+-- `doubled`, `addTriangle`, `centre2D`: a cell in 2D.
+-- `sixth`, `addVolume`, `addTetrahedron`, `addFan`, `fanOf`, `addFace3D`, `centre3D`: a cell in 3D.
+-- `geometryIn`, `cellGeometry`: a cell, by dimension.
+-- `cellOf`: what an answer means.
 use Prim.Native.Nat.{ℕ}
 use mathlib.Core.Bool.{Bool, true, false, cond}
 use mathlib.Core.List.{List, [], _∷_}
