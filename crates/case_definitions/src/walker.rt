@@ -1,6 +1,6 @@
-// The walker over the definition words, which are the bytes `words`. `step` and `word_at` do the work, on a position by value; `start`,
-// `past`, `head` and `word_of` are thin functions over a struct that holds the words and a position. Definitions are read by
-// `record_at` and `word`.
+// The walker over the definition words, which are the bytes `words`. `step` and `word_at` do the
+// work, on a position by value; `start`, `past`, `head` and `word_of` are thin functions over a
+// struct that holds the words and a position. Definitions are read by `record_at` and `word`.
 use crate::Cursor;
 use crate::Head;
 use crate::Listed;
