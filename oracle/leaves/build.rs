@@ -3,7 +3,7 @@ use std::path::Path;
 
 fn main() {
     let folder = Path::new(env!("CARGO_MANIFEST_DIR")).join("../../target/staticlib");
-    let archive = folder.join("libarith_exports.a");
+    let archive = folder.join("libtest_arith_exports.a");
     println!("cargo::rerun-if-changed={}", archive.display());
     if !archive.exists() {
         println!(
