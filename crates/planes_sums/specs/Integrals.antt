@@ -1,5 +1,5 @@
 -- `plane_integrals::sample`. Refusals 42 and 43. The Rust passes over a polygon of fewer than three vertices; none comes, since a piece has three
--- points or more (`pieceAbout`, crates/sections/specs/Intersect.antt).
+-- points or more (`pieceAbout`, crates/planes_sections/specs/Intersect.antt).
 use Prim.Native.Nat.{ℕ}
 use mathlib.Core.Bool.{Bool, not, cond, _&&_, _||_}
 use mathlib.Core.List.{List, [], _∷_}

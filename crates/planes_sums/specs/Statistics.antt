@@ -1,5 +1,5 @@
 -- `section_statistics_csv` before formatting. Refusals 40 and 41. The Rust passes over a polygon of fewer than three vertices; none comes, since a
--- piece has three points or more (`pieceAbout`, crates/sections/specs/Intersect.antt).
+-- piece has three points or more (`pieceAbout`, crates/planes_sections/specs/Intersect.antt).
 use Prim.Native.Nat.{ℕ, suc}
 use mathlib.Core.Bool.{Bool, true, false, not, cond, _&&_, _||_}
 use mathlib.Core.List.{List, [], _∷_}

@@ -1,4 +1,4 @@
--- `case_refusals::read` is safe: a case that opened has its definition words. Assumes nothing.
+-- `test_case_refusals::read` is safe: a case that opened has its definition words. Assumes nothing.
 use mathlib.Core.Path.{sym, _∙_}
 use borrow.Author.Needs.{needs}
 use native.Mathlib.Omega.{arith}

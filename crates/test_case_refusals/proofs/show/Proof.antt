@@ -1,4 +1,4 @@
--- `case_refusals::show` is safe: what `piece` and `assemble` answer lies within the room. Assumes nothing.
+-- `test_case_refusals::show` is safe: what `piece` and `assemble` answer lies within the room. Assumes nothing.
 use borrow.Author.Needs.{needs}
 use native.Mathlib.Omega.{arith}
 use lib.ListN.{length-take}

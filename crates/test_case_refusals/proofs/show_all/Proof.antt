@@ -1,4 +1,4 @@
--- `case_refusals::show_all` is safe and ends. The measure is the number of cases that are left. Assumes nothing.
+-- `test_case_refusals::show_all` is safe and ends. The measure is the number of cases that are left. Assumes nothing.
 use Prim.Native.Nat.{ℕ, _-_}
 use mathlib.Core.Path.{sym}
 use native.Mathlib.Omega.{arith}

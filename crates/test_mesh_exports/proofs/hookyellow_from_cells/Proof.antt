@@ -1,4 +1,4 @@
--- `mesh_exports::hookyellow_from_cells`: the answer of `from_cells` by its number, and its sizes. Assumes nothing.
+-- `test_mesh_exports::hookyellow_from_cells`: the answer of `from_cells` by its number, and its sizes. Assumes nothing.
 use native.Mathlib.Omega.{arith}
 use lib.ListN.{length-set}
 use borrow.Author.Needs.{needs}

@@ -1,4 +1,4 @@
--- `mesh_tables::put_cell_table` is safe and ends. The measure is what is left. Assumes nothing.
+-- `test_mesh_tables::put_cell_table` is safe and ends. The measure is what is left. Assumes nothing.
 use Prim.Native.Nat.{_-_}
 use borrow.Author.Needs.{needs}
 use native.Mathlib.Omega.{arith}

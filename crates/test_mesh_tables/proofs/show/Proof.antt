@@ -1,4 +1,4 @@
--- `mesh_tables::show` is safe. Assumes nothing.
+-- `test_mesh_tables::show` is safe. Assumes nothing.
 use borrow.Author.Needs.{needs}
 use native.Mathlib.Omega.{arith}
 use lib.ListN.{length-take}

@@ -1,4 +1,4 @@
--- `mesh_tables::show_all` is safe and ends. The measure is what is left. Assumes nothing.
+-- `test_mesh_tables::show_all` is safe and ends. The measure is what is left. Assumes nothing.
 use Prim.Native.Nat.{ℕ, _-_}
 use native.Mathlib.Omega.{arith}
 use mathlib.Core.Path.{sym}

@@ -1,4 +1,4 @@
--- `mesh_tables::show_case` is safe: a mesh that was built stands in the area. Assumes nothing.
+-- `test_mesh_tables::show_case` is safe: a mesh that was built stands in the area. Assumes nothing.
 use borrow.Author.Needs.{needs}
 use Rattle.mesh.proofs.Laws.{building-mesh}
 use Rattle.test_mesh_tables.proofs.show_case.Statement.{statement}

@@ -1,4 +1,4 @@
--- `replay::fill_answers` is safe and ends. The measure is what is left. Assumes nothing.
+-- `test_replay::fill_answers` is safe and ends. The measure is what is left. Assumes nothing.
 use Prim.Native.Nat.{_-_}
 use mathlib.Core.Path.{_≡_}
 use borrow.Author.Needs.{needs}

@@ -1,4 +1,4 @@
--- `replay::hash_of_marks` is safe and ends. The measure is what is left. Assumes nothing.
+-- `test_replay::hash_of_marks` is safe and ends. The measure is what is left. Assumes nothing.
 use Prim.Native.Nat.{_-_}
 use native.Mathlib.Omega.{arith}
 use lib.ListN.{length}

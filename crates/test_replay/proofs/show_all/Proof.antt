@@ -1,4 +1,4 @@
--- `replay::show_all` is safe and ends. The measure is the number of pairs that are left. Assumes nothing.
+-- `test_replay::show_all` is safe and ends. The measure is the number of pairs that are left. Assumes nothing.
 use Prim.Native.Nat.{ℕ, _-_}
 use mathlib.Core.Path.{sym}
 use native.Mathlib.Omega.{arith}

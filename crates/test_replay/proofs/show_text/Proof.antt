@@ -1,4 +1,4 @@
--- `replay::show_text` is safe. Assumes nothing.
+-- `test_replay::show_text` is safe. Assumes nothing.
 use borrow.Author.Needs.{needs}
 use native.Mathlib.Omega.{arith}
 use lib.ListN.{length-take}

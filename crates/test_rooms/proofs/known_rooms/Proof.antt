@@ -1,4 +1,4 @@
--- `rooms::known_rooms`: the table of the starred rooms. Assumes nothing.
+-- `test_rooms::known_rooms`: the table of the starred rooms. Assumes nothing.
 use Rattle.test_rooms.specs.Starred.{starred}
 use Rattle.test_rooms.proofs.known_rooms.Statement.{statement}
 use Rattle.test_rooms.proofs.known_rooms.Tie as tie

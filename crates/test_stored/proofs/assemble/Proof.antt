@@ -1,4 +1,4 @@
--- `stored::assemble` meets its contract. The measure is the number of pieces that are left. Assumes nothing.
+-- `test_stored::assemble` meets its contract. The measure is the number of pieces that are left. Assumes nothing.
 use Prim.Native.Nat.{_≤_, _-_}
 use mathlib.Core.Path.{_≡_}
 use borrow.Author.Needs.{needs}

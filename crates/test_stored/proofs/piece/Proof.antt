@@ -1,4 +1,4 @@
--- `stored::piece`: the bytes stand from `from` on, and are repeated up to the end. Assumes nothing.
+-- `test_stored::piece`: the bytes stand from `from` on, and are repeated up to the end. Assumes nothing.
 use native.Mathlib.Omega.{arith}
 use borrow.Author.Needs.{needs}
 use Rattle.test_stored.proofs.PieceLaws.{added}

@@ -1,4 +1,4 @@
--- `stored::repeat`: what is left to repeat, from the room as it is, gives the whole. The measure is what is left up to the end. Assumes nothing.
+-- `test_stored::repeat`: what is left to repeat, from the room as it is, gives the whole. The measure is what is left up to the end. Assumes nothing.
 use Prim.Native.Nat.{_≤_, _-_}
 use mathlib.Core.Path.{_≡_}
 use borrow.Author.Needs.{needs}

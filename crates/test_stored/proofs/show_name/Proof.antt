@@ -1,4 +1,4 @@
--- `stored::show_name`: where the name stands. Assumes nothing.
+-- `test_stored::show_name`: where the name stands. Assumes nothing.
 use borrow.Author.Needs.{needs}
 use native.Mathlib.Omega.{arith}
 use lib.ListN.{length-take}

@@ -1,4 +1,4 @@
--- `definitions::face_lists::copy_face` meets its contract. Assumes nothing.
+-- `case_definitions::face_lists::copy_face` meets its contract. Assumes nothing.
 use mathlib.Core.Path.{refl}
 use native.Mathlib.Omega.{arith}
 use Rattle.case_definitions.specs.Faces.{tetrahedron, hexahedron, prism, pyramid}

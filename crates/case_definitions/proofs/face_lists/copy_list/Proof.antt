@@ -1,4 +1,4 @@
--- `definitions::face_lists::copy_list` meets its contract. Assumes nothing.
+-- `case_definitions::face_lists::copy_list` meets its contract. Assumes nothing.
 use Prim.Native.Nat.{_+_, _-_, _≤_}
 use borrow.Author.Needs.{needs}
 use lib.ListN.{length, take, drop, length-set, length-drop}

@@ -1,4 +1,4 @@
--- `definitions::face_lists::copy_places` meets its contract. Assumes nothing.
+-- `case_definitions::face_lists::copy_places` meets its contract. Assumes nothing.
 use native.Mathlib.Omega.{arith}
 use borrow.Author.Needs.{needs}
 use Rattle.case_definitions.proofs.FaceLaws.{three-room, four-room, last-room, three-copied, four-copied}

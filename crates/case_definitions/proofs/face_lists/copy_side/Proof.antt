@@ -1,4 +1,4 @@
--- `definitions::face_lists::copy_side` meets its contract. Assumes nothing.
+-- `case_definitions::face_lists::copy_side` meets its contract. Assumes nothing.
 use native.Mathlib.Omega.{arith}
 use Rattle.case_definitions.proofs.FaceLaws.{side-of-polygon, side-copied}
 use Rattle.case_definitions.proofs.face_lists.copy_side.Statement.{statement}

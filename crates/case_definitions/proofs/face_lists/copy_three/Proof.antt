@@ -1,4 +1,4 @@
--- `definitions::face_lists::copy_three` meets its contract. Assumes nothing.
+-- `case_definitions::face_lists::copy_three` meets its contract. Assumes nothing.
 use native.Mathlib.Omega.{arith}
 use Rattle.case_definitions.proofs.face_lists.copy_three.Statement.{statement}
 use Rattle.case_definitions.proofs.face_lists.copy_three.Tie as tie

@@ -1,4 +1,4 @@
--- `definitions::face_lists::number_at` meets its contract. Assumes nothing.
+-- `case_definitions::face_lists::number_at` meets its contract. Assumes nothing.
 use native.Mathlib.Omega.{arith}
 use Rattle.case_file.proofs.ReadLaws.{length-wordsIn}
 use Rattle.case_definitions.proofs.face_lists.number_at.Statement.{statement}

@@ -1,4 +1,4 @@
--- `definitions::face_lists::place_after` meets its contract. Assumes nothing.
+-- `case_definitions::face_lists::place_after` meets its contract. Assumes nothing.
 use borrow.Author.Tests.{eq-eqb, ne-eqb}
 use native.Mathlib.Omega.{arith}
 use Rattle.arith.specs.Lists.{after}

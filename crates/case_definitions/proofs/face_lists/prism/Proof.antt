@@ -1,4 +1,4 @@
--- `definitions::face_lists::prism`: the rows of its table. Assumes nothing.
+-- `case_definitions::face_lists::prism`: the rows of its table. Assumes nothing.
 use mathlib.Core.Path.{_≡_}
 use native.Mathlib.Omega.{arith}
 use Rattle.case_definitions.specs.Faces.{prism}

@@ -1,4 +1,4 @@
--- `definitions::walker::head` meets its contract: a walk of its MIR, by hand. The struct is taken apart, and `step` is called on the slice and a cursor of the number. All that the proof knows of `step` is that it meets its contract.
+-- `case_definitions::walker::head` meets its contract: a walk of its MIR, by hand. The struct is taken apart, and `step` is called on the slice and a cursor of the number. All that the proof knows of `step` is that it meets its contract.
 -- The struct is Copy: what it owns is had twice, one copy is kept whole for the exit, and of the other what words owns goes to the callee, beside the lifetime's token, which comes back.
 -- Assumes nothing.
 use mathlib.Core.Path.{_≡_, refl}

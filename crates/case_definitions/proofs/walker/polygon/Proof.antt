@@ -1,4 +1,4 @@
--- `definitions::walker::polygon` meets its contract. Assumes nothing.
+-- `case_definitions::walker::polygon` meets its contract. Assumes nothing.
 use Prim.Native.Nat.{_+_}
 use borrow.Author.Needs.{needs}
 use mathlib.Core.Path.{sym, _∙_}

@@ -1,4 +1,4 @@
--- `definitions::walker::polyhedron` meets its contract. Assumes nothing.
+-- `case_definitions::walker::polyhedron` meets its contract. Assumes nothing.
 use borrow.Author.Needs.{needs}
 use mathlib.Core.Path.{sym, _∙_}
 use native.Mathlib.Omega.{arith}

@@ -1,4 +1,4 @@
--- `definitions::walker::skip_faces` meets its contract. Assumes nothing.
+-- `case_definitions::walker::skip_faces` meets its contract. Assumes nothing.
 use Prim.Native.Nat.{_-_, _≤_}
 use borrow.Author.Needs.{needs}
 use lib.ListN.{length, drop}

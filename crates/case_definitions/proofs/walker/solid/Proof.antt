@@ -1,4 +1,4 @@
--- `definitions::walker::solid` meets its contract. Assumes nothing.
+-- `case_definitions::walker::solid` meets its contract. Assumes nothing.
 use borrow.Author.Needs.{needs}
 use native.Mathlib.Omega.{arith}
 use Rattle.case_definitions.proofs.WalkLaws.{solid-short, solid-there}

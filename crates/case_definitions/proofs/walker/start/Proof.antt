@@ -1,4 +1,4 @@
--- `definitions::walker::start` meets its contract: a walk of its MIR, by hand. A `Walker` is made of the slice passed and 0, in the result's local.
+-- `case_definitions::walker::start` meets its contract: a walk of its MIR, by hand. A `Walker` is made of the slice passed and 0, in the result's local.
 -- A `&[u8]` is Copy, so what it owns is had twice: once for words at exit, and once inside the result, beside the facts of at.
 -- Assumes nothing.
 use mathlib.Core.Path.{refl}

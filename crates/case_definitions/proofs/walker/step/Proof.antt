@@ -1,4 +1,4 @@
--- `definitions::walker::step` meets its contract. Assumes nothing.
+-- `case_definitions::walker::step` meets its contract. Assumes nothing.
 use borrow.Author.Needs.{needs}
 use native.Mathlib.Omega.{arith}
 use Rattle.case_definitions.proofs.WalkLaws.{step-end, step-unknown, solid-1, solid-2, solid-3, solid-4}

@@ -1,4 +1,4 @@
--- `definitions::walker::total` meets its contract. Assumes nothing.
+-- `case_definitions::walker::total` meets its contract. Assumes nothing.
 use mathlib.Core.Path.{sym}
 use native.Mathlib.Omega.{arith}
 use Rattle.case_file.proofs.ReadLaws.{length-wordsIn}

@@ -1,4 +1,4 @@
--- `definitions::walker::walk` meets its contract. Assumes nothing.
+-- `case_definitions::walker::walk` meets its contract. Assumes nothing.
 use Prim.Native.Nat.{_-_, _≤_}
 use borrow.Author.Needs.{needs}
 use lib.ListN.{length, drop}

@@ -1,4 +1,4 @@
--- `definitions::walker::word_at` meets its contract. Assumes nothing.
+-- `case_definitions::walker::word_at` meets its contract. Assumes nothing.
 use mathlib.Core.Path.{sym, _∙_}
 use native.Mathlib.Omega.{arith}
 use Rattle.case_file.proofs.ReadLaws.{length-wordsIn, word-there}

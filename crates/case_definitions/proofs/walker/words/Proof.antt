@@ -1,4 +1,4 @@
--- `definitions::walker::words` meets its contract. Assumes nothing.
+-- `case_definitions::walker::words` meets its contract. Assumes nothing.
 use borrow.Author.Needs.{needs}
 use native.Mathlib.Nat.{add-sub-cancel-left}
 use Rattle.case_file.specs.Trailer.{wordsFrom}

@@ -1,4 +1,4 @@
--- `casefile::trailer::counts` meets its contract. Assumes nothing.
+-- `case_file::trailer::counts` meets its contract. Assumes nothing.
 use borrow.Author.Needs.{needs}
 use Rattle.case_file.specs.Trailer.{countsOf}
 use Rattle.case_file.proofs.trailer.counts.Statement.{statement}

@@ -1,4 +1,4 @@
--- `casefile::trailer::has_parts` meets its contract. Assumes nothing.
+-- `case_file::trailer::has_parts` meets its contract. Assumes nothing.
 use borrow.Author.Needs.{needs}
 use Rattle.case_file.proofs.TrailerLaws.{wrong-start, wrong-words, wrong-velocities, wrong-pressures, right-offsets}
 use Rattle.case_file.proofs.trailer.has_parts.Statement.{statement}

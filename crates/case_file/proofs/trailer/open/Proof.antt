@@ -1,4 +1,4 @@
--- `casefile::trailer::open` meets its contract. Assumes nothing.
+-- `case_file::trailer::open` meets its contract. Assumes nothing.
 use borrow.Author.Needs.{needs}
 use borrow.Author.Tests.{not-true, not-false}
 use mathlib.Core.Path.{sym, _∙_}

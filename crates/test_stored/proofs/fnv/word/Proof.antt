@@ -1,4 +1,4 @@
--- `stored::fnv::word`: the bytes that are left, from the hash so far on, give the hash of all eight. Assumes nothing.
+-- `test_stored::fnv::word`: the bytes that are left, from the hash so far on, give the hash of all eight. Assumes nothing.
 use Prim.Native.Nat.{_-_, _≤_}
 use mathlib.Core.Path.{_≡_}
 use borrow.Author.Needs.{needs}
