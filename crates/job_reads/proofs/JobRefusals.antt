@@ -21,7 +21,8 @@ use Rattle.mesh_geometry.specs.declared.FaceGeometry.{FaceGeometry}
 use Rattle.mesh_faces.specs.declared.Added.{Added}
 use Rattle.mesh_faces.specs.declared.Added.the-variants as Added
 use Rattle.mesh_faces.specs.Table.{placed, addFace}
-use Rattle.mesh_cells.specs.Cells.{Draft, Drafts, addFaceOf, addCell, drafts}
+use Rattle.mesh_drafts.specs.Parts.{addFaceOf}
+use Rattle.mesh_cells.specs.Cells.{Draft, Drafts, addCell, drafts}
 use Rattle.mesh_centres.specs.Finish.{finished}
 use Rattle.mesh.specs.Mesh.{joined, acceptable, completed, filled, fromCells}
 use Rattle.mesh.specs.Case.{Surveyed-case, surveyOf, meshOf}

@@ -35,15 +35,16 @@ use Rattle.mesh_faces.proofs.AreaLaws.{chained-kept, faces-kept}
 use Rattle.mesh_points.specs.Collect.{wrongKind, missing, checked, referenceCase}
 use Rattle.mesh_points.specs.declared.Reference.{Reference}
 use Rattle.mesh_points.specs.declared.Reference.the-variants as Reference
-use Rattle.mesh_cells.specs.Cells.{Draft, Drafts, addFaceOf, addCell, drafts}
+use Rattle.mesh_drafts.specs.Parts.{addFaceOf, CellPut}
+use Rattle.mesh_drafts.specs.declared.NewCell.{NewCell}
+use Rattle.mesh_cells.specs.Cells.{Draft, Drafts, addCell, drafts}
 use Rattle.mesh_cells.specs.Drafting as Drafting
 use Rattle.mesh_cells.specs.Drafting.{cellWord, draftIn, draftsIn, Lists, Adding}
 use Rattle.mesh_cells.specs.Steps as Steps
-use Rattle.mesh_cells.specs.Steps.{growingIn, addFaces, Listed, FacesReady, FacesAdding, CellPut, CellReady, CellStored, CellFilling, CellFinding, Filled, read, definedIn, Addable, CellTurn, CellAdding}
+use Rattle.mesh_cells.specs.Steps.{growingIn, addFaces, Listed, FacesReady, FacesAdding, CellReady, CellStored, CellFilling, CellFinding, Filled, read, definedIn, Addable, CellTurn, CellAdding}
 use Rattle.mesh_cells.specs.declared.Drafted.{Drafted}
 use Rattle.mesh_cells.specs.declared.Drafted.the-variants as Drafted
 use Rattle.mesh_cells.specs.declared.Progress.{Progress}
-use Rattle.mesh_cells.specs.declared.NewCell.{NewCell}
 use Rattle.mesh_cells.specs.declared.CellFound.{CellFound}
 use Rattle.mesh_cells.specs.declared.CellFound.the-variants as CellFound
 use Rattle.mesh_cells.specs.declared.CellAdded.{CellAdded}

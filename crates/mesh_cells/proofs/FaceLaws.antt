@@ -1,4 +1,4 @@
--- One face of a cell, and all of them: what the parts of `place_face`, `add_face` and `add_faces` leave, put together. Assumes nothing.
+-- One face of a cell, and all of them: what the parts of `add_face` and `add_faces` leave, put together. Assumes nothing.
 use Prim.Native.Nat.{ℕ, _+_, _-_, _*_, _≤_, _<_}
 use native.Mathlib.Omega.{arith}
 use mathlib.Core.Path.{_≡_, refl, ap, ap₂, sym, _∙_}
@@ -9,7 +9,7 @@ use lib.Ieee.{Float}
 use Rattle.arith.specs.Records.{tab}
 use Rattle.arith.specs.declared.Vec3.{Vec3}
 use Rattle.arith.proofs.RecordLaws.{tab-next, tab-same}
-use Rattle.reading.specs.Result.{Result, refused, fine, _>>=_, steps}
+use Rattle.reading.specs.Result.{refused, fine, steps}
 use Rattle.reading.proofs.ResultLaws.{steps-next, steps-refused}
 use Rattle.case_definitions.specs.Faces.{facesOf}
 use Rattle.case_definitions.specs.Walker.{definitionAt, faceAt, AtFace, FaceCopied}
@@ -19,94 +19,19 @@ use Rattle.case_definitions.proofs.FaceLaws.{at-first}
 use Rattle.case_definitions.proofs.Walking.{head-faces}
 use Rattle.mesh_area.specs.declared.Sizes.{Sizes}
 use Rattle.mesh_area.specs.Layout.{LentWords, LentFloats, listAt, facesIn}
-use Rattle.mesh_area.proofs.LayoutLaws.{length-facesIn}
-use Rattle.mesh_geometry.specs.Faces.{orientedFace}
-use Rattle.mesh_geometry.specs.Answers.{faceOf, Turning}
-use Rattle.mesh_geometry.specs.declared.FaceGeometry.{FaceGeometry}
-use Rattle.mesh_geometry.specs.declared.TurnedFace.{TurnedFace}
-use Rattle.mesh_geometry.specs.declared.TurnedFace.the-variants as Turned
 use Rattle.mesh_points.proofs.CollectLaws.{copied-next}
-use Rattle.mesh_faces.specs.Table.{Placed, placed, addFace}
-use Rattle.mesh_faces.specs.Using.{sized, after, Usable, Used}
-use Rattle.mesh_faces.specs.declared.Added.{Added}
-use Rattle.mesh_faces.specs.declared.Added.the-variants.{New, Second, Third}
-use Rattle.mesh_faces.proofs.AnswerLaws.{new-number, second-number}
+use Rattle.mesh_faces.specs.Using.{sized}
 use Rattle.mesh_faces.proofs.AreaLaws.{chained-kept, faces-kept}
-use Rattle.mesh_cells.specs.Cells.{measuredFrom, Growing, addFaceOf}
+use Rattle.mesh_drafts.specs.Parts as Parts
+use Rattle.mesh_drafts.specs.Parts.{addFaceOf, Placeable, Grew, Placing}
+use Rattle.mesh_drafts.specs.declared.NewCell.{NewCell}
+use Rattle.mesh_drafts.specs.declared.FacePlaced.{FacePlaced}
+use Rattle.mesh_drafts.specs.declared.FacePlaced.the-variants as FacePlaced
 use Rattle.mesh_cells.specs.Steps as Steps
-use Rattle.mesh_cells.specs.Steps.{growingIn, Placeable, Grew, Placing, FaceReady, Listed, FaceAdding, FacesReady, addFaces, FacesAdding}
-use Rattle.mesh_cells.specs.declared.NewCell.{NewCell}
-use Rattle.mesh_cells.specs.declared.FacePlaced.{FacePlaced}
-use Rattle.mesh_cells.specs.declared.FacePlaced.the-variants as FacePlaced
+use Rattle.mesh_cells.specs.Steps.{growingIn, FaceReady, Listed, FaceAdding, FacesReady, addFaces, FacesAdding}
 use Rattle.mesh_cells.specs.declared.FaceAdded.{FaceAdded}
 use Rattle.mesh_cells.specs.declared.FaceAdded.the-variants as FaceAdded
 use Rattle.mesh_cells.specs.declared.Drafted.the-variants as Drafted
-
--- ---- `place_face`
-
-module _ (d : ℕ) (ps : List Vec3) (cell : NewCell) (s : Sizes) (words : List ℕ) (floats : List Float) (vertices vertices′ : List ℕ) (r : TurnedFace)
-    (t : Turning d ps (cell .reference) vertices vertices′ r) where
-  pub place-degenerate : r ≡ Turned.Degenerate → Placing d ps cell s words words floats floats vertices (FacePlaced.Refused 13)
-  unfolding addFaceOf faceOf _>>=_
-  place-degenerate e =
-      let o : orientedFace d ps (cell .reference) vertices ≡ refused 13 = sym (t .face) ∙ ap (faceOf vertices′) e in
-      Steps.Placing.refusing 13 (λ g eg. rw o)
-
-  module _ (g : FaceGeometry) (e : r ≡ Turned.Face g) (words′ : List ℕ) (floats′ : List Float) (a : Added) (u : Used s words words′ floats floats′ vertices′ g (cell .number) a) where
-    abbrev own : Growing → Placed → Result Growing
-    own w p = fine (record { faces = p .faces; own = w .own ++ p .number ∷ [] })
-
-    whole : (w : Growing) → w .faces ≡ facesIn s words floats
-        → addFaceOf d ps (cell .number) (cell .reference) w vertices ≡ (placed a (facesIn (sized s (after a (s .faces))) words′ floats′) >>= own w)
-    unfolding addFaceOf faceOf measuredFrom addFace _>>=_
-    whole w ew =
-        let o : orientedFace d ps (cell .reference) vertices ≡ faceOf vertices′ (Turned.Face g) = sym (t .face) ∙ ap (faceOf vertices′) e in
-        rw (o, ew, ← u .answer, ← u .faces)
-
-    pub place-new : (f : ℕ) → a ≡ New f → Placing d ps cell s words words′ floats floats′ vertices (FacePlaced.Face f (s .faces + 1))
-    unfolding placed _>>=_
-    place-new f ea =
-        let n = new-number (cell .number) (facesIn s words floats) f vertices′ g (sym ea ∙ u .answer) in
-        Steps.Placing.placed f _ (λ l. rw ea at (whole (record { faces = facesIn s words floats; own = l }) refl))
-        (record {
-          chained = rw ea at (u .chained);
-          more = omega arith;
-          number = omega (arith, length-facesIn s words floats);
-          words-kept = u .words-kept;
-          floats-kept = u .floats-kept;
-        })
-
-    pub place-second : (f : ℕ) → a ≡ Second f → Placing d ps cell s words words′ floats floats′ vertices (FacePlaced.Face f (s .faces))
-    unfolding placed _>>=_
-    place-second f ea =
-        let n = second-number (cell .number) (facesIn s words floats) f vertices′ g (sym ea ∙ u .answer) in
-        Steps.Placing.placed f _ (λ l. rw ea at (whole (record { faces = facesIn s words floats; own = l }) refl))
-        (record {
-          chained = rw ea at (u .chained);
-          more = omega arith;
-          number = omega (arith, length-facesIn s words floats);
-          words-kept = u .words-kept;
-          floats-kept = u .floats-kept;
-        })
-
-    pub place-third : a ≡ Third → Placing d ps cell s words words′ floats floats′ vertices (FacePlaced.Refused 14)
-    unfolding placed _>>=_
-    place-third ea = Steps.Placing.refusing 14 (λ w ew. rw ea at (whole w ew))
-
--- what the table asks of a face that is turned
-pub usable : (s : Sizes) (words : List ℕ) (floats : List Float) (vertices vertices′ : List ℕ) (cell : NewCell) → Placeable s words floats vertices cell → length vertices′ ≡ length vertices
-    → Usable s words floats vertices′ (cell .number)
-usable s words floats vertices vertices′ cell p e =
-    record {
-      lent-words = p .lent-words;
-      lent-floats = p .lent-floats;
-      chained = p .chained;
-      space = p .space;
-      short = omega (arith, p .short);
-      cells-few = p .cells-few;
-    }
-
-pub ruleset places = (usable, place-degenerate, place-new, place-second, place-third)
 
 -- ---- `add_face`
 
@@ -140,8 +65,8 @@ module _ (ws : List ℕ) (s : Sizes) (words : List ℕ) (floats : List Float) (c
   module _ (d : ℕ) (ps : List Vec3) (words₁ : List ℕ) (floats′ : List Float) where
     pub face-refused : (r : FacePlaced) (k : ℕ) → Placing d ps cell s words words₁ floats floats′ (take count vs) r → r ≡ FacePlaced.Refused k
         → FaceAdding d ps ws cell s words words₁ floats floats′ c (FaceAdded.Refused k)
-    face-refused r k (Steps.Placing.placed j m e g) q = absurd (let z : _≡_ {A = ℕ} 0 1 = cc in omega arith)
-    face-refused r k (Steps.Placing.refusing j e) q =
+    face-refused r k (Parts.Placing.placed j m e g) q = absurd (let z : _≡_ {A = ℕ} 0 1 = cc in omega arith)
+    face-refused r k (Parts.Placing.refusing j e) q =
         let z : j ≡ k = cc in
         Steps.FaceAdding.refusing k (rw (← z, ← f .front) (e (growingIn s words floats (cell .first) (c .face)) refl))
 
@@ -190,18 +115,18 @@ module _ (ws : List ℕ) (s : Sizes) (words : List ℕ) (floats : List Float) (c
     pub face-added : (r : FacePlaced) (i n x : ℕ) → Placing d ps cell s words words₁ floats floats′ (take count vs) r → r ≡ FacePlaced.Face i n → x ≡ i
         → length words₁ ≡ length words → length floats′ ≡ length floats
         → FaceAdding d ps ws cell s words (set words₁ (13 * s .slots + cell .first + c .face) x) floats floats′ c (FaceAdded.Next next n)
-    face-added r i n x (Steps.Placing.placed j m e g) q ex lw lf =
+    face-added r i n x (Parts.Placing.placed j m e g) q ex lw lf =
         let a : j ≡ i = cc in
         let b : m ≡ n = cc in
         face-next i n x ex (rw (a, b) at e) (rw (a, b) at g) lw lf
-    face-added r i n x (Steps.Placing.refusing j e) q ex lw lf = absurd (let z : _≡_ {A = ℕ} 0 1 = cc in omega arith)
+    face-added r i n x (Parts.Placing.refusing j e) q ex lw lf = absurd (let z : _≡_ {A = ℕ} 0 1 = cc in omega arith)
 
 -- the number of a face is a word
 pub face-number : (d : ℕ) (ps : List Vec3) (cell : NewCell) (s : Sizes) (words words₁ : List ℕ) (floats floats′ : List Float) (vertices : List ℕ) (r : FacePlaced) (i n : ℕ)
     → Placing d ps cell s words words₁ floats floats′ vertices r → r ≡ FacePlaced.Face i n → s .faces < s .slots → s .slots ≤ 1048576 → i < 4294967296
-face-number d ps cell s words words₁ floats floats′ vertices r i n (Steps.Placing.placed j m e g) q few slots =
+face-number d ps cell s words words₁ floats floats′ vertices r i n (Parts.Placing.placed j m e g) q few slots =
     let a : j ≡ i = cc in omega (arith, g .number, g .more)
-face-number d ps cell s words words₁ floats floats′ vertices r i n (Steps.Placing.refusing j e) q few slots = absurd (let z : _≡_ {A = ℕ} 0 1 = cc in omega arith)
+face-number d ps cell s words words₁ floats floats′ vertices r i n (Parts.Placing.refusing j e) q few slots = absurd (let z : _≡_ {A = ℕ} 0 1 = cc in omega arith)
 
 -- ---- `add_faces`
 

@@ -1,6 +1,4 @@
 -- The first pass of `from_cells`, cell by cell: "11 to 14 cell by cell: 11, then 12, then face by face 13 and 14".
--- `measuredFrom`: the geometry of a face that is turned outward.
--- `Growing`, `addFaceOf`: the faces of a cell, one after another.
 -- `Draft`, `Drafts`: a cell before its centre is known, and the table with the cells so far.
 -- `addCell`, `drafts`: one cell more, and all of them.
 use Prim.Native.Nat.{ℕ}
@@ -10,26 +8,8 @@ use Rattle.arith.specs.declared.Vec3.{Vec3}
 use Rattle.reading.specs.Result.{Result, fine, _>>=_, refuse, steps}
 use Rattle.case_definitions.specs.Faces.{Definition, facesOf}
 use Rattle.mesh_area.specs.Tables.{Face}
-use Rattle.mesh_geometry.specs.Faces.{Oriented, orientedFace}
 use Rattle.mesh_points.specs.Collect.{wrongKind, missing, referenceOf}
-use Rattle.mesh_geometry.specs.declared.FaceGeometry.{FaceGeometry}
-use Rattle.mesh_faces.specs.Table.{Placed, addFace}
-
--- what was measured of a face that is turned outward
-unfoldable pub measuredFrom : Oriented → FaceGeometry
-measuredFrom o = record { centre = o .centre; area = o .area; normal = o .normal; «area_vector» = o .areaVector }
-
--- the face table, and the numbers of the present cell's faces so far
-pub record Growing : Type 0 where
-  pub faces : List Face
-  pub own : List ℕ
-
--- refusals 13 and 14, "face by face"
-unfoldable pub addFaceOf : ℕ → List Vec3 → ℕ → Vec3 → Growing → List ℕ → Result Growing
-addFaceOf d ps cell reference g l =
-    orientedFace d ps reference l >>= λ o.
-    addFace cell (o .vertices) (measuredFrom o) (g .faces) >>= λ p.
-    fine (record { faces = p .faces; own = g .own ++ p .number ∷ [] })
+use Rattle.mesh_drafts.specs.Parts.{addFaceOf}
 
 -- a cell before its centre is known: its definition, the numbers of its faces, and the average of its points
 pub record Draft : Type 0 where

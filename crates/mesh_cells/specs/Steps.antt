@@ -1,7 +1,7 @@
 -- The contracts of the parts of `add_cells`: what each needs, what it leaves in the area, and what its answer means.
--- `place_face`: `Placeable`, `Grew`, `Placing`. `add_face`: `FaceReady`, `Listed`, `addFaceAt`, `FaceAdding`.
+-- `add_face`: `FaceReady`, `Listed`, `addFaceAt`, `FaceAdding`.
 -- `add_faces`: `FacesReady`, `addFaces`, `FacesAdding`. `growingIn`: the table and a cell's list, in the area.
--- `put_cell`: `CellPut`. `fill_cell`: `CellReady`, `CellStored`, `CellFilling`. `new_cell`: `CellFinding`.
+-- `fill_cell`: `CellReady`, `CellStored`, `CellFilling`. `new_cell`: `CellFinding`.
 -- `add_cell`: `CellTurn`, `CellAdding`. `fill_cells` and `add_cells`: `Filled`, `read`, `definedIn`, `Addable`.
 use Prim.Native.Nat.{ℕ, _+_, _-_, _*_, _≤_, _<_}
 use mathlib.Core.Path.{_≡_}
@@ -9,7 +9,6 @@ use mathlib.Core.List.{List, [], _∷_, _++_}
 use lib.ListN.{length, getD, drop}
 use lib.Ieee.{Float}
 use Rattle.arith.specs.Lists.{fold}
-use Rattle.arith.specs.Records.{puts}
 use Rattle.arith.specs.declared.Vec3.{Vec3}
 use Rattle.reading.specs.Result.{Result, refused, fine, steps}
 use Rattle.case_definitions.specs.Faces.{Definition, facesOf, addFaceCount, facesCounted}
@@ -25,16 +24,15 @@ use Rattle.mesh_area.specs.Layout.{LentWords, LentFloats, listAt, vecFrom, face
 use Rattle.mesh_face_table.specs.Chains.{Chained}
 use Rattle.mesh_faces.specs.Using.{sized}
 use Rattle.mesh_points.specs.Collect.{checked}
-use Rattle.mesh_cells.specs.Cells.{Growing, addFaceOf, addCell, drafts}
+use Rattle.mesh_drafts.specs.Parts.{Growing, addFaceOf}
+use Rattle.mesh_drafts.specs.declared.NewCell.{NewCell}
+use Rattle.mesh_cells.specs.Cells.{addCell, drafts}
 use Rattle.mesh_cells.specs.Drafting.{cellWord, draftsIn, Lists}
-use Rattle.mesh_cells.specs.declared.FacePlaced.{FacePlaced}
-use Rattle.mesh_cells.specs.declared.FacePlaced.the-variants as FacePlaced
 use Rattle.mesh_cells.specs.declared.FaceAdded.{FaceAdded}
 use Rattle.mesh_cells.specs.declared.FaceAdded.the-variants as FaceAdded
 use Rattle.mesh_cells.specs.declared.Drafted.{Drafted}
 use Rattle.mesh_cells.specs.declared.Drafted.the-variants as Drafted
 use Rattle.mesh_cells.specs.declared.Progress.{Progress}
-use Rattle.mesh_cells.specs.declared.NewCell.{NewCell}
 use Rattle.mesh_cells.specs.declared.CellFound.{CellFound}
 use Rattle.mesh_cells.specs.declared.CellFound.the-variants as CellFound
 use Rattle.mesh_cells.specs.declared.CellAdded.{CellAdded}
@@ -45,31 +43,6 @@ use Rattle.mesh_cells.specs.declared.CellAdded.the-variants as CellAdded
 -- the table, and the first k numbers of the cell whose list starts at `first`
 abbrev pub growingIn : Sizes → List ℕ → List Float → ℕ → ℕ → Growing
 growingIn s words floats first k = record { faces = facesIn s words floats; own = listAt words (13 * s .slots + first) k }
-
--- a face with these numbers can be placed for a cell
-pub record Placeable (s : Sizes) (words : List ℕ) (floats : List Float) (vertices : List ℕ) (cell : NewCell) : Type 0 where
-  pub lent-words : LentWords s words
-  pub lent-floats : LentFloats s floats
-  pub chained : Chained s words
-  pub space : s .faces < s .slots
-  pub short : length vertices ≤ 8
-  pub cells-few : cell .number < 16384
-
--- the table has n faces, face f among them, and nothing after it has changed
-pub record Grew (s : Sizes) (words words′ : List ℕ) (floats floats′ : List Float) (f n : ℕ) : Type 0 where
-  pub chained : Chained (sized s n) words′
-  pub more : n ≤ s .faces + 1
-  pub number : f < n
-  pub words-kept : drop (13 * s .slots) words′ ≡ drop (13 * s .slots) words
-  pub floats-kept : drop (12 * s .slots) floats′ ≡ drop (12 * s .slots) floats
-
--- `place_face`: the face's number and the number of faces, or refusal 13 or 14
-pub data Placing (d : ℕ) (ps : List Vec3) (cell : NewCell) (s : Sizes) (words words′ : List ℕ) (floats floats′ : List Float) (vertices : List ℕ) : FacePlaced → Type 0 where
-  placed : (f n : ℕ) → ((own : List ℕ) → addFaceOf d ps (cell .number) (cell .reference) (record { faces = facesIn s words floats; own = own }) vertices
-      ≡ fine (record { faces = facesIn (sized s n) words′ floats′; own = own ++ f ∷ [] }))
-      → Grew s words words′ floats floats′ f n → Placing d ps cell s words words′ floats floats′ vertices (FacePlaced.Face f n)
-  refusing : (k : ℕ) → ((g : Growing) → g .faces ≡ facesIn s words floats → addFaceOf d ps (cell .number) (cell .reference) g vertices ≡ refused k)
-      → Placing d ps cell s words words′ floats floats′ vertices (FacePlaced.Refused k)
 
 -- ---- the faces of one cell
 
@@ -129,11 +102,6 @@ pub data FacesAdding (d : ℕ) (ps : List Vec3) (ws : List ℕ) (cell : NewCell)
   refusing : (k : ℕ) → addFaces d ps ws cell (facesIn s words floats) ≡ refused k → FacesAdding d ps ws cell s words words′ floats floats′ (Drafted.Refused k)
 
 -- ---- one cell
-
--- `put_cell`: the record of cell i
-pub record CellPut (s : Sizes) (words words′ : List ℕ) (floats floats′ : List Float) (i at first count : ℕ) (reference : Vec3) : Type 0 where
-  pub words-put : words′ ≡ puts words (16 * s .slots + 8 * i) (at ∷ first ∷ count ∷ 0 ∷ [])
-  pub floats-put : floats′ ≡ puts floats (12 * s .slots + 4 * i) (reference .x ∷ reference .y ∷ reference .z ∷ [])
 
 -- the words and the area are as cell i needs them
 pub record CellReady (ws : List ℕ) (s : Sizes) (words : List ℕ) (floats : List Float) (cell : NewCell) : Type 0 where

@@ -1,5 +1,4 @@
 // The first pass of from_cells: the face table and the cells as drafts, in the lent area.
-use arith::Vec3;
 use arith::number::narrow;
 use case_definitions::Cursor;
 use case_definitions::FaceCursor;
@@ -8,8 +7,8 @@ use case_definitions::Step;
 use case_definitions::face_lists;
 use case_definitions::walker;
 use mesh_area::Sizes;
-use mesh_faces::Added;
-use mesh_geometry::TurnedFace;
+use mesh_drafts::FacePlaced;
+use mesh_drafts::NewCell;
 use mesh_points::Reference;
 ghost use mathlib.Core.Path.{_≡_};
 ghost use mathlib.Core.List.{List};
@@ -23,17 +22,11 @@ ghost use Rattle.mesh_area.specs.Layout.{pointsIn};
 ghost use Rattle.mesh_face_table.specs.Chains.{Chained};
 ghost use Rattle.mesh_faces.specs.Using.{sized};
 ghost use Rattle.mesh_cells.specs.Drafting.{Adding};
-ghost use Rattle.mesh_cells.specs.Steps.{Placeable, Placing, FaceReady, FaceAdding, FacesReady, FacesAdding, CellPut, CellReady, CellFilling, CellFinding, Addable, CellTurn, CellAdding};
+ghost use Rattle.mesh_cells.specs.Steps.{FaceReady, FaceAdding, FacesReady, FacesAdding, CellReady, CellFilling, CellFinding, Addable, CellTurn, CellAdding};
 
 // The number of faces in the table, or the refusal.
 pub enum Drafted {
     Faces(usize),
-    Refused(u64),
-}
-
-// A face's number and the number of faces in the table, or the refusal.
-enum FacePlaced {
-    Face(usize, usize),
     Refused(u64),
 }
 
@@ -56,15 +49,6 @@ enum CellAdded {
     Refused(u64),
 }
 
-// A cell that is added: its number, the average of its points, its record, and where the list of
-// its faces' numbers starts.
-struct NewCell {
-    pub number: usize,
-    pub reference: Vec3,
-    pub head: Head,
-    pub first: usize,
-}
-
 // The cell and where the next record starts, or the refusal.
 enum CellFound {
     Cell(NewCell, Cursor),
@@ -72,35 +56,6 @@ enum CellFound {
 }
 
 // ---- the faces of a cell
-
-// A face of the cell, turned outward, is added to the table, or gets its second cell.
-fn place_face(
-    case: &[u8],
-    points: usize,
-    dimension: usize,
-    words: &mut [u32],
-    floats: &mut [f64],
-    s: Sizes,
-    cell: NewCell,
-    vertices: &mut [u32],
-) -> FacePlaced
-    requires { ⌜ Placeable s (now words) (now floats) (now vertices) cell × (points ≤ 65536)
-        × (24 * points ≤ length (now case)) ⌝ }
-    ensures { λ r. ⌜ Placing dimension (pointsIn (now (case .entry)) points) cell s (now (words .entry))
-        (now (words .exit)) (now (floats .entry)) (now (floats .exit)) (now (vertices .entry)) r ⌝ }
-{
-    let reference = cell.reference;
-    let turned = mesh_geometry::oriented_face(dimension, case, points, vertices, reference);
-    let TurnedFace::Face(g) = turned else {
-        return FacePlaced::Refused(13);
-    };
-    let added = mesh_faces::use_face(words, floats, s, cell.number, vertices, g);
-    match added {
-        Added::New(f) => FacePlaced::Face(f, s.faces + 1),
-        Added::Second(f) => FacePlaced::Face(f, s.faces),
-        Added::Third => FacePlaced::Refused(14),
-    }
-}
 
 // Face c of the record: its number goes to its place in the cell's list.
 fn add_face(
@@ -123,7 +78,7 @@ fn add_face(
     let h = cell.head;
     let copied = face_lists::copy_face(ws, h, c, &mut vertices);
     let count = copied.count;
-    let placed = place_face(
+    let placed = mesh_drafts::place_face(
         case,
         points,
         dimension,
@@ -183,33 +138,6 @@ fn add_faces(
 
 // ---- the cells
 
-// The record of cell i; the average stands where its centre will.
-fn put_cell(
-    words: &mut [u32],
-    floats: &mut [f64],
-    s: Sizes,
-    i: usize,
-    at: u32,
-    first: u32,
-    count: u32,
-    reference: Vec3,
-)
-    requires { ⌜ (s .slots ≤ 1048576) × (i < 16384) × (16 * s .slots + 8 * i + 8 ≤ length (now words))
-        × (12 * s .slots + 4 * i + 4 ≤ length (now floats)) ⌝ }
-    ensures { λ _. ⌜ CellPut s (now (words .entry)) (now (words .exit)) (now (floats .entry)) (now (floats .exit)) i at
-        first count reference ⌝ }
-{
-    let w = 16 * s.slots + 8 * i;
-    words[w] = at;
-    words[w + 1] = first;
-    words[w + 2] = count;
-    words[w + 3] = 0;
-    let f = 12 * s.slots + 4 * i;
-    floats[f] = reference.x;
-    floats[f + 1] = reference.y;
-    floats[f + 2] = reference.z;
-}
-
 // The cell with its faces.
 fn fill_cell(
     case: &[u8],
@@ -228,7 +156,7 @@ fn fill_cell(
 {
     let h = cell.head;
     let reference = cell.reference;
-    put_cell(
+    mesh_drafts::put_cell(
         words,
         floats,
         s,

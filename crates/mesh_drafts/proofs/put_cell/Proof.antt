@@ -2,8 +2,8 @@ use native.Mathlib.Omega.{arith}
 use mathlib.Core.Path.{refl}
 use lib.ListN.{length-set}
 use borrow.Author.Needs.{needs}
-use Rattle.mesh_cells.proofs.put_cell.Statement.{statement}
-use Rattle.mesh_cells.proofs.put_cell.Tie as tie
+use Rattle.mesh_drafts.proofs.put_cell.Statement.{statement}
+use Rattle.mesh_drafts.proofs.put_cell.Tie as tie
 
 slice-write-words-2 : tie.Need-slice-write-words-2
 slice-write-words-2 c = simp length-set (omega arith)

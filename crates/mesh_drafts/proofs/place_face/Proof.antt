@@ -1,8 +1,8 @@
 use native.Mathlib.Omega.{arith}
-use Rattle.mesh_cells.proofs.FaceLaws.{place-degenerate, place-new, place-second, place-third, usable}
+use Rattle.mesh_drafts.proofs.PlaceLaws.{place-degenerate, place-new, place-second, place-third, usable}
 use borrow.Author.Needs.{needs}
-use Rattle.mesh_cells.proofs.place_face.Statement.{statement}
-use Rattle.mesh_cells.proofs.place_face.Tie as tie
+use Rattle.mesh_drafts.proofs.place_face.Statement.{statement}
+use Rattle.mesh_drafts.proofs.place_face.Tie as tie
 
 returns : tie.Need-returns
 returns c = place-degenerate _ _ _ _ _ _ _ _ _ (c .before .before .before .before .oriented-face .ensures) (c .enum-told .given .1)
