@@ -1,4 +1,3 @@
 pub mod WalkLaws
 pub mod RecordLaws
-pub mod FaceLaws
 pub mod Walking

@@ -1,18 +1,15 @@
--- The words of the contracts of `step`, `walk` and `copy_face`'s helpers.
+-- The words of the contracts of the helpers of `step` and `walk`.
 -- `listed`, `listAt`, `skipped`: a counted run at a position.
 -- `KindAt`, `SolidAt`: which record stands at a position.
--- `tableOf`, `placesOf`: a face table, and a row of it.
 use Prim.Native.Nat.{ℕ, _+_, _-_, _<_, _≤_}
 use mathlib.Core.Path.{_≡_}
 use mathlib.Core.List.{List, [], _∷_}
 use lib.ListN.{length, getD, drop}
 use Rattle.reading.specs.Result.{Result, refused, fine}
-use Rattle.case_definitions.specs.Faces.{solid, tetrahedron, hexahedron, prism, pyramid}
+use Rattle.case_definitions.specs.Faces.{solid}
 use Rattle.case_definitions.specs.Definitions.{Taken, numbers, counted, made, definition}
 use Rattle.case_definitions.specs.declared.Listed.{Listed}
 use Rattle.case_definitions.specs.declared.Listed.the-variants.{Count, Bad}
-use Rattle.case_definitions.specs.declared.Places.{Places}
-use Rattle.case_definitions.specs.declared.Places.the-variants.{Three, Four}
 use Rattle.case_definitions.specs.declared.Skipped.{Skipped}
 use Rattle.case_definitions.specs.declared.Skipped.the-variants.{To, Short}
 
@@ -43,12 +40,3 @@ pub record SolidAt (ws : List ℕ) (at kind count faces : ℕ) : Type 0 where
   pub reads : definition (drop at ws) ≡ made (solid places) (numbers count (drop (at + 1) ws))
   pub all : faces ≡ length places
   pub few : count ≤ 8
-
--- the face table of a kind
-unfoldable pub tableOf : ℕ → List (List ℕ)
-tableOf kind = getD ([] ∷ tetrahedron ∷ hexahedron ∷ prism ∷ pyramid ∷ []) kind []
-
--- what each case of a table's row stands for
-unfoldable pub placesOf : Places → List ℕ
-placesOf (Three i j k) = i ∷ j ∷ k ∷ []
-placesOf (Four i j k l) = i ∷ j ∷ k ∷ l ∷ []

@@ -1,8 +1,7 @@
 -- The walker as the code has it: positions among the words ws, in the place of the words that are left.
 -- `firstOf`, `headOf`, `cursorAt`: a record's head and a position.
 -- `stepped`, `stepAt`: the record at a position. `walked`, `walkedFaces`: all of them.
--- `readOf`, `definitionAt`, `faceAt`, `faceFrom`: what stands there.
--- `Headed`, `AtFace`, `nextFace`, `FaceCopied`: a head, a face of it, and that face copied.
+-- `readOf`, `definitionAt`, `faceAt`: what stands there. `Headed`: its head.
 use Prim.Native.Nat.{ℕ, zero, suc, _+_, _-_, _≤_}
 use mathlib.Core.Path.{_≡_}
 use mathlib.Core.Bool.{cond}
@@ -14,7 +13,6 @@ use Rattle.case_definitions.specs.Faces.{Definition, polygon, solid, pol
 use Rattle.case_definitions.specs.Definitions.{Taken, definition}
 use Rattle.case_definitions.specs.declared.Cursor.{Cursor}
 use Rattle.case_definitions.specs.declared.Head.{Head}
-use Rattle.case_definitions.specs.declared.FaceCursor.{FaceCursor}
 use Rattle.case_definitions.specs.declared.Step.{Step}
 use Rattle.case_definitions.specs.declared.Step.the-variants.{Record, Wrong}
 use Rattle.case_definitions.specs.declared.Walked.{Walked}
@@ -68,31 +66,7 @@ definitionAt ws at = readOf (definition (drop at ws))
 unfoldable pub faceAt : List ℕ → ℕ → ℕ → List ℕ
 faceAt ws at k = getD (facesOf (definitionAt ws at)) k []
 
--- where face k starts, of the faces that start at `first`: each is a count and its numbers
-unfoldable pub faceFrom : List ℕ → ℕ → ℕ → ℕ
-faceFrom ws first zero = first
-faceFrom ws first (suc k) = let at = faceFrom ws first k in at + 1 + getD ws at 0
-
 -- h is the head of a right record
 pub record Headed (ws : List ℕ) (h : Head) : Type 0 where
   pub next : Cursor
   pub step : stepAt ws (h .at) ≡ Record h next
-
--- c is at a face of h, or after its last one
-pub record AtFace (ws : List ℕ) (h : Head) (c : FaceCursor) : Type 0 where
-  pub headed : Headed ws h
-  pub place : h .kind ≡ 5 → c .at ≡ faceFrom ws (h .first) (c .face)
-
--- the cursor after face c, which has n point numbers
-unfoldable pub nextFace : Head → FaceCursor → ℕ → FaceCursor
-nextFace h c n = record { face = c .face + 1; at = cond (eqb (h .kind) 5) (c .at + 1 + n) (c .at) }
-
--- the numbers of face c stand at the front of `out`, which was `out₀`, and `next` is at the next face
-pub record FaceCopied (ws : List ℕ) (h : Head) (c : FaceCursor) (out₀ out : List ℕ) (count : ℕ) (next : FaceCursor) : Type 0 where
-  pub copied : out ≡ faceAt ws (h .at) (c .face) ++ drop count out₀
-  pub front : take count out ≡ faceAt ws (h .at) (c .face)
-  pub counted : count ≡ length (faceAt ws (h .at) (c .face))
-  pub small : count ≤ 8
-  pub eight : length out ≡ 8
-  pub follows : next ≡ nextFace h c count
-  pub goes : AtFace ws h next

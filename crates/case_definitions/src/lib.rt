@@ -1,6 +1,5 @@
-// The definition words of a case: the walker over them, and the faces of each record. They are read
-// where they stand in the case bytes.
-pub mod face_lists;
+// The definition words of a case, and the walker over them. They are read where they stand in the case
+// bytes.
 pub mod walker;
 
 // A position among the definition words.
@@ -39,22 +38,4 @@ enum Listed {
 enum Skipped {
     To(usize),
     Short(u64),
-}
-
-// A face of a solid: its places among the cell's point numbers.
-enum Places {
-    Three(usize, usize, usize),
-    Four(usize, usize, usize, usize),
-}
-
-// A face of a record, by its number; `at` is where a polyhedron's face starts.
-pub struct FaceCursor {
-    pub face: usize,
-    pub at: usize,
-}
-
-// A face's point numbers were copied: how many, and the next face.
-pub struct Copied {
-    pub count: usize,
-    pub next: FaceCursor,
 }

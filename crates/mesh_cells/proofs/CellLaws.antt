@@ -24,7 +24,7 @@ use Rattle.case_definitions.specs.declared.Head.{Head}
 use Rattle.case_definitions.specs.declared.Cursor.{Cursor}
 use Rattle.case_definitions.specs.declared.Step.the-variants.{Record, Wrong}
 use Rattle.case_definitions.proofs.RecordLaws.{steps-to}
-use Rattle.case_definitions.proofs.FaceLaws.{headed}
+use Rattle.case_faces.proofs.FaceLaws.{headed}
 use Rattle.case_definitions.proofs.Walking.{length-definitions, never-wrong, CellRead, cell-read, head-faces}
 use Rattle.mesh_area.specs.declared.Sizes.{Sizes}
 use Rattle.mesh_area.specs.Layout.{listAt, vecFrom, facesIn, meshWords}

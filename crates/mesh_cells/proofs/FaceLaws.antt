@@ -12,10 +12,11 @@ use Rattle.arith.proofs.RecordLaws.{tab-next, tab-same}
 use Rattle.reading.specs.Result.{refused, fine, steps}
 use Rattle.reading.proofs.ResultLaws.{steps-next, steps-refused}
 use Rattle.case_definitions.specs.Faces.{facesOf}
-use Rattle.case_definitions.specs.Walker.{definitionAt, faceAt, AtFace, FaceCopied}
+use Rattle.case_definitions.specs.Walker.{definitionAt, faceAt}
+use Rattle.case_faces.specs.Copying.{AtFace, FaceCopied}
 use Rattle.case_definitions.specs.declared.Head.{Head}
-use Rattle.case_definitions.specs.declared.FaceCursor.{FaceCursor}
-use Rattle.case_definitions.proofs.FaceLaws.{at-first}
+use Rattle.case_faces.specs.declared.FaceCursor.{FaceCursor}
+use Rattle.case_faces.proofs.FaceLaws.{at-first}
 use Rattle.case_definitions.proofs.Walking.{head-faces}
 use Rattle.mesh_area.specs.declared.Sizes.{Sizes}
 use Rattle.mesh_area.specs.Layout.{LentWords, LentFloats, listAt, facesIn}

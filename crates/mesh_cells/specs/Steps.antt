@@ -13,11 +13,12 @@ use Rattle.arith.specs.declared.Vec3.{Vec3}
 use Rattle.reading.specs.Result.{Result, refused, fine, steps}
 use Rattle.case_definitions.specs.Faces.{Definition, facesOf, addFaceCount, facesCounted}
 use Rattle.case_definitions.specs.Definitions as Words
-use Rattle.case_definitions.specs.Walker.{definitionAt, faceAt, stepAt, Headed, AtFace}
+use Rattle.case_definitions.specs.Walker.{definitionAt, faceAt, stepAt, Headed}
+use Rattle.case_faces.specs.Copying.{AtFace}
 use Rattle.case_definitions.specs.declared.Cursor.{Cursor}
 use Rattle.case_definitions.specs.declared.Step.the-variants.{Record, Wrong}
 use Rattle.case_definitions.specs.declared.Head.{Head}
-use Rattle.case_definitions.specs.declared.FaceCursor.{FaceCursor}
+use Rattle.case_faces.specs.declared.FaceCursor.{FaceCursor}
 use Rattle.mesh_area.specs.declared.Sizes.{Sizes}
 use Rattle.mesh_area.specs.Tables.{Face}
 use Rattle.mesh_area.specs.Layout.{LentWords, LentFloats, listAt, vecFrom, facesIn}

@@ -1,11 +1,10 @@
 // The first pass of from_cells: the face table and the cells as drafts, in the lent area.
 use arith::number::narrow;
 use case_definitions::Cursor;
-use case_definitions::FaceCursor;
 use case_definitions::Head;
 use case_definitions::Step;
-use case_definitions::face_lists;
 use case_definitions::walker;
+use case_faces::FaceCursor;
 use mesh_area::Sizes;
 use mesh_drafts::FacePlaced;
 use mesh_drafts::NewCell;
@@ -76,7 +75,7 @@ fn add_face(
 {
     let mut vertices = [0u32; 8];
     let h = cell.head;
-    let copied = face_lists::copy_face(ws, h, c, &mut vertices);
+    let copied = case_faces::copy_face(ws, h, c, &mut vertices);
     let count = copied.count;
     let placed = mesh_drafts::place_face(
         case,
@@ -117,7 +116,7 @@ fn add_faces(
 {
     let h = cell.head;
     let mut n = s.faces;
-    let mut c = face_lists::first_face(h);
+    let mut c = case_faces::first_face(h);
     while c.face < h.faces {
         let t = Sizes {
             slots: s.slots,

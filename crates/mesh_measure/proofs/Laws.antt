@@ -16,7 +16,7 @@ use Rattle.reading.proofs.ResultLaws.{steps-next, steps-refused}
 use Rattle.case_definitions.specs.Faces.{Definition, polygon, solid, polyhedron, facesOf, faceCount}
 use Rattle.case_definitions.specs.Walker.{definitionAt, readOf, faceAt, Headed, headOf}
 use Rattle.case_definitions.specs.declared.Head.{Head}
-use Rattle.case_definitions.specs.declared.FaceCursor.{FaceCursor}
+use Rattle.case_faces.specs.declared.FaceCursor.{FaceCursor}
 use Rattle.case_definitions.proofs.RecordLaws.{steps-to}
 use Rattle.mesh_area.specs.Tables.{pointAt, Face, faceAt as tableAt, noFace}
 use Rattle.mesh_area.specs.Layout.{pointsIn, facesIn}

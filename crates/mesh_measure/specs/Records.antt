@@ -9,9 +9,10 @@ use lib.ListN.{length}
 use Rattle.arith.specs.declared.Vec3.{Vec3}
 use Rattle.reading.specs.Result.{Result, refused, fine}
 use Rattle.case_definitions.specs.Faces.{facesOf}
-use Rattle.case_definitions.specs.Walker.{definitionAt, faceAt, AtFace}
+use Rattle.case_definitions.specs.Walker.{definitionAt, faceAt}
+use Rattle.case_faces.specs.Copying.{AtFace}
 use Rattle.case_definitions.specs.declared.Head.{Head}
-use Rattle.case_definitions.specs.declared.FaceCursor.{FaceCursor}
+use Rattle.case_faces.specs.declared.FaceCursor.{FaceCursor}
 use Rattle.mesh_volumes.specs.declared.Weight.{Weight}
 use Rattle.mesh_volumes.specs.Geometry.{addTriangle, addFace3D}
 use Rattle.mesh_measure.specs.declared.Weighed.{Weighed}

@@ -2,9 +2,8 @@
 // geometry of one cell (15), and which side of a face its cells lie on (16).
 use arith::Found;
 use arith::Vec3;
-use case_definitions::FaceCursor;
 use case_definitions::Head;
-use case_definitions::face_lists;
+use case_faces::FaceCursor;
 use mesh_area::Sizes;
 use mesh_geometry::TurnedFace;
 use mesh_volumes::CellMeasure;
@@ -100,7 +99,7 @@ fn add_edge(
         r ⌝ }
 {
     let mut face = [0u32; 8];
-    let copied = face_lists::copy_face(words, h, c, &mut face);
+    let copied = case_faces::copy_face(words, h, c, &mut face);
     let count = copied.count;
     let a = number(&face[..count], 0);
     let b = number(&face[..count], 1);
@@ -117,7 +116,7 @@ fn add_edges(case: &[u8], points: usize, words: &[u8], h: Head, reference: Vec3)
         (facesAt (wordsIn (now (words .entry))) h) ⌝ }
 {
     let mut sum = mesh_volumes::weightless();
-    let mut c = face_lists::first_face(h);
+    let mut c = case_faces::first_face(h);
     while c.face < h.faces {
         let t = add_edge(case, points, words, h, c, reference, sum);
         sum = t.weight;
@@ -167,7 +166,7 @@ fn add_face_3d(
         r ⌝ }
 {
     let mut face = [0u32; 8];
-    let copied = face_lists::copy_face(words, h, c, &mut face);
+    let copied = case_faces::copy_face(words, h, c, &mut face);
     let count = copied.count;
     let next = copied.next;
     match add_turned(case, points, &mut face[..count], reference, weight) {
@@ -184,7 +183,7 @@ fn add_faces_3d(case: &[u8], points: usize, words: &[u8], h: Head, reference: Ve
         (facesAt (wordsIn (now (words .entry))) h) ⌝ }
 {
     let mut sum = mesh_volumes::weightless();
-    let mut c = face_lists::first_face(h);
+    let mut c = case_faces::first_face(h);
     while c.face < h.faces {
         let Fanned::Added(t) = add_face_3d(case, points, words, h, c, reference, sum) else {
             return Fans::Degenerate;

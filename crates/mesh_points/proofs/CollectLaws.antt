@@ -14,10 +14,11 @@ use Rattle.arith.proofs.ListLaws.{left-at}
 use Rattle.reading.specs.Result.{Result, refused, fine, _>>=_, refuse, steps}
 use Rattle.reading.proofs.ResultLaws.{steps-next, steps-refused}
 use Rattle.case_definitions.specs.Faces.{Definition, facesOf}
-use Rattle.case_definitions.specs.Walker.{definitionAt, faceAt, Headed, AtFace, nextFace, FaceCopied}
+use Rattle.case_definitions.specs.Walker.{definitionAt, faceAt, Headed}
+use Rattle.case_faces.specs.Copying.{AtFace, nextFace, FaceCopied}
 use Rattle.case_definitions.specs.declared.Head.{Head}
-use Rattle.case_definitions.specs.declared.FaceCursor.{FaceCursor}
-use Rattle.case_definitions.proofs.FaceLaws.{PolygonHead, HeadCase, polygon-head, solid-head, polyhedron-head, head-case, at-first}
+use Rattle.case_faces.specs.declared.FaceCursor.{FaceCursor}
+use Rattle.case_faces.proofs.FaceLaws.{PolygonHead, HeadCase, polygon-head, solid-head, polyhedron-head, head-case, at-first}
 use Rattle.case_definitions.proofs.Walking.{head-faces}
 use Rattle.mesh_geometry.specs.Faces.{insertNew, rising, average}
 use Rattle.mesh_geometry.specs.Answers.{Inserted}

@@ -1,5 +1,5 @@
 use mathlib.Core.Path.{sym, ap, _∙_}
-use Rattle.case_definitions.proofs.FaceLaws.{headed}
+use Rattle.case_faces.proofs.FaceLaws.{headed}
 use Rattle.mesh_cells.proofs.CellLaws.{found-wrong, found-refused, found-cell}
 use borrow.Author.Needs.{needs}
 use Rattle.mesh_cells.proofs.new_cell.Statement.{statement}

@@ -1,4 +1,4 @@
-use Rattle.case_definitions.proofs.FaceLaws.{next-number}
+use Rattle.case_faces.proofs.FaceLaws.{next-number}
 use Prim.Native.Nat.{ℕ}
 use mathlib.Core.Path.{_∙_, ap}
 use mathlib.Core.List.{List}

@@ -1,4 +1,4 @@
-use Rattle.case_definitions.proofs.FaceLaws.{next-number}
+use Rattle.case_faces.proofs.FaceLaws.{next-number}
 use mathlib.Core.Path.{sym, _∙_, ap}
 use lib.ListN.{length-take}
 use Rattle.mesh_volumes.specs.Geometry.{addFace3D}

@@ -1,11 +1,11 @@
--- `case_definitions::face_lists::copy_face` meets its contract. Assumes nothing.
+-- `case_faces::copy_face` meets its contract. Assumes nothing.
 use mathlib.Core.Path.{refl}
 use native.Mathlib.Omega.{arith}
 use Rattle.case_definitions.specs.Faces.{tetrahedron, hexahedron, prism, pyramid}
-use Rattle.case_definitions.specs.Helpers.{tableOf}
-use Rattle.case_definitions.proofs.FaceLaws.{kind-few, solid-few, solid-ready}
-use Rattle.case_definitions.proofs.face_lists.copy_face.Statement.{statement}
-use Rattle.case_definitions.proofs.face_lists.copy_face.Tie as tie
+use Rattle.case_faces.specs.Copying.{tableOf}
+use Rattle.case_faces.proofs.FaceLaws.{kind-few, solid-few, solid-ready}
+use Rattle.case_faces.proofs.copy_face.Statement.{statement}
+use Rattle.case_faces.proofs.copy_face.Tie as tie
 
 tetrahedron-requires : tie.Need-tetrahedron-requires
 unfolding tableOf tetrahedron

@@ -1,10 +1,10 @@
--- `case_definitions::face_lists::hexahedron`: the rows of its table. Assumes nothing.
+-- `case_faces::hexahedron`: the rows of its table. Assumes nothing.
 use mathlib.Core.Path.{_≡_}
 use native.Mathlib.Omega.{arith}
 use Rattle.case_definitions.specs.Faces.{hexahedron}
-use Rattle.case_definitions.specs.Helpers.{placesOf}
-use Rattle.case_definitions.proofs.face_lists.hexahedron.Statement.{statement}
-use Rattle.case_definitions.proofs.face_lists.hexahedron.Tie as tie
+use Rattle.case_faces.specs.Copying.{placesOf}
+use Rattle.case_faces.proofs.hexahedron.Statement.{statement}
+use Rattle.case_faces.proofs.hexahedron.Tie as tie
 
 returns : tie.Need-returns
 unfolding placesOf hexahedron

@@ -1,8 +1,8 @@
--- `case_definitions::face_lists::number_at` meets its contract. Assumes nothing.
+-- `case_faces::number_at` meets its contract. Assumes nothing.
 use native.Mathlib.Omega.{arith}
 use Rattle.case_file.proofs.ReadLaws.{length-wordsIn}
-use Rattle.case_definitions.proofs.face_lists.number_at.Statement.{statement}
-use Rattle.case_definitions.proofs.face_lists.number_at.Tie as tie
+use Rattle.case_faces.proofs.number_at.Statement.{statement}
+use Rattle.case_faces.proofs.number_at.Tie as tie
 
 add-word : tie.Need-add-word
 add-word c = omega (arith, length-wordsIn (c .before .args .words .now))

@@ -1,9 +1,9 @@
--- `case_definitions::face_lists::copy_places` meets its contract. Assumes nothing.
+-- `case_faces::copy_places` meets its contract. Assumes nothing.
 use native.Mathlib.Omega.{arith}
 use borrow.Author.Needs.{needs}
-use Rattle.case_definitions.proofs.FaceLaws.{three-room, four-room, last-room, three-copied, four-copied}
-use Rattle.case_definitions.proofs.face_lists.copy_places.Statement.{statement}
-use Rattle.case_definitions.proofs.face_lists.copy_places.Tie as tie
+use Rattle.case_faces.proofs.FaceLaws.{three-room, four-room, last-room, three-copied, four-copied}
+use Rattle.case_faces.proofs.copy_places.Statement.{statement}
+use Rattle.case_faces.proofs.copy_places.Tie as tie
 
 copy-three-requires : tie.Need-copy-three-requires
 copy-three-requires c κs =

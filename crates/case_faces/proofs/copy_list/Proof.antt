@@ -1,4 +1,4 @@
--- `case_definitions::face_lists::copy_list` meets its contract. Assumes nothing.
+-- `case_faces::copy_list` meets its contract. Assumes nothing.
 use Prim.Native.Nat.{_+_, _-_, _≤_}
 use borrow.Author.Needs.{needs}
 use lib.ListN.{length, take, drop, length-set, length-drop}
@@ -10,9 +10,9 @@ use Rattle.arith.specs.Records.{part}
 use Rattle.arith.proofs.RecordLaws.{getD-part, length-part}
 use Rattle.case_file.proofs.ReadLaws.{length-wordsIn}
 use Rattle.case_file.specs.Trailer.{wordsIn}
-use Rattle.case_definitions.proofs.FaceLaws.{face-of-polyhedron, copy-next, list-copied}
-use Rattle.case_definitions.proofs.face_lists.copy_list.Statement.{statement}
-use Rattle.case_definitions.proofs.face_lists.copy_list.Tie as tie
+use Rattle.case_faces.proofs.FaceLaws.{face-of-polyhedron, copy-next, list-copied}
+use Rattle.case_faces.proofs.copy_list.Statement.{statement}
+use Rattle.case_faces.proofs.copy_list.Tie as tie
 
 abbrev Inv-loop : tie.InvT-loop
 Inv-loop words c out₀ count j₀ out j =

@@ -1,10 +1,10 @@
--- `case_definitions::face_lists::prism`: the rows of its table. Assumes nothing.
+-- `case_faces::prism`: the rows of its table. Assumes nothing.
 use mathlib.Core.Path.{_≡_}
 use native.Mathlib.Omega.{arith}
 use Rattle.case_definitions.specs.Faces.{prism}
-use Rattle.case_definitions.specs.Helpers.{placesOf}
-use Rattle.case_definitions.proofs.face_lists.prism.Statement.{statement}
-use Rattle.case_definitions.proofs.face_lists.prism.Tie as tie
+use Rattle.case_faces.specs.Copying.{placesOf}
+use Rattle.case_faces.proofs.prism.Statement.{statement}
+use Rattle.case_faces.proofs.prism.Tie as tie
 
 returns : tie.Need-returns
 unfolding placesOf prism

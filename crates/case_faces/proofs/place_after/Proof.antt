@@ -1,9 +1,9 @@
--- `case_definitions::face_lists::place_after` meets its contract. Assumes nothing.
+-- `case_faces::place_after` meets its contract. Assumes nothing.
 use borrow.Author.Tests.{eq-eqb, ne-eqb}
 use native.Mathlib.Omega.{arith}
 use Rattle.arith.specs.Lists.{after}
-use Rattle.case_definitions.proofs.face_lists.place_after.Statement.{statement}
-use Rattle.case_definitions.proofs.face_lists.place_after.Tie as tie
+use Rattle.case_faces.proofs.place_after.Statement.{statement}
+use Rattle.case_faces.proofs.place_after.Tie as tie
 
 returns : tie.Need-returns
 returns c = (rw (eq-eqb _ _ (c .if1 .taken)), omega arith)

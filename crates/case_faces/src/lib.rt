@@ -1,9 +1,6 @@
-// The faces of a record, one after another.
-use crate::Copied;
-use crate::FaceCursor;
-use crate::Head;
-use crate::Places;
-use crate::walker;
+// The faces of a record of the definition words, one after another.
+use case_definitions::Head;
+use case_definitions::walker;
 ghost use mathlib.Core.Path.{_≡_};
 ghost use mathlib.Core.List.{[], _∷_};
 ghost use Prim.Native.Nat.{_+_, _≤_, _<_};
@@ -11,9 +8,26 @@ ghost use lib.ListN.{length, getD};
 ghost use Rattle.arith.specs.Lists.{after};
 ghost use Rattle.arith.specs.Records.{puts};
 ghost use Rattle.case_file.specs.Trailer.{wordsIn};
 ghost use Rattle.case_definitions.specs.Faces as Faces;
-ghost use Rattle.case_definitions.specs.Walker as Walker;
-ghost use Rattle.case_definitions.specs.Helpers.{placesOf, tableOf};
+ghost use Rattle.case_faces.specs.Copying.{AtFace, FaceCopied, placesOf, tableOf};
+
+// A face of a solid: its places among the cell's point numbers.
+enum Places {
+    Three(usize, usize, usize),
+    Four(usize, usize, usize, usize),
+}
+
+// A face of a record, by its number; `at` is where a polyhedron's face starts.
+pub struct FaceCursor {
+    pub face: usize,
+    pub at: usize,
+}
+
+// A face's point numbers were copied: how many, and the next face.
+pub struct Copied {
+    pub count: usize,
+    pub next: FaceCursor,
+}
 
 // ---- the face tables of mesh.rs, a row to a face: its places among the cell's point numbers
 
@@ -116,9 +130,9 @@ fn number_at(words: &[u8], first: usize, place: usize) -> u32
 
 // A polygon's side: its two ends.
 fn copy_side(words: &[u8], h: Head, c: FaceCursor, out: &mut [u32; 8]) -> Copied
-    requires { ⌜ Walker.AtFace (wordsIn (now words)) h c × (c .face < h .faces) × (length (now out) ≡ 8)
+    requires { ⌜ AtFace (wordsIn (now words)) h c × (c .face < h .faces) × (length (now out) ≡ 8)
         × (h .kind ≡ 0) ⌝ }
-    ensures { λ r. ⌜ Walker.FaceCopied (wordsIn (now (words .entry))) h c (now (out .entry)) (now (out .exit))
+    ensures { λ r. ⌜ FaceCopied (wordsIn (now (words .entry))) h c (now (out .entry)) (now (out .exit))
         (r .count) (r .next) ⌝ }
 {
     out[0] = number_at(words, h.first, c.face);
@@ -141,9 +155,9 @@ fn copy_three(words: &[u8], first: usize, i: usize, j: usize, k: usize, out: &mu
 
 // A face of a solid: the numbers at its places.
 fn copy_places(words: &[u8], h: Head, c: FaceCursor, p: Places, out: &mut [u32; 8]) -> Copied
-    requires { ⌜ Walker.AtFace (wordsIn (now words)) h c × (c .face < h .faces) × (length (now out) ≡ 8)
+    requires { ⌜ AtFace (wordsIn (now words)) h c × (c .face < h .faces) × (length (now out) ≡ 8)
         × (1 ≤ h .kind) × (h .kind ≤ 4) × (placesOf p ≡ getD (tableOf (h .kind)) (c .face) []) ⌝ }
-    ensures { λ r. ⌜ Walker.FaceCopied (wordsIn (now (words .entry))) h c (now (out .entry)) (now (out .exit))
+    ensures { λ r. ⌜ FaceCopied (wordsIn (now (words .entry))) h c (now (out .entry)) (now (out .exit))
         (r .count) (r .next) ⌝ }
 {
     match p {
@@ -161,9 +175,9 @@ fn copy_places(words: &[u8], h: Head, c: FaceCursor, p: Places, out: &mut [u32; 
 
 // A polyhedron's face: a count and its numbers.
 fn copy_list(words: &[u8], h: Head, c: FaceCursor, out: &mut [u32; 8]) -> Copied
-    requires { ⌜ Walker.AtFace (wordsIn (now words)) h c × (c .face < h .faces) × (length (now out) ≡ 8)
+    requires { ⌜ AtFace (wordsIn (now words)) h c × (c .face < h .faces) × (length (now out) ≡ 8)
         × (h .kind ≡ 5) ⌝ }
-    ensures { λ r. ⌜ Walker.FaceCopied (wordsIn (now (words .entry))) h c (now (out .entry)) (now (out .exit))
+    ensures { λ r. ⌜ FaceCopied (wordsIn (now (words .entry))) h c (now (out .entry)) (now (out .exit))
         (r .count) (r .next) ⌝ }
 {
     let count = walker::word(words, c.at) as usize;
@@ -183,8 +197,8 @@ fn copy_list(words: &[u8], h: Head, c: FaceCursor, out: &mut [u32; 8]) -> Copied
 
 // Copies the point numbers of a face to the front of `out`. A record has none of the kinds from 6 on.
 pub fn copy_face(words: &[u8], h: Head, c: FaceCursor, out: &mut [u32; 8]) -> Copied
-    requires { ⌜ Walker.AtFace (wordsIn (now words)) h c × (c .face < h .faces) × (length (now out) ≡ 8) ⌝ }
-    ensures { λ r. ⌜ Walker.FaceCopied (wordsIn (now (words .entry))) h c (now (out .entry)) (now (out .exit))
+    requires { ⌜ AtFace (wordsIn (now words)) h c × (c .face < h .faces) × (length (now out) ≡ 8) ⌝ }
+    ensures { λ r. ⌜ FaceCopied (wordsIn (now (words .entry))) h c (now (out .entry)) (now (out .exit))
         (r .count) (r .next) ⌝ }
 {
     let kind = h.kind;

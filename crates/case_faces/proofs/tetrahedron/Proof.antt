@@ -1,10 +1,10 @@
--- `case_definitions::face_lists::tetrahedron`: the rows of its table. Assumes nothing.
+-- `case_faces::tetrahedron`: the rows of its table. Assumes nothing.
 use mathlib.Core.Path.{_≡_}
 use native.Mathlib.Omega.{arith}
 use Rattle.case_definitions.specs.Faces.{tetrahedron}
-use Rattle.case_definitions.specs.Helpers.{placesOf}
-use Rattle.case_definitions.proofs.face_lists.tetrahedron.Statement.{statement}
-use Rattle.case_definitions.proofs.face_lists.tetrahedron.Tie as tie
+use Rattle.case_faces.specs.Copying.{placesOf}
+use Rattle.case_faces.proofs.tetrahedron.Statement.{statement}
+use Rattle.case_faces.proofs.tetrahedron.Tie as tie
 
 returns : tie.Need-returns
 unfolding placesOf tetrahedron

@@ -1,7 +1,7 @@
--- `case_definitions::face_lists::copy_three` meets its contract. Assumes nothing.
+-- `case_faces::copy_three` meets its contract. Assumes nothing.
 use native.Mathlib.Omega.{arith}
-use Rattle.case_definitions.proofs.face_lists.copy_three.Statement.{statement}
-use Rattle.case_definitions.proofs.face_lists.copy_three.Tie as tie
+use Rattle.case_faces.proofs.copy_three.Statement.{statement}
+use Rattle.case_faces.proofs.copy_three.Tie as tie
 
 returns : tie.Need-returns
 returns c = rw (c .number-at3 .ensures, c .before .number-at2 .ensures, c .before .before .number-at .ensures)

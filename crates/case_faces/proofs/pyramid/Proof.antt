@@ -1,10 +1,10 @@
--- `case_definitions::face_lists::pyramid`: the rows of its table. Assumes nothing.
+-- `case_faces::pyramid`: the rows of its table. Assumes nothing.
 use mathlib.Core.Path.{_≡_}
 use native.Mathlib.Omega.{arith}
 use Rattle.case_definitions.specs.Faces.{pyramid}
-use Rattle.case_definitions.specs.Helpers.{placesOf}
-use Rattle.case_definitions.proofs.face_lists.pyramid.Statement.{statement}
-use Rattle.case_definitions.proofs.face_lists.pyramid.Tie as tie
+use Rattle.case_faces.specs.Copying.{placesOf}
+use Rattle.case_faces.proofs.pyramid.Statement.{statement}
+use Rattle.case_faces.proofs.pyramid.Tie as tie
 
 returns : tie.Need-returns
 unfolding placesOf pyramid

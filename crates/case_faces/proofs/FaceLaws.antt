@@ -16,19 +16,20 @@ use Rattle.arith.proofs.ListLaws.{left-at, length-sides, sides-at}
 use Rattle.arith.proofs.RoundLaws.{after-less}
 use Rattle.arith.proofs.RecordLaws.{getD-part}
 use Rattle.reading.specs.Result.{fine}
 use Rattle.case_definitions.specs.Faces.{Definition, polygon, solid, polyhedron, tetrahedron, hexahedron, prism, pyramid, ends, picked, facesOf, faceCount}
 use Rattle.case_definitions.specs.Definitions.{Taken, faceLists}
-use Rattle.case_definitions.specs.Walker.{firstOf, headOf, stepAt, readOf, definitionAt, faceAt, faceFrom, Headed, AtFace, nextFace, FaceCopied}
-use Rattle.case_definitions.specs.Helpers.{tableOf, placesOf}
+use Rattle.case_definitions.specs.Walker.{firstOf, headOf, stepAt, readOf, definitionAt, faceAt, Headed}
+use Rattle.case_faces.specs.Copying.{faceFrom, AtFace, nextFace, FaceCopied}
+use Rattle.case_faces.specs.Copying.{tableOf, placesOf}
 use Rattle.case_definitions.specs.declared.Head.{Head}
-use Rattle.case_definitions.specs.declared.Copied.{Copied}
-use Rattle.case_definitions.specs.declared.Places.{Places}
-use Rattle.case_definitions.specs.declared.Places.the-variants.{Three, Four}
-use Rattle.case_definitions.specs.declared.FaceCursor.{FaceCursor}
+use Rattle.case_faces.specs.declared.Copied.{Copied}
+use Rattle.case_faces.specs.declared.Places.{Places}
+use Rattle.case_faces.specs.declared.Places.the-variants.{Three, Four}
+use Rattle.case_faces.specs.declared.FaceCursor.{FaceCursor}
 use Rattle.case_definitions.specs.declared.Cursor.{Cursor}
 use Rattle.case_definitions.specs.declared.Step.the-variants.{Record}
 use Rattle.case_definitions.proofs.WalkLaws.{Lists, face-first, faces-read}
 use Rattle.case_definitions.proofs.RecordLaws.{IsSolid, is-tetrahedron, is-hexahedron, is-prism, is-pyramid, RecordCase, a-polygon, a-solid, a-polyhedron, record-case, StepsTo, steps-to}
 
 -- ---- what a head tells, kind by kind
 

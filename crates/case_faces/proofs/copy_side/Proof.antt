@@ -1,8 +1,8 @@
--- `case_definitions::face_lists::copy_side` meets its contract. Assumes nothing.
+-- `case_faces::copy_side` meets its contract. Assumes nothing.
 use native.Mathlib.Omega.{arith}
-use Rattle.case_definitions.proofs.FaceLaws.{side-of-polygon, side-copied}
-use Rattle.case_definitions.proofs.face_lists.copy_side.Statement.{statement}
-use Rattle.case_definitions.proofs.face_lists.copy_side.Tie as tie
+use Rattle.case_faces.proofs.FaceLaws.{side-of-polygon, side-copied}
+use Rattle.case_faces.proofs.copy_side.Statement.{statement}
+use Rattle.case_faces.proofs.copy_side.Tie as tie
 
 number-at-requires : tie.Need-number-at-requires
 number-at-requires c κs = let p = c .before .pre in side-of-polygon _ _ _ (p .0) (p .1) (p .3) .room _ (p .1)
