@@ -24,7 +24,8 @@ use Rattle.mesh_faces.specs.Table.{placed, addFace}
 use Rattle.mesh_drafts.specs.Parts.{addFaceOf}
 use Rattle.mesh_cells.specs.Cells.{Draft, Drafts, addCell, drafts}
 use Rattle.mesh_centres.specs.Finish.{finished}
-use Rattle.mesh.specs.Mesh.{joined, acceptable, completed, filled, fromCells}
+use Rattle.mesh_coordinates.specs.Coordinates.{acceptable}
+use Rattle.mesh.specs.Mesh.{joined, completed, filled, fromCells}
 use Rattle.mesh.specs.Case.{Surveyed-case, surveyOf, meshOf}
 use Rattle.lines_field.specs.Field.{gridFor, gridOf, fieldOf}
 use Rattle.job_room.specs.Room.{Room, Lent, roomFrom, roomOf, shortage, prepared}

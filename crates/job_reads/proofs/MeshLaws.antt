@@ -22,9 +22,10 @@ use Rattle.mesh_geometry.specs.declared.FaceGeometry.{FaceGeometry}
 use Rattle.mesh_faces.specs.Table.{faceWithKey, newFace, withNeighbour, joining, settled, adding, Placed, placed, addFace}
 use Rattle.mesh_drafts.specs.Parts.{Growing, addFaceOf}
 use Rattle.mesh_cells.specs.Cells.{Drafts, addCell, drafts}
-use Rattle.mesh_connection.specs.Neighbours.{otherOf, beyond, addFound, addNeighbour, neighboursOf, linkedAt, linked}
+use Rattle.mesh_neighbours.specs.Neighbours.{otherOf, beyond, addFound, addNeighbour, neighboursOf, linkedAt, linked}
 use Rattle.mesh_centres.specs.Finish.{finished}
-use Rattle.mesh.specs.Mesh.{joined, acceptable, completed, filled, fromCells}
+use Rattle.mesh_coordinates.specs.Coordinates.{acceptable}
+use Rattle.mesh.specs.Mesh.{joined, completed, filled, fromCells}
 use Rattle.job_reads.specs.Within.{Beside, Numbered, Numbers}
 
 -- ---- the cells of a face are below n

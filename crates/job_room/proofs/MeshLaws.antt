@@ -17,10 +17,11 @@ use Rattle.reading.proofs.ResultLaws.{bound, not-due, length-mapAll}
 use Rattle.case_definitions.specs.Faces.{Definition, polygon}
 use Rattle.case_definitions.specs.Definitions.{definitions}
 use Rattle.mesh_area.specs.Tables.{Face, Cell, Mesh, noCell, cellAt}
-use Rattle.mesh_connection.specs.Neighbours.{linked, linkedAt}
+use Rattle.mesh_neighbours.specs.Neighbours.{linked, linkedAt}
 use Rattle.mesh_cells.specs.Cells.{Draft, Drafts, drafts}
 use Rattle.mesh_centres.specs.Finish.{finished}
-use Rattle.mesh.specs.Mesh.{joined, acceptable, completed, filled, fromCells}
+use Rattle.mesh_coordinates.specs.Coordinates.{acceptable}
+use Rattle.mesh.specs.Mesh.{joined, completed, filled, fromCells}
 use Rattle.lines_field.specs.Field.{Few}
 use Rattle.planes_crossings.specs.Work.{Bounded}
 use Rattle.lines_vertices.specs.Shapes.{Limited, Over}

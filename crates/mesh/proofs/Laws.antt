@@ -6,8 +6,8 @@ use mathlib.Core.Bool.{Bool, true, false}
 use mathlib.Core.List.{List, [], _∷_}
 use lib.ListN.{length, getD, length-drop}
 use lib.Ieee.{Float}
-use borrow.Author.Tests.{eq-eqb, ne-eqb, lt-ltb, le-ltb}
-use Rattle.arith.specs.Lists.{anyOf, allOf, fold}
+use borrow.Author.Tests.{lt-ltb, le-ltb}
+use Rattle.arith.specs.Lists.{anyOf, fold}
 use Rattle.arith.specs.declared.Vec3.{Vec3}
 use Rattle.reading.specs.Result.{Result, refused, fine, _>>=_, refuse, mapAll}
 use Rattle.case_definitions.specs.Faces.{Definition, faceCount, addFaceCount, facesCounted}
@@ -23,15 +23,14 @@ use Rattle.mesh_area.specs.declared.Sizes.{Sizes}
 use Rattle.mesh_area.specs.Tables.{Face, Cell, Mesh}
 use Rattle.mesh_area.specs.Layout.{facesIn, cellsIn, meshIn, LentWords, LentFloats, pointsIn}
 use Rattle.mesh_area.proofs.LayoutLaws.{length-facesIn, length-cellsIn, mesh-same}
-use Rattle.mesh_measure.specs.Orientation.{misplaced}
-use Rattle.mesh_connection.specs.Neighbours.{linked, Linked}
+use Rattle.mesh_orientation.specs.Orientation.{misplaced}
+use Rattle.mesh_neighbours.specs.Neighbours.{linked, Linked}
 use Rattle.mesh_connection.specs.Connection.{connectedCells}
 use Rattle.mesh_connection.specs.Search.{Connected}
 use Rattle.mesh.specs.Mesh.{joined}
 use Rattle.mesh.specs.Case.{surveyOf, areaShort, meshOf, caseFaces, meshFrom, Surveying, surveyed, refusing, builtAs, sizesFor, LaidOut, Building}
 use Rattle.arith.specs.Bytes.{le32}
-use Rattle.arith.specs.F64.{finite, within}
-use Rattle.arith.specs.Vec.{each3}
+use Rattle.arith.specs.F64.{within}
 use Rattle.reading.proofs.ResultLaws.{bound}
 use Rattle.case_file.specs.Trailer.{wordsFrom, wordsIn}
 use Rattle.arith.specs.Records.{part}
@@ -42,7 +41,7 @@ use Rattle.case_definitions.proofs.Walking.{words-part}
 use Rattle.case_definitions.proofs.RecordLaws.{definition-read}
 use Rattle.case_file.proofs.ReadLaws.{length-readAll}
 use Rattle.case_file.proofs.TrailerLaws.{opens}
-use Rattle.mesh_connection.specs.Neighbours.{Laid}
+use Rattle.mesh_neighbours.specs.Neighbours.{Laid}
 use Rattle.mesh_faces.specs.Using.{sized}
 use Rattle.mesh_cells.specs.Cells.{Draft, Drafts, drafts}
 use Rattle.mesh_cells.specs.Drafting as cells
@@ -52,8 +51,9 @@ use Rattle.mesh_cells.specs.declared.Drafted.the-variants as Drafted
 use Rattle.mesh_centres.specs.Finish.{finished, finishedAs}
 use Rattle.mesh_centres.specs.declared.Finished.{Finished}
 use Rattle.mesh_centres.specs.declared.Finished.the-variants as Finished
-use Rattle.mesh.specs.Mesh.{completed, filled, acceptable, fromCells}
-use Rattle.mesh.specs.Steps.{acceptedAs, draftsHeld}
+use Rattle.mesh_coordinates.specs.Coordinates.{acceptable, acceptedAs}
+use Rattle.mesh.specs.Mesh.{completed, filled, fromCells}
+use Rattle.mesh.specs.Steps.{draftsHeld}
 use Rattle.mesh.specs.declared.Surveyed.{Surveyed}
 use Rattle.mesh.specs.declared.Surveyed.the-variants as Surveyed
 use Rattle.mesh.specs.declared.Built.{Built}
@@ -214,24 +214,6 @@ outside-points file n o = tab-same _ _ (n .points) (outside-point file n o)
 -- ---- 8, 9 and 10
 
 module _ (ps : List Vec3) (defs : List Definition) where
-  pub accept-8 : length defs ≡ 0 → acceptedAs 8 ≡ acceptable ps defs
-  unfolding acceptedAs acceptable refuse _>>=_
-  accept-8 e = rw (eq-eqb (length defs) 0 e, refuse, _>>=_)
-
-  module _ (some : length defs ≡ 0 → ⊥) where
-    pub accept-9 : allOf (each3 finite) ps ≡ false → acceptedAs 9 ≡ acceptable ps defs
-    unfolding acceptedAs acceptable refuse _>>=_
-    accept-9 e = rw (ne-eqb (length defs) 0 some, e, refuse, _>>=_)
-
-    module _ (fin : allOf (each3 finite) ps ≡ true) where
-      pub accept-10 : allOf (each3 within) ps ≡ false → acceptedAs 10 ≡ acceptable ps defs
-      unfolding acceptedAs acceptable refuse _>>=_
-      accept-10 e = rw (ne-eqb (length defs) 0 some, fin, e, refuse, _>>=_)
-
-      pub accept-all : allOf (each3 within) ps ≡ true → acceptedAs 0 ≡ acceptable ps defs
-      unfolding acceptedAs acceptable refuse _>>=_
-      accept-all e = rw (ne-eqb (length defs) 0 some, fin, e, refuse, _>>=_)
-
   pub from-refused : (d k : ℕ) → acceptedAs k ≡ acceptable ps defs → (k ≡ 0 → ⊥) → fromCells d ps defs ≡ refused k
   unfolding fromCells acceptedAs _>>=_
   from-refused d zero e n = absurd (n refl)

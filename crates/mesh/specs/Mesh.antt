@@ -1,33 +1,23 @@
 -- `UnstructuredMesh::from_cells`, with refusals 8 to 17 in 01's order:
--- `acceptable`: 8, 9 and 10, over all coordinates.
+-- `acceptable` (mesh_coordinates): 8, 9 and 10, over all coordinates.
 -- `drafts` (mesh_cells): 11 to 14, cell by cell.
 -- `centred`: 15, for all cells.
 -- `joined`: 16, for all faces, and 17; then the mesh.
 -- `completed`: from 15 on. `filled`: from 11 on. `fromCells`: the whole.
 use Prim.Native.Nat.{ℕ}
-use mathlib.Core.Bool.{Bool, not}
+use mathlib.Core.Bool.{not}
 use mathlib.Core.List.{List}
-use lib.Dec.{eqb}
-use lib.ListN.{length}
-use Rattle.arith.specs.F64.{finite, within}
-use Rattle.arith.specs.Lists.{anyOf, allOf}
-use Rattle.arith.specs.Vec.{each3}
+use Rattle.arith.specs.Lists.{anyOf}
 use Rattle.arith.specs.declared.Vec3.{Vec3}
 use Rattle.reading.specs.Result.{Result, fine, _>>=_, refuse, mapAll}
 use Rattle.case_definitions.specs.Faces.{Definition}
 use Rattle.mesh_area.specs.Tables.{Face, Cell, Mesh}
-use Rattle.mesh_measure.specs.Orientation.{misplaced}
-use Rattle.mesh_connection.specs.Neighbours.{linked}
+use Rattle.mesh_coordinates.specs.Coordinates.{acceptable}
+use Rattle.mesh_orientation.specs.Orientation.{misplaced}
+use Rattle.mesh_neighbours.specs.Neighbours.{linked}
 use Rattle.mesh_connection.specs.Connection.{connectedCells}
 use Rattle.mesh_cells.specs.Cells.{Draft, Drafts, drafts}
 use Rattle.mesh_centres.specs.Finish.{finished}
-
--- 8 "no cells"; 9 "a coordinate not finite"; 10 "one beyond 1,048,576 in size (added)"
-unfoldable pub acceptable : List Vec3 → List Definition → Result (Unit {0})
-acceptable ps defs =
-    refuse 8 (eqb (length defs) 0) >>= λ _.
-    refuse 9 (not (allOf (each3 finite) ps)) >>= λ _.
-    refuse 10 (not (allOf (each3 within) ps))
 
 -- 15 "zero volume"
 abbrev pub centred : ℕ → List Vec3 → List Draft → Result (List Cell)

@@ -1,10 +1,10 @@
 -- What the parts of `from_cells` need of the area.
-use Prim.Native.Nat.{ℕ, zero, suc, _+_, _*_, _≤_, _<_}
+use Prim.Native.Nat.{ℕ, _+_, _*_, _≤_, _<_}
 use mathlib.Core.Path.{_≡_}
 use mathlib.Core.List.{List}
 use lib.ListN.{length, getD}
 use lib.Ieee.{Float}
-use Rattle.reading.specs.Result.{Result, refused, fine}
+use Rattle.reading.specs.Result.{fine}
 use Rattle.case_definitions.specs.Faces.{Definition, facesCounted}
 use Rattle.case_definitions.specs.Definitions.{definitions}
 use Rattle.case_file.specs.Trailer.{opened, wordsOf}
@@ -12,19 +12,14 @@ use Rattle.case_file.specs.declared.Counts.{Counts}
 use Rattle.case_file.specs.declared.Opened.the-variants.{Case}
 use Rattle.mesh_area.specs.Layout.{facesIn, LentWords, LentFloats}
 use Rattle.mesh_area.specs.declared.Sizes.{Sizes}
-use Rattle.mesh_connection.specs.Neighbours.{Laid}
+use Rattle.mesh_neighbours.specs.Neighbours.{Laid}
 use Rattle.mesh_cells.specs.Cells.{Drafts}
-use Rattle.mesh_cells.specs.Drafting.{draftsIn, Lists}
+use Rattle.mesh_cells.specs.Drafting.{draftsIn}
 use Rattle.mesh_centres.specs.Finish.{Finishable}
 
 -- the drafts that the area holds
 unfoldable pub draftsHeld : List ℕ → Sizes → List ℕ → List Float → Drafts
 draftsHeld ws s words floats = record { faces = facesIn s words floats; cells = draftsIn ws s words floats (s .cells) }
-
--- what the number of a refusal among 8, 9 and 10 stands for; 0 is none
-unfoldable pub acceptedAs : ℕ → Result (Unit {0})
-acceptedAs zero = fine tt
-acceptedAs (suc k) = refused (suc k)
 
 -- the cells have their centres
 pub record Joinable (s : Sizes) (words : List ℕ) (floats : List Float) : Type 0 where

@@ -8,7 +8,7 @@ use mesh_area::Sizes;
 use mesh_cells::Drafted;
 use mesh_centres::Finished;
 ghost use mathlib.Core.Path.{_≡_};
-ghost use Prim.Native.Nat.{_+_, _*_, _≤_, _<_};
+ghost use Prim.Native.Nat.{_+_, _*_, _<_};
 ghost use lib.ListN.{length};
 ghost use Rattle.mesh_area.specs.Layout.{pointsIn};
 ghost use Rattle.case_file.specs.Trailer.{wordsIn};
@@ -19,11 +19,10 @@ ghost use Rattle.reading.specs.Result.{fine};
 ghost use Rattle.case_definitions.specs.Faces.{Definition};
 ghost use Rattle.case_definitions.specs.Definitions.{definitions};
 ghost use Rattle.case_file.specs.Trailer.{countsOf, wordsOf};
-ghost use Rattle.mesh_measure.specs.Records.{Points};
 ghost use Rattle.mesh_cells.specs.Steps.{Addable};
-ghost use Rattle.mesh.specs.Mesh.{joined, completed, filled, acceptable, fromCells};
+ghost use Rattle.mesh.specs.Mesh.{joined, completed, filled, fromCells};
 ghost use Rattle.mesh.specs.Case.{Surveying, Building, surveyOf, caseFaces, meshFrom};
-ghost use Rattle.mesh.specs.Steps.{Joinable, Completable, Buildable, draftsHeld, acceptedAs};
+ghost use Rattle.mesh.specs.Steps.{Joinable, Completable, Buildable, draftsHeld};
 
 // The counts of a case and the number of faces of all its definitions, or refusal 1, 2 or 3.
 pub enum Surveyed {
@@ -57,10 +56,10 @@ fn join(words: &mut [u32], floats: &[f64], s: Sizes) -> Built
         (cellsIn s (now (words .entry)) (now (floats .entry)))) (s .slots) ps (now (words .exit)) (now (floats .entry))
         r) ⌝ }
 {
-    if mesh_measure::any_misplaced(words, floats, s) {
+    if mesh_orientation::any_misplaced(words, floats, s) {
         return Built::Refused(16);
     }
-    mesh_connection::fill_neighbours(words, s);
+    mesh_neighbours::fill_neighbours(words, s);
     if mesh_connection::ensure_connected(words, s) {
         Built::Mesh(s)
     } else {
@@ -112,24 +111,6 @@ fn fill(case: &[u8], n: Counts, ws: &[u8], words: &mut [u32], floats: &mut [f64]
     }
 }
 
-// Refusal 8, 9 or 10, or 0.
-fn unacceptable(case: &[u8], n: Counts) -> u64
-    requires { ⌜ Points (now case) (n .points) ⌝ }
-    ensures { λ r. ⌜ ((defs : List Definition) → length defs ≡ n .cells → acceptedAs r ≡ acceptable
-        (pointsIn (now (case .entry)) (n .points)) defs) ⌝ }
-{
-    if n.cells == 0 {
-        return 8;
-    }
-    if !mesh_measure::all_finite(case, n.points) {
-        return 9;
-    }
-    if !mesh_measure::all_within(case, n.points) {
-        return 10;
-    }
-    0
-}
-
 // The mesh of a case that was surveyed, into an area that is long enough: refusals 8 to 17.
 pub fn build(case: &[u8], n: Counts, faces: usize, words: &mut [u32], floats: &mut [f64]) -> Built
     requires { ⌜ Buildable (now case) n faces (now words) (now floats) ⌝ }
@@ -137,7 +118,7 @@ pub fn build(case: &[u8], n: Counts, faces: usize, words: &mut [u32], floats: &m
         → Building (fromCells (n .dimension) (pointsIn (now (case .entry)) (n .points)) defs) faces
         (pointsIn (now (case .entry)) (n .points)) (now (words .exit)) (now (floats .exit)) r) ⌝ }
 {
-    let k = unacceptable(case, n);
+    let k = mesh_coordinates::unacceptable(case, n);
     if k != 0 {
         return Built::Refused(k);
     }

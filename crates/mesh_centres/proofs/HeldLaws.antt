@@ -13,7 +13,7 @@ use Rattle.case_definitions.specs.Faces.{Definition}
 use Rattle.case_definitions.specs.Definitions.{definitions}
 use Rattle.mesh_area.specs.declared.Sizes.{Sizes}
 use Rattle.mesh_area.specs.Layout.{vecFrom, faceIn, facesIn, cellsIn, meshWords, meshFloats, floatsEnd, LentWords, LentFloats}
-use Rattle.mesh_measure.specs.Records.{Points}
+use Rattle.mesh_coordinates.specs.Coordinates.{Points}
 use Rattle.mesh_faces.specs.Using.{sized}
 use Rattle.mesh_cells.specs.Cells.{Drafts, drafts}
 use Rattle.mesh_cells.specs.Drafting.{Held}

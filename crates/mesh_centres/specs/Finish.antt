@@ -12,7 +12,7 @@ use Rattle.mesh_area.specs.declared.Sizes.{Sizes}
 use Rattle.mesh_area.specs.Tables.{Cell}
 use Rattle.mesh_area.specs.Layout.{cellsIn, floatsEnd, LentWords, LentFloats}
 use Rattle.mesh_volumes.specs.Geometry.{cellGeometry}
-use Rattle.mesh_measure.specs.Records.{Points}
+use Rattle.mesh_coordinates.specs.Coordinates.{Points}
 use Rattle.mesh_cells.specs.Cells.{Draft}
 use Rattle.mesh_cells.specs.Drafting.{draftsIn, Lists}
 use Rattle.mesh_centres.specs.declared.Finished.{Finished}

@@ -20,7 +20,7 @@ use Rattle.mesh_area.specs.Tables.{Cell}
 use Rattle.mesh_area.specs.Layout.{vecFrom, cellIn, meshWords, meshFloats, LentFloats}
 use Rattle.mesh_volumes.specs.declared.CellGeometry.{CellGeometry}
 use Rattle.mesh_volumes.specs.Geometry.{cellGeometry}
-use Rattle.mesh_measure.specs.Records.{Points}
+use Rattle.mesh_coordinates.specs.Coordinates.{Points}
 use Rattle.mesh_cells.specs.Drafting.{draftsIn}
 use Rattle.mesh_centres.specs.Finish.{finished, definitionsOf}
 use Rattle.mesh_centres.specs.declared.Finished.{Finished}

@@ -2,6 +2,5 @@ pub mod Counting
 pub mod Rounds
 pub mod Enough
 pub mod SearchLaws
-pub mod NeighbourLaws
 pub mod Shared
 pub mod Samples

@@ -10,7 +10,7 @@ use Rattle.arith.specs.Vec.{origin}
 use Rattle.arith.specs.declared.Found.{Found}
 use Rattle.arith.specs.declared.Found.the-variants.{At, Nothing}
 use Rattle.mesh_area.specs.Tables.{Face, faceAt}
-use Rattle.mesh_connection.specs.Neighbours.{otherOf, beyond, addFound, addNeighbour, neighboursOf}
+use Rattle.mesh_neighbours.specs.Neighbours.{otherOf, beyond, addFound, addNeighbour, neighboursOf}
 use Rattle.mesh_connection.specs.Connection.{someBelow, everyBelow, oneRound, rounds, connectedBy, sidesAre, joins, share, connected}
 
 -- a face between two cells

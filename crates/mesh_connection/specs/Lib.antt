@@ -1,3 +1,2 @@
-pub mod Neighbours
 pub mod Connection
 pub mod Search

@@ -1,16 +1,13 @@
--- Laws of the loops over points, faces of a record and faces of the table. Assumes nothing.
+-- Laws of the loops over the faces of a record. Assumes nothing.
 use Prim.Native.Nat.{ℕ, _+_, _≤_, _<_}
 use native.Mathlib.Omega.{arith}
 use mathlib.Core.Path.{_≡_, refl, ap, sym, _∙_, subst}
 use borrow.Author.Tests.{eq-eqb, ne-eqb}
-use mathlib.Core.Bool.{Bool, true, false}
 use mathlib.Core.List.{List, [], _∷_}
 use lib.ListN.{length, getD, drop, length-map, drop-of-length-le}
-use lib.Ieee.{Float}
-use Rattle.arith.specs.Lists.{fold, allOf, anyOf, sides}
-use Rattle.arith.specs.Vec.{origin}
+use Rattle.arith.specs.Lists.{fold, sides}
 use Rattle.arith.specs.declared.Vec3.{Vec3}
-use Rattle.arith.proofs.ListLaws.{foldl-next, all-here, all-next, any-here, any-next, length-sides}
+use Rattle.arith.proofs.ListLaws.{foldl-next, length-sides}
 use Rattle.reading.specs.Result.{Result, refused, fine, _>>=_, steps}
 use Rattle.reading.proofs.ResultLaws.{steps-next, steps-refused}
 use Rattle.case_definitions.specs.Faces.{Definition, polygon, solid, polyhedron, facesOf, faceCount}
@@ -18,49 +15,12 @@ use Rattle.case_definitions.specs.Walker.{definitionAt, readOf, faceAt, Headed,
 use Rattle.case_definitions.specs.declared.Head.{Head}
 use Rattle.case_faces.specs.declared.FaceCursor.{FaceCursor}
 use Rattle.case_definitions.proofs.RecordLaws.{steps-to}
-use Rattle.mesh_area.specs.Tables.{pointAt, Face, faceAt as tableAt, noFace}
-use Rattle.mesh_area.specs.Layout.{pointsIn, facesIn}
-use Rattle.mesh_area.specs.declared.Sizes.{Sizes}
-use Rattle.mesh_area.proofs.LayoutLaws.{length-points, length-facesIn}
 use Rattle.mesh_volumes.specs.declared.Weight.{Weight}
 use Rattle.mesh_volumes.specs.Geometry.{addTriangle, addFace3D, weightless, centre2D, centre3D, geometryIn, cellGeometry}
-use Rattle.mesh_area.specs.Tables.{Cell, cellAt}
-use Rattle.arith.specs.declared.Found.the-variants.{At, Nothing}
 use Rattle.mesh_measure.specs.declared.Weighed.{Weighed}
 use Rattle.mesh_measure.specs.declared.Fanned.{Fanned}
 use Rattle.mesh_measure.specs.declared.Fanned.the-variants as Fan
 use Rattle.mesh_measure.specs.Records.{facesAt, NextFace, FanAdded, added, degenerate}
-use Rattle.mesh_measure.specs.Orientation.{behind, misplaced, neighbourBehind}
-
--- ---- points: every one passes
-
-module _ (case : List ℕ) (n i : ℕ) (p : Vec3 → Bool) where
-  pub points-next : i < n → p (pointAt (pointsIn case n) i) ≡ true → allOf p (drop i (pointsIn case n)) ≡ allOf p (drop (i + 1) (pointsIn case n))
-  unfolding pointAt
-  points-next h e = all-next (pointsIn case n) i origin (rw (length-points case n) h) p e
-
-  pub points-bad : i < n → p (pointAt (pointsIn case n) i) ≡ false → allOf p (drop i (pointsIn case n)) ≡ false
-  unfolding pointAt
-  points-bad h e = all-here (pointsIn case n) i origin (rw (length-points case n) h) p e
-
-  pub points-end : n ≤ i → allOf p (drop i (pointsIn case n)) ≡ true
-  unfolding allOf
-  points-end h = rw (drop-of-length-le (pointsIn case n) {i = i} (rw (length-points case n) h))
-
--- ---- faces of the table: none is misplaced
-
-module _ (s : Sizes) (words : List ℕ) (floats : List Float) (f : ℕ) (p : Face → Bool) where
-  pub faces-next : f < s .faces → p (tableAt (facesIn s words floats) f) ≡ false → anyOf p (drop f (facesIn s words floats)) ≡ anyOf p (drop (f + 1) (facesIn s words floats))
-  unfolding tableAt
-  faces-next h e = any-next (facesIn s words floats) f noFace (rw (length-facesIn s words floats) h) p e
-
-  pub faces-bad : f < s .faces → p (tableAt (facesIn s words floats) f) ≡ true → anyOf p (drop f (facesIn s words floats)) ≡ true
-  unfolding tableAt
-  faces-bad h e = any-here (facesIn s words floats) f noFace (rw (length-facesIn s words floats) h) p e
-
-  pub faces-end : s .faces ≤ f → anyOf p (drop f (facesIn s words floats)) ≡ false
-  unfolding anyOf
-  faces-end h = rw (drop-of-length-le (facesIn s words floats) {i = f} (rw (length-facesIn s words floats) h))
 
 -- ---- faces of a record
 
@@ -102,21 +62,6 @@ facesAt-end ws h k g e = drop-of-length-le (facesAt ws h) {i = k} (rw (length-fa
 pub first-two : (ps : List Vec3) (reference : Vec3) (w : Weight) (l : List ℕ) (a b : ℕ) → a ≡ getD l 0 0 → b ≡ getD l 1 0 → addTriangle ps reference w (a ∷ b ∷ []) ≡ addTriangle ps reference w l
 unfolding addTriangle
 first-two ps reference w l a b e g = rw (e, g)
-
--- ---- a face between its cells
-
-module _ (cs : List Cell) (f : Face) (centre normal at : Vec3) (c : centre ≡ f .centre) (n : normal ≡ f .normal) (o : at ≡ cellAt cs (f .owner) .centre) where
-  pub owner-behind : behind centre at normal ≡ true → true ≡ misplaced cs f
-  unfolding misplaced
-  owner-behind e = rw (rw (c, n, o) at e)
-
-  pub alone : behind centre at normal ≡ false → f .neighbour ≡ Nothing → false ≡ misplaced cs f
-  unfolding misplaced neighbourBehind
-  alone e g = rw (rw (c, n, o) at e, g, neighbourBehind)
-
-  pub between : (r : Bool) (k : ℕ) → behind centre at normal ≡ false → f .neighbour ≡ At k → r ≡ behind (cellAt cs k .centre) centre normal → r ≡ misplaced cs f
-  unfolding misplaced neighbourBehind
-  between r k e g h = rw (rw (c, n, o) at e, g, neighbourBehind) (rw (c, n) at h)
 
 -- ---- what the answers in 3D stand for
 

@@ -1,2 +1,1 @@
-pub mod Orientation
 pub mod Records

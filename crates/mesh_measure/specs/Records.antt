@@ -1,11 +1,10 @@
 -- The words of the contracts.
--- `Points`: the bytes hold the points. `facesAt`: the faces of a record.
+-- `facesAt`: the faces of a record.
 -- `FaceTaken`, `NextFace`: a face, and the next one.
 -- `EdgeAdded`, `FanAdded`, `fansOf`: what an edge or a face adds.
-use Prim.Native.Nat.{ℕ, _+_, _*_, _≤_, _<_}
+use Prim.Native.Nat.{ℕ, _+_, _<_}
 use mathlib.Core.Path.{_≡_}
 use mathlib.Core.List.{List}
-use lib.ListN.{length}
 use Rattle.arith.specs.declared.Vec3.{Vec3}
 use Rattle.reading.specs.Result.{Result, refused, fine}
 use Rattle.case_definitions.specs.Faces.{facesOf}
@@ -20,11 +19,6 @@ use Rattle.mesh_measure.specs.declared.Fanned.{Fanned}
 use Rattle.mesh_measure.specs.declared.Fanned.the-variants as Fan
 use Rattle.mesh_measure.specs.declared.Fans.{Fans}
 use Rattle.mesh_measure.specs.declared.Fans.the-variants as All
-
--- the bytes hold so many points
-pub record Points (case : List ℕ) (points : ℕ) : Type 0 where
-  pub few : points ≤ 65536
-  pub long : 24 * points ≤ length case
 
 -- the faces of the record h
 unfoldable pub facesAt : List ℕ → Head → List (List ℕ)

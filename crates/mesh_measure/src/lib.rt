@@ -1,28 +1,21 @@
-// What from_cells tests and measures over points, definitions and faces: coordinates (9, 10), the
-// geometry of one cell (15), and which side of a face its cells lie on (16).
-use arith::Found;
+// The geometry of one cell of a case (15).
 use arith::Vec3;
 use case_definitions::Head;
 use case_faces::FaceCursor;
-use mesh_area::Sizes;
 use mesh_geometry::TurnedFace;
 use mesh_volumes::CellMeasure;
 use mesh_volumes::Weight;
 ghost use mathlib.Core.Path.{_≡_};
-ghost use mathlib.Core.Bool.{false};
-ghost use Prim.Native.Nat.{_+_, _*_, _≤_, _<_};
-ghost use lib.ListN.{length, getD, take};
-ghost use Rattle.arith.specs.F64.{finite, within};
-ghost use Rattle.arith.specs.Lists.{fold, allOf, anyOf};
-ghost use Rattle.arith.specs.Vec.{each3};
+ghost use Prim.Native.Nat.{_≤_, _<_};
+ghost use lib.ListN.{length, getD};
+ghost use Rattle.arith.specs.Lists.{fold};
 ghost use Rattle.reading.specs.Result.{steps};
 ghost use Rattle.case_file.specs.Trailer.{wordsIn};
 ghost use Rattle.case_definitions.specs.Walker.{Headed};
-ghost use Rattle.mesh_area.specs.Tables.{faceAt};
-ghost use Rattle.mesh_area.specs.Layout.{pointsIn, facesIn, cellsIn, LentWords, LentFloats};
+ghost use Rattle.mesh_area.specs.Layout.{pointsIn};
 ghost use Rattle.mesh_volumes.specs.Geometry.{weightless, addTriangle, addFace3D, cellGeometry, cellOf};
-ghost use Rattle.mesh_measure.specs.Orientation as Orientation;
-ghost use Rattle.mesh_measure.specs.Records.{Points, facesAt, FaceTaken, EdgeAdded, FanAdded, fansOf};
+ghost use Rattle.mesh_coordinates.specs.Coordinates.{Points};
+ghost use Rattle.mesh_measure.specs.Records.{facesAt, FaceTaken, EdgeAdded, FanAdded, fansOf};
 
 // A sum with a face more, and the next face.
 struct Weighed {
@@ -41,40 +34,6 @@ enum Fans {
     Sum(Weight),
     Degenerate,
 }
-
-// ---- coordinates
-
-// Every coordinate is finite.
-pub fn all_finite(case: &[u8], points: usize) -> bool
-    requires { ⌜ Points (now case) points ⌝ }
-    ensures { λ r. ⌜ r ≡ allOf (each3 finite) (pointsIn (now (case .entry)) points) ⌝ }
-{
-    let mut i = 0;
-    while i < points {
-        if !mesh_area::point_at(case, points, i).is_finite() {
-            return false;
-        }
-        i += 1;
-    }
-    true
-}
-
-// No coordinate is beyond 1,048,576 in size.
-pub fn all_within(case: &[u8], points: usize) -> bool
-    requires { ⌜ Points (now case) points ⌝ }
-    ensures { λ r. ⌜ r ≡ allOf (each3 within) (pointsIn (now (case .entry)) points) ⌝ }
-{
-    let mut i = 0;
-    while i < points {
-        if !mesh_area::point_at(case, points, i).is_within() {
-            return false;
-        }
-        i += 1;
-    }
-    true
-}
-
-// ---- the geometry of one cell
 
 // Number k of a face; 0 past its end.
 fn number(face: &[u32], k: usize) -> usize
@@ -215,49 +174,4 @@ pub fn cell_geometry(
         Fans::Sum(w) => mesh_volumes::centre_3d(w),
         Fans::Degenerate => CellMeasure::ZeroVolume,
     }
-}
-
-// ---- which side of a face its cells lie on
-
-// `to` does not lie beyond `from`, along the normal.
-fn behind(to: Vec3, from: Vec3, normal: Vec3) -> bool
-    ensures { λ r. ⌜ r ≡ Orientation.behind to from normal ⌝ }
-{
-    to.sub(from).dot(normal) <= 1.0e-12
-}
-
-// Face f does not lie between the centres of its cells.
-fn is_misplaced(words: &[u32], floats: &[f64], s: Sizes, f: usize) -> bool
-    requires { ⌜ LentWords s (now words) ⌝ }
-    requires { ⌜ LentFloats s (now floats) ⌝ }
-    ensures { λ r. ⌜ r ≡ Orientation.misplaced (cellsIn s (now (words .entry)) (now (floats .entry)))
-        (faceAt (facesIn s (now (words .entry)) (now (floats .entry))) f) ⌝ }
-{
-    let centre = mesh_area::face_centre(floats, s, f);
-    let normal = mesh_area::face_normal(floats, s, f);
-    let owner = mesh_area::owner_of(words, s, f);
-    if behind(centre, mesh_area::centre_of(floats, s, owner), normal) {
-        return true;
-    }
-    match mesh_area::neighbour_of(words, s, f) {
-        Found::Nothing => false,
-        Found::At(n) => behind(mesh_area::centre_of(floats, s, n), centre, normal),
-    }
-}
-
-// Some face does not lie between the centres of its cells.
-pub fn any_misplaced(words: &[u32], floats: &[f64], s: Sizes) -> bool
-    requires { ⌜ LentWords s (now words) ⌝ }
-    requires { ⌜ LentFloats s (now floats) ⌝ }
-    ensures { λ r. ⌜ r ≡ anyOf (Orientation.misplaced (cellsIn s (now (words .entry)) (now (floats .entry))))
-        (facesIn s (now (words .entry)) (now (floats .entry))) ⌝ }
-{
-    let mut f = 0;
-    while f < s.faces {
-        if is_misplaced(words, floats, s, f) {
-            return true;
-        }
-        f += 1;
-    }
-    false
 }
