@@ -4,7 +4,5 @@ pub mod ListLaws
 pub mod RecordLaws
 pub mod All
 pub mod SortLaws
-pub mod OrderLaws
-pub mod StableLaws
 pub mod RootLaws
 pub mod RoundLaws

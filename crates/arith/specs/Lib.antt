@@ -3,8 +3,6 @@ pub mod Bytes
 pub mod Vec
 pub mod Lists
 pub mod All
-pub mod Stable
 pub mod Records
-pub mod Angle
 pub mod Sort
 pub mod Polygon

@@ -1,10 +1,8 @@
 // The arithmetic that mesh, lines and planes are written in: numbers in bytes, counts, Rust's methods
-// of f64, vectors, and the order of angles with its sort.
-pub mod angles;
+// of f64, and vectors.
 pub mod bytes;
 pub mod float;
 pub mod number;
-pub mod sort;
 mod vector;
 
 // A point or a vector of the room.
@@ -18,12 +16,6 @@ pub struct Vec3 {
 pub struct Vec2 {
     pub x: f64,
     pub y: f64,
-}
-
-// A direction of a plane, as the angle order compares it.
-pub struct Angle {
-    pub quarter: u64,
-    pub slope: f64,
 }
 
 // Where something was found.

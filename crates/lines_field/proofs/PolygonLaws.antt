@@ -13,15 +13,16 @@ use lib.Ieee.{Float, nan}
 use Rattle.arith.specs.F64.{_⊖_}
 use Rattle.arith.specs.Lists.{insertBefore, sort}
 use Rattle.arith.specs.Records.{tab, upTo}
-use Rattle.arith.specs.Angle.{angleOf, turnsBefore}
-use Rattle.arith.specs.Sort.{angleAt, earlier, sortedPlaces}
+use Rattle.arith_angles.specs.Angle.{angleOf, turnsBefore}
+use Rattle.arith_angles.specs.Sort.{angleAt, earlier, sortedPlaces}
 use Rattle.arith.specs.Vec.{pair}
-use Rattle.arith.specs.declared.Angle.{Angle}
+use Rattle.arith_angles.specs.declared.Angle.{Angle}
 use Rattle.arith.specs.declared.Vec2.{Vec2}
 use Rattle.arith.specs.declared.Vec3.{Vec3}
 use Rattle.arith.proofs.All.{All}
 use Rattle.arith.proofs.RecordLaws.{length-tab, tab-next, tab-same}
-use Rattle.arith.proofs.SortLaws.{sort-snoc, length-sort, all-insert, map-sort, place-below}
+use Rattle.arith.proofs.SortLaws.{sort-snoc, length-sort, all-insert, map-sort}
+use Rattle.arith_angles.proofs.PlaceLaws.{place-below}
 use Rattle.lines_field.specs.Corners.{about, turnsAbout}
 use Rattle.lines_field.specs.Layout.{cornerIn, cornersIn, AnglesAbout}
 use Rattle.lines_polygon.specs.Vertices.{pairFrom, pairsFrom}

@@ -5,7 +5,7 @@ use mathlib.Core.List.{List, []}
 use Rattle.arith.specs.F64.{_⊖_, _≈_}
 use Rattle.arith.specs.Lists.{fold, addNew, sort}
 use Rattle.arith.specs.Vec.{pair}
-use Rattle.arith.specs.Angle.{turnsBefore}
+use Rattle.arith_angles.specs.Angle.{turnsBefore}
 use Rattle.arith.specs.declared.Vec3.{Vec3}
 use Rattle.arith.specs.declared.Vec2.{Vec2}
 use Rattle.mesh_area.specs.Tables.{Mesh, Cell, pointAt, faceAt}

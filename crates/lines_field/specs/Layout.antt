@@ -8,8 +8,8 @@ use Rattle.arith.specs.Records.{tab}
 use Rattle.arith.specs.Vec.{pair}
 use Rattle.arith.specs.declared.Vec2.{Vec2}
 use Rattle.arith.specs.declared.Vec3.{Vec3}
-use Rattle.arith.specs.Angle.{angleOf}
-use Rattle.arith.specs.Sort.{angleAt}
+use Rattle.arith_angles.specs.Angle.{angleOf}
+use Rattle.arith_angles.specs.Sort.{angleAt}
 use Rattle.reading.specs.Result.{fine}
 use Rattle.mesh_area.specs.declared.Sizes.{Sizes}
 use Rattle.mesh_area.specs.Tables.{Mesh}

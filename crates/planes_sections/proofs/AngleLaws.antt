@@ -10,12 +10,13 @@ use lib.Seq.{getD-set-same, getD-set-other, take-suc, take-length}
 use lib.Ieee.{Float, nan}
 use Rattle.arith.specs.Lists.{fold, insertBefore, sort}
 use Rattle.arith.specs.Records.{tab, upTo}
-use Rattle.arith.specs.Sort.{angleAt, earlier, sortedPlaces}
-use Rattle.arith.specs.Angle.{precedes, turnsBefore}
-use Rattle.arith.specs.declared.Angle.{Angle}
+use Rattle.arith_angles.specs.Sort.{angleAt, earlier, sortedPlaces}
+use Rattle.arith_angles.specs.Angle.{precedes, turnsBefore}
+use Rattle.arith_angles.specs.declared.Angle.{Angle}
 use Rattle.arith.specs.declared.Vec3.{Vec3}
 use Rattle.arith.proofs.All.{All, all-append, all-getD, all-more}
-use Rattle.arith.proofs.SortLaws.{map-sort, all-insert, places-below}
+use Rattle.arith.proofs.SortLaws.{map-sort, all-insert}
+use Rattle.arith_angles.proofs.PlaceLaws.{places-below}
 use Rattle.planes_cut.specs.declared.Plane.{Plane}
 use Rattle.planes_sections.specs.Intersect.{earlierOn}
 use Rattle.planes_crossings.specs.Work.{Holds, heldIn, pointIn}

@@ -8,7 +8,7 @@ use lib.Ieee.{Float}
 use Rattle.arith.specs.F64.{_⊕_, _⊗_, _⊘_, _≺_, 0·0, 0·5, 1·0, ofℕ}
 use Rattle.arith.specs.Lists.{fold, only, anyOf, sort, Side, windows}
 use Rattle.arith.specs.Vec.{origin, plus, minus, times, cross, norm}
-use Rattle.arith.specs.Angle.{turnsBefore}
+use Rattle.arith_angles.specs.Angle.{turnsBefore}
 use Rattle.arith.specs.declared.Vec3.{Vec3}
 use Rattle.mesh_area.specs.Tables.{Mesh, Cell}
 use Rattle.planes_cut.specs.declared.Plane.{Plane}

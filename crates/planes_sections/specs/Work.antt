@@ -8,8 +8,8 @@ use lib.ListN.{length, getD}
 use lib.Ieee.{Float, nan}
 use Rattle.arith.specs.Lists.{anyOf, sort}
 use Rattle.arith.specs.Vec.{minus}
-use Rattle.arith.specs.Angle.{angleOf}
-use Rattle.arith.specs.declared.Angle.{Angle}
+use Rattle.arith_angles.specs.Angle.{angleOf}
+use Rattle.arith_angles.specs.declared.Angle.{Angle}
 use Rattle.arith.specs.declared.Vec3.{Vec3}
 use Rattle.mesh_area.specs.Tables.{Mesh, Cell, cellAt}
 use Rattle.planes_cut.specs.declared.Cut.{Cut}

@@ -1,9 +1,9 @@
 // The points of a piece in angle order about its centre.
-use arith::Angle;
 use arith::Vec2;
 use arith::Vec3;
-use arith::angles;
-use arith::sort;
+use arith_angles::Angle;
+use arith_angles::angles;
+use arith_angles::sort;
 use planes_crossings::held;
 use planes_cut::Plane;
 ghost use mathlib.Core.Path.{_≡_};

@@ -12,7 +12,7 @@ use lib.ListN.{length, take, set}
 use lib.Seq.{take-suc-set, take-all}
 use borrow.Author.Tests.{le-leb, lt-leb, eq-eqb, ne-eqb}
 use Rattle.arith.specs.Records.{tab}
-use Rattle.arith.specs.Sort.{sortedPlaces}
+use Rattle.arith_angles.specs.Sort.{sortedPlaces}
 use Rattle.arith.proofs.RecordLaws.{tab-next, length-tab}
 use Rattle.test_arith_exports.specs.Directions.{quarters, slopes, ordered, fitting}
 

@@ -1,7 +1,7 @@
 // The sort of at most 192 directions.
 use arith::Vec2;
-use arith::angles;
-use arith::sort;
+use arith_angles::angles;
+use arith_angles::sort;
 ghost use mathlib.Core.Path.{_≡_};
 ghost use Prim.Native.Nat.{_≤_};
 ghost use lib.ListN.{length};

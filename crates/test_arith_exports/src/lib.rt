@@ -3,15 +3,15 @@
 mod directions;
 
 use arith::Vec2;
-use arith::angles;
 use arith::bytes;
 use arith::float;
+use arith_angles::angles;
 ghost use mathlib.Core.Path.{_≡_};
 ghost use mathlib.Core.Bool.{cond};
 ghost use Rattle.arith_root.specs.Root.{root, SquareRoot};
 ghost use Rattle.arith.specs.F64 as F64;
 ghost use Rattle.arith.specs.Vec.{pair};
-ghost use Rattle.arith.specs.Angle.{turnsBefore};
+ghost use Rattle.arith_angles.specs.Angle.{turnsBefore};
 ghost use Rattle.test_arith_exports.specs.Directions.{fitting, ordered};
 
 #[no_mangle]

@@ -1,5 +1,5 @@
 use mathlib.Core.Path.{_∙_, ap₂}
-use Rattle.arith.specs.Angle.{turnsBefore, precedes}
+use Rattle.arith_angles.specs.Angle.{turnsBefore, precedes}
 use borrow.Author.Needs.{needs}
 use Rattle.test_arith_exports.proofs.hookyellow_turns_before.Statement.{statement}
 use Rattle.test_arith_exports.proofs.hookyellow_turns_before.Tie as tie

@@ -1,5 +1,5 @@
 use mathlib.Core.Path.{ap, sym, _∙_}
-use Rattle.arith.specs.Sort.{sortedPlaces}
+use Rattle.arith_angles.specs.Sort.{sortedPlaces}
 use Rattle.planes_crossings.proofs.HeldLaws.{holds-as, rest-as}
 use Rattle.planes_sections.proofs.AngleLaws.{sorted-within, arranged}
 use borrow.Author.Needs.{needs}

@@ -2,9 +2,9 @@ use native.Mathlib.Omega.{arith}
 use Prim.Native.Nat.{_≤_, _-_}
 use mathlib.Core.Path.{_≡_, refl, ap, _∙_}
 use lib.ListN.{length, take}
-use Rattle.arith.specs.Angle.{angleOf}
+use Rattle.arith_angles.specs.Angle.{angleOf}
 use Rattle.arith.specs.Records.{tab}
-use Rattle.arith.specs.declared.Angle.{Angle}
+use Rattle.arith_angles.specs.declared.Angle.{Angle}
 use Rattle.test_arith_exports.specs.Directions.{directionAt, quarters, slopes}
 use Rattle.test_arith_exports.proofs.Laws.{fill-turn, fill-done}
 use borrow.Author.Needs.{needs}
