@@ -13,7 +13,8 @@ use Rattle.mesh_geometry.specs.declared.FaceVector.the-variants as Of
 use Rattle.mesh_geometry.specs.declared.FaceGeometry.{FaceGeometry}
 use Rattle.mesh_geometry.specs.declared.TurnedFace.{TurnedFace}
 use Rattle.mesh_geometry.specs.declared.TurnedFace.the-variants as Turned
-use Rattle.mesh_geometry.specs.Faces.{average, faceAreaVector, faceWith, measured, inward, turnedIf, orientedFace, leftOrder}
+use Rattle.mesh_averages.specs.Averages.{average}
+use Rattle.mesh_geometry.specs.Faces.{faceAreaVector, faceWith, measured, inward, turnedIf, orientedFace, leftOrder}
 use Rattle.mesh_geometry.specs.Answers.{vectorOf, faceOf, Turning}
 
 -- what `face_of` answers

@@ -1,28 +1,15 @@
--- One turn and the end of each loop over a face's vertices. Assumes nothing.
+-- The sum of the sides' cross products: one turn and the end of the loop. Assumes nothing.
 use Prim.Native.Nat.{ℕ, _+_, _≤_, _<_}
 use mathlib.Core.Path.{_≡_, ap, sym, _∙_}
 use mathlib.Core.List.{List}
-use lib.ListN.{length, getD, drop, drop-of-length-le}
+use lib.ListN.{length, getD, drop}
 use Rattle.arith.specs.Lists.{fold, Side, sides, after}
 use Rattle.arith.specs.Vec.{plus, cross}
 use Rattle.arith.specs.declared.Vec3.{Vec3}
 use Rattle.arith.proofs.ListLaws.{foldl-next, length-sides, sides-at}
 use Rattle.mesh_area.specs.Tables.{pointAt}
-use Rattle.mesh_geometry.specs.Faces.{addPoint, addCross}
-
--- nothing is left
-pub fold-done : {A B : Type 0} (f : B → A → B) (l : List A) (i : ℕ) (s r : B) → fold f s (drop i l) ≡ r → length l ≤ i → s ≡ r
-unfolding fold
-fold-done f l i s r inv end = rw (drop-of-length-le l {i = i} end, fold) at inv
-
--- ---- the sum of the points
-
-pub sum-turn : (ps : List Vec3) (l : List ℕ) (i : ℕ) (s s′ p r : Vec3) → fold (addPoint ps) s (drop i l) ≡ r → i < length l → p ≡ pointAt ps (getD l i 0)
-    → s′ ≡ plus s p → fold (addPoint ps) s′ (drop (i + 1) l) ≡ r
-unfolding addPoint
-sum-turn ps l i s s′ p r inv more e t = rw (t, e) (sym (foldl-next l i 0 more (addPoint ps) s) ∙ inv)
-
--- ---- the sum of the sides' cross products
+use Rattle.mesh_averages.proofs.Laws.{fold-done}
+use Rattle.mesh_geometry.specs.Faces.{addCross}
 
 pub cross-turn : (ps : List Vec3) (l : List ℕ) (i : ℕ) (s s′ p r : Vec3) → fold (addCross ps) s (drop i (sides l)) ≡ r → i < length l
     → p ≡ cross (pointAt ps (getD l i 0)) (pointAt ps (getD l (after (length l) i) 0)) → s′ ≡ plus s p → fold (addCross ps) s′ (drop (i + 1) (sides l)) ≡ r

@@ -1,15 +1,14 @@
 -- What the answers of the functions mean: "a definition sets out this paper's number and values for each of its cases".
-use Prim.Native.Nat.{ℕ, _+_, _≤_}
+use Prim.Native.Nat.{ℕ}
 use mathlib.Core.Path.{_≡_}
-use mathlib.Core.List.{List, _++_}
-use lib.ListN.{length, take, drop}
+use mathlib.Core.List.{List}
 use Rattle.arith.specs.declared.Vec3.{Vec3}
 use Rattle.reading.specs.Result.{Result, refused, fine}
 use Rattle.mesh_geometry.specs.declared.FaceVector.{FaceVector}
 use Rattle.mesh_geometry.specs.declared.FaceVector.the-variants as Of
 use Rattle.mesh_geometry.specs.declared.TurnedFace.{TurnedFace}
 use Rattle.mesh_geometry.specs.declared.TurnedFace.the-variants as Turned
-use Rattle.mesh_geometry.specs.Faces.{Oriented, insertNew, measured, orientedFace, leftOrder}
+use Rattle.mesh_geometry.specs.Faces.{Oriented, measured, orientedFace, leftOrder}
 
 -- 13 "degenerate face"
 unfoldable pub vectorOf : FaceVector → Result Vec3
@@ -21,13 +20,6 @@ unfoldable pub faceOf : List ℕ → TurnedFace → Result Oriented
 faceOf l (Turned.Face g) =
     fine (record { vertices = l; centre = g .centre; area = g .area; normal = g .normal; areaVector = g .«area_vector» })
 faceOf l Turned.Degenerate = refused 13
-
--- `insert_new`: a slice before and after, whose first n and then first r numbers are rising
-pub record Inserted (before after : List ℕ) (n x r : ℕ) : Type 0 where
-  pub whole : after ≡ insertNew (take n before) x ++ drop r before
-  pub count : r ≡ length (insertNew (take n before) x)
-  pub held : take r after ≡ insertNew (take n before) x
-  pub few : r ≤ n + 1
 
 -- `oriented_face`: a slice before and after, and the answer
 pub record Turning (d : ℕ) (ps : List Vec3) (reference : Vec3) (before after : List ℕ) (r : TurnedFace) : Type 0 where

@@ -1,43 +1,21 @@
--- What one face of a cell is: mesh.rs's `unique_vertices`, `average_point`, `face_area_vector` and `oriented_face`.
--- `insertNew`, `rising`: the distinct point numbers of a cell.
--- `addPoint`, `average`: the average of points.
+-- What one face of a cell is: mesh.rs's `face_area_vector` and `oriented_face`.
 -- `turnedEdge`, `addCross`, `vectorIn`, `areaVector`: the area vector of a face.
 -- `enough`, `longEnough`, `faceAreaVector`: the same, or refusal 13.
 -- `Oriented`, `faceWith`, `measured`: a face as its vertices stand.
 -- `inward`, `turnedIf`, `orientedFace`, `leftOrder`: a face turned outward.
 use Prim.Native.Nat.{ℕ}
 use mathlib.Core.Bool.{Bool, true, false, cond}
-use mathlib.Core.List.{List, [], _∷_, reverse}
-use lib.Dec.{leb, ltb, eqb}
+use mathlib.Core.List.{List, reverse}
+use lib.Dec.{leb, eqb}
 use lib.ListN.{length, getD}
 use lib.Ieee.{Float, neg}
-use Rattle.arith.specs.F64.{_≺_, 0·0, 0·5, 1e-12, ofℕ}
+use Rattle.arith.specs.F64.{_≺_, 0·0, 0·5, 1e-12}
 use Rattle.arith.specs.Lists.{fold, Side, sides}
 use Rattle.arith.specs.Vec.{vec, origin, plus, minus, times, over, dot, cross, norm}
 use Rattle.arith.specs.declared.Vec3.{Vec3}
 use Rattle.reading.specs.Result.{Result, refused, fine, _>>=_}
 use Rattle.mesh_area.specs.Tables.{pointAt}
-
--- ---- `unique_vertices`
-
--- a number put into a rising list, unless it is there
-unfoldable pub insertNew : List ℕ → ℕ → List ℕ
-insertNew [] x = x ∷ []
-insertNew (a ∷ l) x = elim (ltb a x) [ true ↦ a ∷ insertNew l x | false ↦ cond (eqb a x) (a ∷ l) (x ∷ a ∷ l) ]
-
--- the distinct point numbers of a cell, "in rising point order"
-unfoldable pub rising : List ℕ → List ℕ
-rising l = fold insertNew [] l
-
--- ---- `average_point`
-
--- one more point in the sum
-unfoldable pub addPoint : List Vec3 → Vec3 → ℕ → Vec3
-addPoint ps s i = plus s (pointAt ps i)
-
--- the points summed in the list's order, over their number: "its cell averages in rising point order, its face averages in the face's own order"
-unfoldable pub average : List Vec3 → List ℕ → Vec3
-average ps l = over (fold (addPoint ps) origin l) (ofℕ (length l))
+use Rattle.mesh_averages.specs.Averages.{average}
 
 -- ---- `face_area_vector`
 

@@ -20,8 +20,7 @@ use Rattle.case_definitions.specs.declared.Head.{Head}
 use Rattle.case_faces.specs.declared.FaceCursor.{FaceCursor}
 use Rattle.case_faces.proofs.FaceLaws.{PolygonHead, HeadCase, polygon-head, solid-head, polyhedron-head, head-case, at-first}
 use Rattle.case_definitions.proofs.Walking.{head-faces}
-use Rattle.mesh_geometry.specs.Faces.{insertNew, rising, average}
-use Rattle.mesh_geometry.specs.Answers.{Inserted}
+use Rattle.mesh_averages.specs.Averages.{insertNew, rising, average, Inserted}
 use Rattle.mesh_points.specs.Collect.{wrongKind, missing, referenceOf, insertBelow, numbersIn, Collecting, checked, referenceCase}
 use Rattle.mesh_points.specs.declared.Collected.{Collected}
 use Rattle.mesh_points.specs.declared.Collected.the-variants.{Numbers, Missing}

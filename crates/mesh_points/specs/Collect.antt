@@ -12,7 +12,7 @@ use Rattle.arith.specs.Lists.{anyOf, flatten}
 use Rattle.arith.specs.declared.Vec3.{Vec3}
 use Rattle.reading.specs.Result.{Result, refused, fine, _>>=_, refuse, steps}
 use Rattle.case_definitions.specs.Faces.{Definition, polygon, solid, polyhedron, facesOf}
-use Rattle.mesh_geometry.specs.Faces.{insertNew, rising, average}
+use Rattle.mesh_averages.specs.Averages.{insertNew, rising, average}
 use Rattle.mesh_points.specs.declared.Collected.{Collected}
 use Rattle.mesh_points.specs.declared.Collected.the-variants.{Numbers, Missing}
 use Rattle.mesh_points.specs.declared.Reference.{Reference}

@@ -2,7 +2,7 @@
 // they are.
 use arith::Vec3;
 use arith::float;
-use mesh_geometry::vertex_point;
+use mesh_averages::vertex_point;
 ghost use mathlib.Core.Path.{_≡_};
 ghost use mathlib.Core.List.{[], _∷_};
 ghost use Prim.Native.Nat.{_+_, _*_, _≤_, _<_};

@@ -1,7 +1,7 @@
 use native.Mathlib.Omega.{arith}
 use borrow.Author.Needs.{needs}
-use Rattle.mesh_geometry.proofs.vertex_point.Statement.{statement}
-use Rattle.mesh_geometry.proofs.vertex_point.Tie as tie
+use Rattle.mesh_averages.proofs.vertex_point.Statement.{statement}
+use Rattle.mesh_averages.proofs.vertex_point.Tie as tie
 
 cast-point-at : tie.Need-cast-point-at
 cast-point-at c =

@@ -4,11 +4,11 @@ use lib.ListN.{length, drop}
 use Rattle.arith.specs.Lists.{fold}
 use Rattle.arith.specs.Vec.{origin}
 use Rattle.mesh_area.specs.Layout.{pointsIn}
-use Rattle.mesh_geometry.specs.Faces.{addPoint}
-use Rattle.mesh_geometry.proofs.FaceLaws.{sum-turn, fold-done}
+use Rattle.mesh_averages.specs.Averages.{addPoint}
+use Rattle.mesh_averages.proofs.Laws.{sum-turn, fold-done}
 use borrow.Author.Needs.{needs}
-use Rattle.mesh_geometry.proofs.point_sum.Statement.{statement}
-use Rattle.mesh_geometry.proofs.point_sum.Tie as tie
+use Rattle.mesh_averages.proofs.point_sum.Statement.{statement}
+use Rattle.mesh_averages.proofs.point_sum.Tie as tie
 
 abbrev Inv-loop : tie.InvT-loop
 Inv-loop case points vertices sum₀ i₀ sum i =

@@ -1,10 +1,10 @@
 use native.Mathlib.Omega.{arith}
 use mathlib.Core.Path.{refl}
 use Rattle.arith.proofs.Counts.{whole-in}
-use Rattle.mesh_geometry.specs.Faces.{average}
+use Rattle.mesh_averages.specs.Averages.{average}
 use borrow.Author.Needs.{needs}
-use Rattle.mesh_geometry.proofs.average_point.Statement.{statement}
-use Rattle.mesh_geometry.proofs.average_point.Tie as tie
+use Rattle.mesh_averages.proofs.average_point.Statement.{statement}
+use Rattle.mesh_averages.proofs.average_point.Tie as tie
 
 int-to-float-div : tie.Need-int-to-float-div
 int-to-float-div c = whole-in _ (omega arith)
