@@ -12,12 +12,13 @@ use lib.Ieee.Fits.{and-l, and-r}
 use lib.Ieee.Bits.{ofBits-toBits, toBits-lt, ofBits-fits}
 use borrow.Author.Tests.{lt-ltb}
 use Rattle.arith_root.specs.Root.{mag, root, plus, Nearest, SquareRoot, isqrt}
-use Rattle.arith_root.specs.Work.{unitsOf, Scaled, WholeRoot}
+use Rattle.arith_whole_root.specs.Whole.{WholeRoot}
+use Rattle.arith_root.specs.Work.{unitsOf, Scaled}
 use Rattle.arith_root.proofs.Cases.{nought, some-above, equals→mag, mag-odd, mag-bits, plus-top, some-bits, root-above}
 use Rattle.arith_root.proofs.Fields.{unpack-0, unpack-1}
 use Rattle.arith_root.proofs.Pack.{wide, wide-in, in-108, units-are, square-is, rounded-is, packed, q-low}
 use lib.Pow.{pow-add, pow-mono, pow-pos, shl-lt}
-use Rattle.arith_root.proofs.Steps.{square-sum}
+use Rattle.arith_whole_root.proofs.Steps.{square-sum}
 use Rattle.arith_root.proofs.Whole.{four, isqrt-is}
 
 -- ---- the midpoints of the kept digits p = (q + 1) / 2, in halves: 2p - 1 and 2p + 1

@@ -3,7 +3,7 @@ use mathlib.Core.Path.{sym, subst, _∙_}
 use Prim.Native.Nat.{_*_, _^_}
 use native.Mathlib.Omega.{arith}
 use lib.Dec.{T}
-use Rattle.arith_root.specs.Work.{HalfRoot}
+use Rattle.arith_whole_root.specs.Whole.{HalfRoot}
 use Rattle.arith_root.proofs.Pack.{wide, wide-in, half-pos, half-fits, half-packed, half-no-nan}
 use Rattle.arith_root.proofs.positive.Statement.{statement}
 use Rattle.arith_root.proofs.positive.Tie as tie

@@ -8,7 +8,7 @@ use mir.Val.{boolByte}
 use borrow.Author.Tests.{leb-true, leb-false}
 use lib.Dec.{leb}
 use lib.Pow.{pow-lt}
-use Rattle.arith_root.specs.Work.{Digits, WholeRoot}
+use Rattle.arith_whole_root.specs.Whole.{Digits, WholeRoot}
 
 -- the place of the next digit, as the code has it
 abbrev pub place : ℕ → ℕ

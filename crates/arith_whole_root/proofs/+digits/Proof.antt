@@ -1,13 +1,13 @@
 use Prim.Native.Nat.{ℕ, _<_}
 use native.Mathlib.Omega.{arith}
-use Rattle.arith_root.proofs.Steps.{place-is, twice, turn, last-digit}
+use Rattle.arith_whole_root.proofs.Steps.{place-is, twice, turn, last-digit}
 use borrow.Fn.Kinds.{In}
 use borrow.Fn.PlainCycle.{Measures, is, falls, and}
-use Rattle.arith_root.proofs.digits.Reads as digits
-use Rattle.arith_root.proofs.digits.Kinds as digits-kinds
-use Rattle.arith_root.proofs.+digits.Lts-digits as digits-lts
-use Rattle.arith_root.proofs.+digits.{statement}
-use Rattle.arith_root.proofs.+digits.Tie.{close}
+use Rattle.arith_whole_root.proofs.digits.Reads as digits
+use Rattle.arith_whole_root.proofs.digits.Kinds as digits-kinds
+use Rattle.arith_whole_root.proofs.+digits.Lts-digits as digits-lts
+use Rattle.arith_whole_root.proofs.+digits.{statement}
+use Rattle.arith_whole_root.proofs.+digits.Tie.{close}
 
 abbrev μ-digits : Measures 0 digits-kinds.ps ℕ
 μ-digits κs a = a .1 .1 .0

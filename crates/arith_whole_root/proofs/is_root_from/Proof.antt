@@ -1,8 +1,8 @@
 use borrow.Author.Needs.{needs}
 use native.Mathlib.Omega.{arith}
-use Rattle.arith_root.proofs.Halves.{product, checked}
-use Rattle.arith_root.proofs.is_root_from.Statement.{statement}
-use Rattle.arith_root.proofs.is_root_from.Tie as tie
+use Rattle.arith_whole_root.proofs.Halves.{product, checked}
+use Rattle.arith_whole_root.proofs.is_root_from.Statement.{statement}
+use Rattle.arith_whole_root.proofs.is_root_from.Tie as tie
 
 mul-if1 : tie.Need-mul-if1
 mul-if1 c = omega (arith, product (c .args .h) (c .args .h) (c .pre .0) (c .pre .0))

@@ -1,9 +1,9 @@
 use borrow.Author.Needs.{needs}
 use Prim.Native.Nat.{_*_, _^_}
 use native.Mathlib.Omega.{arith}
-use Rattle.arith_root.proofs.Halves.{half}
-use Rattle.arith_root.proofs.is_half_root.Statement.{statement}
-use Rattle.arith_root.proofs.is_half_root.Tie as tie
+use Rattle.arith_whole_root.proofs.Halves.{half}
+use Rattle.arith_whole_root.proofs.is_half_root.Statement.{statement}
+use Rattle.arith_whole_root.proofs.is_half_root.Tie as tie
 
 returns : tie.Need-returns
 returns c t = absurd t

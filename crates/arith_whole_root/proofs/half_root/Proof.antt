@@ -4,10 +4,10 @@ use Prim.Native.Nat.{_*_, _^_}
 use native.Mathlib.Nat.{zero-add}
 use native.Mathlib.Omega.{arith}
 use lib.Dec.{T}
-use Rattle.arith_root.specs.Work.{WholeRoot}
-use Rattle.arith_root.proofs.Whole.{less}
-use Rattle.arith_root.proofs.half_root.Statement.{statement}
-use Rattle.arith_root.proofs.half_root.Tie as tie
+use Rattle.arith_whole_root.specs.Whole.{WholeRoot}
+use Rattle.arith_whole_root.proofs.Whole.{less}
+use Rattle.arith_whole_root.proofs.half_root.Statement.{statement}
+use Rattle.arith_whole_root.proofs.half_root.Tie as tie
 
 sub-is-half-root : tie.Need-sub-is-half-root
 sub-is-half-root c = search needs

@@ -5,8 +5,8 @@ use native.Mathlib.Nat.{mul-comm, mul-assoc, mul-left-comm, mul-le-mul}
 use native.Mathlib.Omega.{arith}
 use mathlib.Core.Bool.{Bool, true, false, not}
 use lib.Dec.{T, leb, ltb, ltb→lt, leb→le, nleb→lt}
-use Rattle.arith_root.specs.Work.{RootFrom, HalfRoot}
-use Rattle.arith_root.proofs.Steps.{square-sum}
+use Rattle.arith_whole_root.specs.Whole.{RootFrom, HalfRoot}
+use Rattle.arith_whole_root.proofs.Steps.{square-sum}
 
 -- the product of two halves fits
 pub product : (a b : ℕ) → a < 2 ^ 28 → b < 2 ^ 28 → a * b < 2 ^ 56
