@@ -8,6 +8,12 @@ ghost use lib.ListN.{set};
 ghost use lib.Seq.{sets};
 ghost use Rattle.answers.specs.Words.{vecWords, valuesWords};
 
+// How many words the whole answer has, or its refusal.
+pub enum Answered {
+    Words(usize),
+    Refused(u64),
+}
+
 // Word `at`, where there is one.
 pub fn put(out: &mut [u64], at: usize, w: u64)
     ensures { λ _. ⌜ now (out .exit) ≡ set (now (out .entry)) at w ⌝ }

@@ -8,8 +8,8 @@ use Rattle.reading.specs.declared.Values.{Values}
 use Rattle.reading.specs.Asks.{give, run, reads}
 use Rattle.reading.specs.Marks.{markAll}
 use Rattle.reading.proofs.AsksLaws.{run-bind, reads-bind}
-use Rattle.planes.specs.declared.Answered.{Answered}
-use Rattle.planes.specs.Reply.{Replied}
+use Rattle.answers.specs.declared.Answered.{Answered}
+use Rattle.answers.specs.Reply.{Replied}
 use Rattle.job_room.specs.Room.{Room}
 use Rattle.job_requests.specs.declared.Request.{Request}
 use Rattle.job_requests.specs.Requests.{requestOf}

@@ -6,8 +6,8 @@ use mathlib.Core.List.{List, [], _++_, append-nil}
 use lib.ListN.{length, take, drop, length-append, length-drop, drop-of-length-le}
 use lib.Seq.{sets, sets-eq, take-all, take-at, drop-at, take-append-le, length-take-le, take-take}
 use Rattle.reading.specs.Result.{Result, refused, fine}
-use Rattle.planes.specs.declared.Answered.{Answered}
-use Rattle.planes.specs.Reply.{answerOf, lengthOf, replied}
+use Rattle.answers.specs.declared.Answered.{Answered}
+use Rattle.answers.specs.Reply.{answerOf, lengthOf, replied}
 use Rattle.job_buffers.specs.Answer.{fitting, answerWords, headerOf}
 use Rattle.job_buffers.specs.Placed.{Behind, Placed, Closed}
 use Rattle.job_buffers.proofs.WordLaws.{closed-placed}

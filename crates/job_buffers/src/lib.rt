@@ -1,5 +1,5 @@
 // What a job stores in the lent answers and marks: an answer's header, cleared marks, the zeros at the end.
-use planes::Answered;
+use answers::Answered;
 ghost use mathlib.Core.Path.{_≡_};
 ghost use mathlib.Core.List.{_++_};
 ghost use Prim.Native.Nat.{_+_, _-_, _*_, _≤_};

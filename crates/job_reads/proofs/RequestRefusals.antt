@@ -30,7 +30,8 @@ use Rattle.job_requests.specs.declared.Request.{Request}
 use Rattle.job_requests.specs.declared.Request.the-variants as requests
 use Rattle.job_requests.specs.Requests.{number, refuseIf, streamline, rakeOf, rake, planeOf, statistics as fieldStatistics, overPlane, planar, byCode, requestOf}
 use Rattle.job_room.specs.Room.{Room, flat, solid}
-use Rattle.job_serve.specs.Serve.{decided, serveFlat, serveSolid, serve}
+use Rattle.answers.specs.Reply.{decided}
+use Rattle.job_serve.specs.Serve.{serveFlat, serveSolid, serve}
 use Rattle.job_reads.proofs.Ranges.{among, Ranged, due, none, bind, barred, either, through}
 
 abbrev pub Answer : {A : Type 0} → Result A → Type 0

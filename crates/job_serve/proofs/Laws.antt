@@ -29,21 +29,18 @@ use Rattle.lines_velocity.specs.declared.Vector.the-variants.{Here, Nowhere}
 use Rattle.lines_velocity.specs.declared.Tracer.{Tracer}
 use Rattle.lines_velocity.specs.Velocity.{locateIn, velocityAt}
 use Rattle.lines_velocity.specs.Ready.{tracerField, Ready}
-use Rattle.lines.specs.declared.Traced.{Traced}
-use Rattle.lines.specs.declared.Traced.the-variants as Traced
 use Rattle.lines.specs.declared.Rake as declared
 use Rattle.lines.specs.declared.StreamlineSettings.{StreamlineSettings}
 use Rattle.lines.specs.Line.{integrate}
 use Rattle.lines.specs.Rake.{integrateRake}
-use Rattle.lines.specs.Answered as Lines
-use Rattle.lines.specs.Answered.{resultOf, countOf, readsOf}
-use Rattle.planes.specs.declared.Answered.{Answered}
-use Rattle.planes.specs.declared.Answered.the-variants as Answered
 use Rattle.planes.specs.Answers.{sectionOf, statisticsOf, integralsOf, probeOf}
 use Rattle.answers.specs.Words.{vecWords}
+use Rattle.answers.specs.declared.Answered.{Answered}
+use Rattle.answers.specs.declared.Answered.the-variants as Answered
+use Rattle.answers.specs.Reply.{answerOf, lengthOf, decided, replied, Replied}
 use Rattle.planes_sums.specs.Words.{sampleWords}
 use Rattle.planes_samples.specs.Stream as Planes
-use Rattle.planes.specs.Reply.{answerOf, lengthOf, replied, goods, leftBy, Replied}
+use Rattle.planes.specs.Reply.{goods, leftBy}
 use Rattle.job_requests.specs.declared.Request.{Request}
 use Rattle.job_requests.specs.declared.Request.the-variants.{Refused, Locate, Velocity, Streamline, Rake, Section, Statistics, Integrals, Probe}
 use Rattle.job_requests.specs.Bounds.{Allowed}
@@ -54,7 +51,7 @@ use Rattle.job_room.specs.Stands.{roomIn, countsIn, Servable, Stands}
 use Rattle.job_requests.proofs.Request.{the-type}
 use types.Run.{OneOf}
 use denote.Enum.Declared.{tagOf}
-use Rattle.job_serve.specs.Serve.{foundWords, velocityWords, decided, serveFlat, serveSolid, serve}
+use Rattle.job_serve.specs.Serve.{foundWords, velocityWords, serveFlat, serveSolid, serve}
 use Rattle.job_serve.specs.Left.{leftUnder}
 
 -- ---- an answer, or a refusal, that is decided before any value is read
@@ -67,33 +64,6 @@ module _ {f : ℕ → Values} {o m : List ℕ} where
   pub replied-yes : {left o′ : List ℕ} (ws : List ℕ) (n : ℕ) → length ws ≡ n → o′ ≡ sets o 0 ws → Replied (give (fine ws)) f left (Answered.Words n) o o′ m m
   unfolding answerOf lengthOf replied
   replied-yes ws n e h = record { result = rw e; answers = h; marks = refl }
-
--- ---- a job over lines
-
-module _ (f : ℕ → Values) where
-  pub run-decided : (j : Result (Asks (List ℕ))) → lengthOf (run (decided j) f) ≡ countOf j f
-  unfolding decided lengthOf countOf
-  run-decided (refused n) = refl
-  run-decided (fine t) = rw (run-bind t (λ ws. give (fine ws)) f)
-
-  pub reads-decided : (j : Result (Asks (List ℕ))) → reads (decided j) f ≡ readsOf j f
-  unfolding decided readsOf
-  reads-decided (refused n) = refl
-  reads-decided (fine t) = reads-bind t (λ ws. give (fine ws)) f ∙ append-nil (reads t f)
-
-  pub replied-decided : (o : List ℕ) (j : Result (Asks (List ℕ))) → replied o o (run (decided j) f) ≡ sets o 0 (Lines.wordsOf j f)
-  unfolding decided replied Lines.wordsOf
-  replied-decided o (refused n) = refl
-  replied-decided o (fine t) = rw (run-bind t (λ ws. give (fine ws)) f)
-
-  pub decided-replied : {j : Result (Asks (List ℕ))} {m m′ o o′ : List ℕ} {r : Traced} {a : Answered} → Lines.Answered j f m m′ o o′ r
-      → answerOf a ≡ resultOf r → Replied (decided j) f o a o o′ m m′
-  decided-replied {j} {m} {o} w e =
-      record {
-        result = e ∙ w .result ∙ sym (run-decided j);
-        answers = w .words ∙ sym (replied-decided o j);
-        marks = w .marks ∙ ap (markAll m) (sym (reads-decided j));
-      }
 
 -- ---- codes 1 to 4
 
@@ -124,16 +94,6 @@ module _ {v : ℕ → Values} {o o′ m : List ℕ} where
         answers = rw answer h;
         marks = t .marks ∙ ap (markAll m) (sym (reads-bind (velocityAt F p) tail v ∙ append-nil (reads (velocityAt F p) v)));
       }
-
-  pub streamline-reply : {m′ : List ℕ} (F : StreamlineField) (p : Vec3) (s : StreamlineSettings) (r : Traced) (a : Answered) → Lines.Answered (integrate F p s) v m m′ o o′ r
-      → answerOf a ≡ resultOf r → Replied (serveFlat F (Streamline p s)) v o a o o′ m m′
-  unfolding serveFlat
-  streamline-reply F p s r a w e = decided-replied v w e
-
-  pub rake-reply : {m′ : List ℕ} (F : StreamlineField) (k : declared.Rake) (s : StreamlineSettings) (r : Traced) (t : Answered) → Lines.Answered (integrateRake F k s) v m m′ o o′ r
-      → answerOf t ≡ resultOf r → Replied (serveFlat F (Rake k s)) v o t o o′ m m′
-  unfolding serveFlat
-  rake-reply F k s r t w e = decided-replied v w e
 
 -- ---- which code it is
 
@@ -180,6 +140,15 @@ module _ (F : StreamlineField) {v : ℕ → Values} {o m : List ℕ} where
 
   pub flat-code : {r : Answered} {o′ m′ : List ℕ} (q k : Request) → q ≡ k → Replied (serveFlat F k) v o r o o′ m m′ → Replied (serveFlat F q) v o r o o′ m m′
   flat-code q k e h = rw e h
+
+  module _ {r : Answered} {o′ m′ : List ℕ} (q : Request) (s : StreamlineSettings) where
+    pub flat-streamline : (p : Vec3) → q ≡ Streamline p s → Replied (decided (integrate F p s)) v o r o o′ m m′ → Replied (serveFlat F q) v o r o o′ m m′
+    unfolding serveFlat
+    flat-streamline p e h = rw e h
+
+    pub flat-rake : (k : declared.Rake) → q ≡ Rake k s → Replied (decided (integrateRake F k s)) v o r o o′ m m′ → Replied (serveFlat F q) v o r o o′ m m′
+    unfolding serveFlat
+    flat-rake k e h = rw e h
 
 module _ (M : Mesh) (v : ℕ → Values) (o : List ℕ) {m : List ℕ} where
   pub solid-refused : (q : Request) (n : ℕ) → q ≡ Refused n → Replied (serveSolid M q) v (leftUnder (solid M) q v o) (Answered.Refused n) o o m m

@@ -13,6 +13,7 @@ use Rattle.lines_velocity.specs.Velocity.{locateIn, velocityAt}
 use Rattle.lines.specs.Line.{integrate}
 use Rattle.lines.specs.Rake.{integrateRake}
 use Rattle.answers.specs.Words.{vecWords}
+use Rattle.answers.specs.Reply.{decided}
 use Rattle.planes.specs.Answers.{sectionOf, statisticsOf, integralsOf, probeOf}
 use Rattle.job_requests.specs.declared.Request.{Request}
 use Rattle.job_requests.specs.declared.Request.the-variants.{Refused, Locate, Velocity, Streamline, Rake, Section, Statistics, Integrals, Probe}
@@ -27,11 +28,6 @@ foundWords Nothing = (2 ^ 64 - 1) ∷ []
 unfoldable pub velocityWords : Vector → List ℕ
 velocityWords (Here v) = 1 ∷ vecWords v
 velocityWords Nowhere = 0 ∷ 0 ∷ 0 ∷ 0 ∷ []
-
--- a refusal that is decided before any value is read
-unfoldable pub decided : Result (Asks (List ℕ)) → Asks (Result (List ℕ))
-decided (refused n) = give (refused n)
-decided (fine t) = t >>= λ ws. give (fine ws)
 
 -- codes 1 to 4. 31 is due before a request's arguments are looked at: `requestOf` (crates/job_requests/specs/Requests.antt) refuses with it, and makes no
 -- request of codes 5 to 8 over a 2D mesh. So the last four cases do not come in a job; they are here since the definition is of every request.

@@ -1,19 +1,16 @@
 // The answer to one request, over a room in the work area.
+use answers::Answered;
 use arith::Found;
 use arith::Vec3;
 use case_file::Counts;
 use job_requests::Request;
 use job_room::Place;
-use lines::Rake;
-use lines::StreamlineSettings;
-use lines::Traced;
 use lines::integrate;
 use lines::rakes;
 use lines_velocity::Tracer;
 use lines_velocity::Vector;
 use lines_velocity::interpolate;
 use mesh_area::Sizes;
-use planes::Answered;
 use planes::codes;
 ghost use mathlib.Core.Path.{_≡_};
 ghost use mathlib.Core.List.{List};
@@ -22,12 +19,11 @@ ghost use lib.ListN.{length};
 ghost use lib.Seq.{sets};
 ghost use lib.Ieee.{Float};
 ghost use Rattle.reading.specs.declared.Values.{Values};
+ghost use Rattle.answers.specs.Reply.{Replied};
 ghost use Rattle.mesh_area.specs.Layout.{pointsIn, meshIn};
 ghost use Rattle.case_file.specs.Field.{valuesOf};
 ghost use Rattle.lines_velocity.specs.Ready.{tracerField, Locatable, Ready};
-ghost use Rattle.lines.specs.Answered.{resultOf};
 ghost use Rattle.planes_samples.specs.Stream as Planes;
-ghost use Rattle.planes.specs.Reply.{answerOf, Replied};
 ghost use Rattle.job_requests.specs.declared.Request.the-variants as Code;
 ghost use Rattle.job_requests.specs.Bounds.{Allowed};
 ghost use Rattle.job_room.specs.Room.{solid};
@@ -58,16 +54,6 @@ fn put_velocity(r: Vector, out: &mut [u64])
             answers::put(out, 0, 0);
             answers::put_vec(out, 1, Vec3::new(0.0, 0.0, 0.0));
         }
-    }
-}
-
-// How many words, or the refusal.
-fn answered(r: Traced) -> Answered
-    ensures { λ a. ⌜ answerOf a ≡ resultOf r ⌝ }
-{
-    match r {
-        Traced::Words(k) => Answered::Words(k),
-        Traced::Refused(k) => Answered::Refused(k),
     }
 }
 
@@ -102,48 +88,6 @@ fn serve_velocity(
     Answered::Words(4)
 }
 
-// Code 3.
-fn serve_streamline(
-    case: &[u8],
-    words: &[u32],
-    floats: &[f64],
-    t: Tracer,
-    marks: &mut [u8],
-    out: &mut [u64],
-    seed: Vec3,
-    settings: StreamlineSettings,
-) -> Answered
-    requires { ⌜ Ready (now case) (now words) (now floats) t ⌝ }
-    requires { ⌜ settings .options .«max_steps» ≤ 65536 ⌝ }
-    ensures { λ r. ⌜ Replied (Serve.serveFlat (tracerField t (now (words .entry)) (now (floats .entry)))
-        (Code.Streamline seed settings)) (valuesOf (now (case .entry))) (now (out .entry)) r (now (out .entry))
-        (now (out .exit)) (now (marks .entry)) (now (marks .exit)) ⌝ }
-{
-    let r = integrate::integrate(case, words, floats, t, marks, out, seed, settings);
-    answered(r)
-}
-
-// Code 4.
-fn serve_rake(
-    case: &[u8],
-    words: &[u32],
-    floats: &[f64],
-    t: Tracer,
-    marks: &mut [u8],
-    out: &mut [u64],
-    rake: Rake,
-    settings: StreamlineSettings,
-) -> Answered
-    requires { ⌜ Ready (now case) (now words) (now floats) t ⌝ }
-    requires { ⌜ (2 ≤ rake .count) × (rake .count ≤ 64) × (settings .options .«max_steps» ≤ 65536) ⌝ }
-    ensures { λ r. ⌜ Replied (Serve.serveFlat (tracerField t (now (words .entry)) (now (floats .entry)))
-        (Code.Rake rake settings)) (valuesOf (now (case .entry))) (now (out .entry)) r (now (out .entry))
-        (now (out .exit)) (now (marks .entry)) (now (marks .exit)) ⌝ }
-{
-    let r = rakes::integrate_rake(case, words, floats, t, marks, out, rake, settings);
-    answered(r)
-}
-
 // Codes 1 to 4.
 fn serve_flat(
     case: &[u8],
@@ -164,8 +108,12 @@ fn serve_flat(
         Request::Refused(k) => Answered::Refused(k),
         Request::Locate(p) => serve_locate(words, floats, t, out, p),
         Request::Velocity(p) => serve_velocity(case, words, floats, t, marks, out, p),
-        Request::Streamline(p, s) => { serve_streamline(case, words, floats, t, marks, out, p, s) }
-        Request::Rake(rake, s) => serve_rake(case, words, floats, t, marks, out, rake, s),
+        Request::Streamline(p, s) => {
+            integrate::integrate(case, words, floats, t, marks, out, p, s)
+        }
+        Request::Rake(rake, s) => {
+            rakes::integrate_rake(case, words, floats, t, marks, out, rake, s)
+        }
         _ => Answered::Refused(31), // request_of gave 31 already
     }
 }

@@ -23,13 +23,13 @@ use Rattle.reading.specs.Result as result
 use Rattle.reading.specs.Result.{Result, fine, refused, refuse}
 use Rattle.lines_locate.specs.Field.{StreamlineField}
 use Rattle.lines_velocity.specs.Velocity.{locateIn}
-use Rattle.lines.specs.declared.Traced.the-variants.{Words, Refused}
+use Rattle.answers.specs.declared.Answered.the-variants.{Words, Refused}
+use Rattle.answers.specs.Reply.{answerOf, lengthOf, decided, replied, Replied}
 use Rattle.lines.specs.declared.StreamlineSettings.{StreamlineSettings}
 use Rattle.lines.specs.declared.Rake.{Rake}
 use Rattle.lines.specs.Line.{isNowhere, nowhere, lineAnswer}
 use Rattle.lines.specs.Rake.{seedAt, seeds, linesWords}
 use Rattle.lines.specs.Written.{Written}
-use Rattle.lines.specs.Answered.{Answered, resultOf, countOf, readsOf, wordsOf}
 use Rattle.answers.proofs.WordLaws.{sets-append, sets-set}
 use Rattle.lines.proofs.LineLaws.{give-then}
 
@@ -47,13 +47,21 @@ module _ (F : StreamlineField) (p : Vec3) (r : Found) (e : r ≡ locateIn F p) w
 -- ---- the answer of a job
 
 module _ {j : Result (Asks (List ℕ))} {f : ℕ → Values} {m o : List ℕ} where
-  pub answered-refused : (k : ℕ) → j ≡ refused k → Answered j f m m o o (Refused k)
-  unfolding resultOf countOf readsOf wordsOf
-  answered-refused k e = record { result = rw e; marks = rw e; words = rw e }
+  pub answered-refused : (k : ℕ) → j ≡ refused k → Replied (decided j) f o (Refused k) o o m m
+  unfolding answerOf lengthOf decided replied
+  answered-refused k e = rw e (record { result = refl; answers = refl; marks = refl })
 
-  pub answered-fine : {m′ o′ : List ℕ} {r : ℕ} (t : Asks (List ℕ)) → j ≡ fine t → Written t f m m′ o o′ 0 r → Answered j f m m′ o o′ (Words r)
-  unfolding resultOf countOf readsOf wordsOf
-  answered-fine t e w = record { result = rw e (ap fine (w .count)); marks = rw e (w .marks); words = rw e (w .words) }
+  pub answered-fine : {m′ o′ : List ℕ} {r : ℕ} (t : Asks (List ℕ)) → j ≡ fine t → Written t f m m′ o o′ 0 r → Replied (decided j) f o (Words r) o o′ m m′
+  unfolding answerOf lengthOf decided replied
+  answered-fine t e w =
+      let answer : run (t >>= λ ws. give (fine ws)) f ≡ fine (run t f) = run-bind t (λ ws. give (fine ws)) f in
+      let asked : reads (t >>= λ ws. give (fine ws)) f ≡ reads t f = reads-bind t (λ ws. give (fine ws)) f ∙ append-nil (reads t f) in
+      rw e
+      (record {
+        result = rw answer (ap fine (w .count));
+        answers = rw answer (w .words);
+        marks = w .marks ∙ ap (markAll m) (sym asked);
+      })
 
 -- the two refusals, whatever follows
 module _ {good : Bool} (lost : Bool) (t : Asks (List ℕ)) {a : Bool} (ea : a ≡ good) where

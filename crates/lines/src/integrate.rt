@@ -1,7 +1,7 @@
 // `integrate`: the line from a seed, after the refusals 34 and 35.
 use crate::StreamlineSettings;
-use crate::Traced;
 use crate::line;
+use answers::Answered;
 use arith::Found;
 use arith::Vec3;
 use arith::float;
@@ -11,9 +11,9 @@ use lines_velocity::interpolate;
 ghost use mathlib.Core.Path.{_≡_};
 ghost use Prim.Native.Nat.{_≤_};
 ghost use Rattle.case_file.specs.Field.{valuesOf};
+ghost use Rattle.answers.specs.Reply.{decided, Replied};
 ghost use Rattle.lines_velocity.specs.Ready.{tracerField, Locatable, Ready};
 ghost use Rattle.lines.specs.Line as Line;
-ghost use Rattle.lines.specs.Answered.{Answered};
 
 // A finite length above 0.
 fn is_length(x: f64) -> bool
@@ -64,19 +64,19 @@ pub fn integrate(
     out: &mut [u64],
     seed: Vec3,
     settings: StreamlineSettings,
-) -> Traced
+) -> Answered
     requires { ⌜ Ready (now case) (now words) (now floats) t ⌝ }
     requires { ⌜ settings .options .«max_steps» ≤ 65536 ⌝ }
-    ensures { λ r. ⌜ Answered (Line.integrate (tracerField t (now (words .entry)) (now (floats .entry))) seed settings)
-        (valuesOf (now (case .entry))) (now (marks .entry)) (now (marks .exit)) (now (out .entry)) (now (out .exit))
-        r ⌝ }
+    ensures { λ r. ⌜ Replied (decided (Line.integrate (tracerField t (now (words .entry)) (now (floats .entry))) seed
+        settings)) (valuesOf (now (case .entry))) (now (out .entry)) r (now (out .entry)) (now (out .exit))
+        (now (marks .entry)) (now (marks .exit)) ⌝ }
 {
     if are_good(settings.options) {
         if is_nowhere(words, floats, t, seed) {
-            return Traced::Refused(35);
+            return Answered::Refused(35);
         }
         let count = line::trace(case, words, floats, t, marks, out, 0, seed, settings);
-        return Traced::Words(count);
+        return Answered::Words(count);
     }
-    Traced::Refused(34)
+    Answered::Refused(34)
 }

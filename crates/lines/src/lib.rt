@@ -23,9 +23,3 @@ pub struct Rake {
     pub end: Vec3,
     pub count: usize,
 }
-
-// How many words an answer has, or the refusal.
-pub enum Traced {
-    Words(usize),
-    Refused(u64),
-}

@@ -1,20 +1,20 @@
 // `integrate_rake`: a line from each of the seeds between two points.
 use crate::Rake;
 use crate::StreamlineSettings;
-use crate::Traced;
 use crate::integrate;
 use crate::line;
+use answers::Answered;
 use arith::Vec3;
 use lines_velocity::Tracer;
 ghost use mathlib.Core.Path.{_≡_};
 ghost use Prim.Native.Nat.{_≤_, _<_, _*_, _+_};
 ghost use Rattle.arith.specs.Lists.{anyOf};
 ghost use Rattle.case_file.specs.Field.{valuesOf};
+ghost use Rattle.answers.specs.Reply.{decided, Replied};
 ghost use Rattle.lines_velocity.specs.Ready.{tracerField, Locatable, Ready};
 ghost use Rattle.lines.specs.Line.{nowhere};
 ghost use Rattle.lines.specs.Rake as Rakes;
 ghost use Rattle.lines.specs.Written.{Written};
-ghost use Rattle.lines.specs.Answered.{Answered};
 
 // Seed i of a rake.
 fn seed_at(rake: Rake, i: usize) -> Vec3
@@ -92,21 +92,21 @@ pub fn integrate_rake(
     out: &mut [u64],
     rake: Rake,
     settings: StreamlineSettings,
-) -> Traced
+) -> Answered
     requires { ⌜ Ready (now case) (now words) (now floats) t ⌝ }
     requires { ⌜ (2 ≤ rake .count) × (rake .count ≤ 64) × (settings .options .«max_steps» ≤ 65536) ⌝ }
-    ensures { λ r. ⌜ Answered (Rakes.integrateRake (tracerField t (now (words .entry)) (now (floats .entry))) rake
-        settings) (valuesOf (now (case .entry))) (now (marks .entry)) (now (marks .exit)) (now (out .entry))
-        (now (out .exit)) r ⌝ }
+    ensures { λ r. ⌜ Replied (decided (Rakes.integrateRake (tracerField t (now (words .entry)) (now (floats .entry)))
+        rake settings)) (valuesOf (now (case .entry))) (now (out .entry)) r (now (out .entry)) (now (out .exit))
+        (now (marks .entry)) (now (marks .exit)) ⌝ }
 {
     if integrate::are_good(settings.options) {
         if any_nowhere(words, floats, t, rake) {
-            return Traced::Refused(35);
+            return Answered::Refused(35);
         }
         let written = trace_all(case, words, floats, t, marks, out, rake, settings);
         answers::put(out, 0, rake.count as u64);
         let all = written + 1;
-        return Traced::Words(all);
+        return Answered::Words(all);
     }
-    Traced::Refused(34)
+    Answered::Refused(34)
 }

@@ -8,8 +8,9 @@ use lib.Seq.{sets}
 use Rattle.arith.specs.F64.{_≺_, _⊖_, 0·0, word}
 use Rattle.arith.specs.declared.Vec2.{Vec2}
 use Rattle.reading.specs.Result.{Result, refused, fine, _>>=_}
-use Rattle.planes.specs.declared.Answered.{Answered}
-use Rattle.planes.specs.declared.Answered.the-variants.{Words, Refused}
+use Rattle.answers.specs.declared.Answered.{Answered}
+use Rattle.answers.specs.declared.Answered.the-variants.{Words, Refused}
+use Rattle.answers.specs.Reply.{answerOf, lengthOf, wordsOf}
 use Rattle.planes_sums.specs.declared.Sums.{Sums}
 use Rattle.planes_sums.specs.declared.Integral.{Integral}
 use Rattle.planes_sums.specs.declared.Summed.{Summed}
@@ -26,7 +27,7 @@ use Rattle.planes_sums.specs.Integrals.{vacant, integralWords, integralsFrom}
 use Rattle.planes_sums.specs.Kept.{keptOf, sumsOf, integralOf}
 use Rattle.planes_samples.specs.Stream.{talliedOf}
 use Rattle.planes.specs.Answers.{probeWords}
-use Rattle.planes.specs.Reply.{answerOf, lengthOf, wordsOf, statisticsEnd, integralsEnd, ended, lastWords, Ended, Closed}
+use Rattle.planes.specs.Reply.{statisticsEnd, integralsEnd, ended, lastWords, Ended, Closed}
 
 pub no-word : word 0·0 ≡ 0
 unfolding lib.Ieee.toBits lib.Ieee.ofBits

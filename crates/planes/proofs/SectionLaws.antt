@@ -17,14 +17,15 @@ use Rattle.mesh_area.specs.Tables.{Mesh}
 use Rattle.planes_cut.specs.declared.Cut.{Cut}
 use Rattle.planes_cut.specs.declared.Plane.{Plane}
 use Rattle.planes_sections.specs.Intersect.{PlaneCell, intersect}
-use Rattle.planes.specs.declared.Answered.{Answered}
+use Rattle.answers.specs.declared.Answered.{Answered}
+use Rattle.answers.specs.Reply.{lengthOf, replied, Replied}
 use Rattle.planes_samples.specs.declared.Tallied.{Tallied}
 use Rattle.planes_sums.specs.Sample.{Sample, sound}
 use Rattle.planes.specs.Answers.{sampled, sectionWords, sectionOf}
 use Rattle.planes_sums.specs.Words.{sampleWords}
 use Rattle.planes_samples.specs.Stream.{talliedOf, Stream, stream, Streamed}
 use Rattle.planes_sums.specs.Kept.{Kept, ofSection, addTo, written}
-use Rattle.planes.specs.Reply.{lengthOf, replied, goods, leftBy, ended, lastWords, Closed, Replied}
+use Rattle.planes.specs.Reply.{goods, leftBy, ended, lastWords, Closed}
 use Rattle.answers.proofs.WordLaws.{sets-append, sets-set}
 use Rattle.planes_samples.proofs.StreamLaws.{at, stream-nil, stream-sound, stream-bad, stream-marks}
 use Rattle.planes.proofs.TreeLaws.{BadRun, GoodRun, goods-sound, goods-bad, stream-run, run-sampled, reads-sampled}

@@ -21,7 +21,8 @@ use Rattle.planes_cut.specs.declared.Plane.{Plane}
 use Rattle.planes_cut.specs.Cut.{cutOf}
 use Rattle.planes_sections.specs.Intersect.{PlaneCell, intersect}
 use Rattle.planes_cut.specs.Plane.{normalOf}
-use Rattle.planes.specs.declared.Answered.{Answered}
+use Rattle.answers.specs.declared.Answered.{Answered}
+use Rattle.answers.specs.Reply.{lengthOf, wordsOf, replied, Replied}
 use Rattle.planes_sums.specs.declared.Sums.{Sums}
 use Rattle.planes_sums.specs.declared.Integral.{Integral}
 use Rattle.planes_sums.specs.declared.Probed.{Probed}
@@ -35,7 +36,7 @@ use Rattle.planes.specs.Answers.{sampled, integralsOf, statisticsOf, pro
 use Rattle.answers.specs.Words.{valuesWords, vecWords}
 use Rattle.planes_samples.specs.Stream.{talliedOf, Stream, stream, Streamed}
 use Rattle.planes_sums.specs.Kept.{Kept, ofSection, ofStatistics, ofIntegrals, ofProbe, addTo, written, addProbed}
-use Rattle.planes.specs.Reply.{lengthOf, wordsOf, replied, goods, missing, statisticsEnd, integralsEnd, ended, lastWords, Closed, Replied}
+use Rattle.planes.specs.Reply.{goods, missing, statisticsEnd, integralsEnd, ended, lastWords, Closed}
 use Rattle.planes_sums.specs.Probe.{project, covers, firstOver, off, probe}
 use Rattle.planes_samples.proofs.StreamLaws.{at, stream-nil, stream-sound, stream-bad, stream-marks}
 

@@ -1,19 +1,16 @@
--- What the functions of this crate answer: how many words, or the refusal; the words, as far as they fit; the marks.
+-- From what was kept of the samples to the answers of codes 5 to 8.
 use Prim.Native.Nat.{ℕ}
 use mathlib.Core.Path.{_≡_}
 use mathlib.Core.Bool.{Bool, true, false}
 use mathlib.Core.List.{List, [], _∷_, map}
-use lib.ListN.{length}
 use lib.Seq.{sets}
 use Rattle.arith.specs.Lists.{flatten}
 use Rattle.arith.specs.declared.Vec2.{Vec2}
 use Rattle.reading.specs.declared.Values.{Values}
 use Rattle.reading.specs.Result.{Result, refused, fine, _>>=_}
-use Rattle.reading.specs.Asks.{Asks, run, reads}
-use Rattle.reading.specs.Marks.{markAll}
 use Rattle.planes_sections.specs.Intersect.{PlaneCell}
-use Rattle.planes.specs.declared.Answered.{Answered}
-use Rattle.planes.specs.declared.Answered.the-variants.{Words, Refused}
+use Rattle.answers.specs.declared.Answered.{Answered}
+use Rattle.answers.specs.Reply.{answerOf, lengthOf, wordsOf}
 use Rattle.planes_sums.specs.declared.Sums.{Sums}
 use Rattle.planes_sums.specs.declared.Integral.{Integral}
 use Rattle.planes_sums.specs.declared.Probed.the-variants.{Missed}
@@ -23,32 +20,6 @@ use Rattle.planes_sums.specs.Integrals.{integralsFrom}
 use Rattle.planes_sums.specs.Kept.{Kept, ofSection, ofStatistics, ofIntegrals, ofProbe}
 use Rattle.planes_sums.specs.Words.{sampleWords}
 use Rattle.planes.specs.Answers.{probeWords}
-
--- 01's number for each case: how many words the whole answer has, or the refusal
-unfoldable pub answerOf : Answered → Result ℕ
-answerOf (Words n) = fine n
-answerOf (Refused n) = refused n
-
--- how many words an answer has, or the refusal
-unfoldable pub lengthOf : Result (List ℕ) → Result ℕ
-lengthOf (refused n) = refused n
-lengthOf (fine ws) = fine (length ws)
-
--- the words of an answer; none under a refusal
-unfoldable pub wordsOf : Result (List ℕ) → List ℕ
-wordsOf (refused n) = []
-wordsOf (fine ws) = ws
-
--- the answer words: those of the answer, as far as they fit; what is left under a refusal
-unfoldable pub replied : List ℕ → List ℕ → Result (List ℕ) → List ℕ
-replied o left (refused n) = left
-replied o left (fine ws) = sets o 0 ws
-
--- what an answer to codes 5 to 8 promises
-pub record Replied (tree : Asks (Result (List ℕ))) (f : ℕ → Values) (left : List ℕ) (r : Answered) (o o′ m m′ : List ℕ) : Type 0 where
-  pub result : answerOf r ≡ lengthOf (run tree f)
-  pub answers : o′ ≡ replied o left (run tree f)
-  pub marks : m′ ≡ markAll m (reads tree f)
 
 -- the samples before the first bad one
 unfoldable pub goods : (ℕ → Values) → List PlaneCell → List Sample

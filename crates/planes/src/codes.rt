@@ -1,5 +1,5 @@
 // The answers of codes 5 to 8.
-use crate::Answered;
+use answers::Answered;
 use arith::Vec2;
 use arith::Vec3;
 use arith::bytes;
@@ -32,7 +32,8 @@ ghost use Rattle.planes_sums.specs.Probe as Probe;
 ghost use Rattle.planes.specs.Answers.{probeWords, sectionOf, statisticsOf, integralsOf, probeOf};
 ghost use Rattle.planes_sums.specs.Kept.{sumsOf, integralOf};
 ghost use Rattle.planes_samples.specs.Stream.{talliedOf, Ready};
-ghost use Rattle.planes.specs.Reply.{statisticsEnd, integralsEnd, missing, leftBy, Ended, Closed, Replied};
+ghost use Rattle.answers.specs.Reply.{Replied};
+ghost use Rattle.planes.specs.Reply.{statisticsEnd, integralsEnd, missing, leftBy, Ended, Closed};
 
 fn both(a: bool, b: bool) -> bool
     ensures { λ r. ⌜ r ≡ (a && b) ⌝ }

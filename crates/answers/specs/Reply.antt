@@ -1,0 +1,43 @@
+-- What a function that answers a request promises: how many words, or the refusal; the words, as far as they fit; the marks.
+use Prim.Native.Nat.{ℕ}
+use mathlib.Core.Path.{_≡_}
+use mathlib.Core.List.{List, []}
+use lib.ListN.{length}
+use lib.Seq.{sets}
+use Rattle.reading.specs.declared.Values.{Values}
+use Rattle.reading.specs.Result.{Result, refused, fine}
+use Rattle.reading.specs.Asks.{Asks, give, run, reads, _>>=_}
+use Rattle.reading.specs.Marks.{markAll}
+use Rattle.answers.specs.declared.Answered.{Answered}
+use Rattle.answers.specs.declared.Answered.the-variants.{Words, Refused}
+
+-- 01's number for each case: how many words the whole answer has, or the refusal
+unfoldable pub answerOf : Answered → Result ℕ
+answerOf (Words n) = fine n
+answerOf (Refused n) = refused n
+
+-- how many words an answer has, or the refusal
+unfoldable pub lengthOf : Result (List ℕ) → Result ℕ
+lengthOf (refused n) = refused n
+lengthOf (fine ws) = fine (length ws)
+
+-- the words of an answer; none under a refusal
+unfoldable pub wordsOf : Result (List ℕ) → List ℕ
+wordsOf (refused n) = []
+wordsOf (fine ws) = ws
+
+-- a refusal that is decided before any value is read
+unfoldable pub decided : Result (Asks (List ℕ)) → Asks (Result (List ℕ))
+decided (refused n) = give (refused n)
+decided (fine t) = t >>= λ ws. give (fine ws)
+
+-- the answer words: those of the answer, as far as they fit; what is left under a refusal
+unfoldable pub replied : List ℕ → List ℕ → Result (List ℕ) → List ℕ
+replied o left (refused n) = left
+replied o left (fine ws) = sets o 0 ws
+
+-- "equate result, answers and marks with a definition, refusals too"
+pub record Replied (tree : Asks (Result (List ℕ))) (f : ℕ → Values) (left : List ℕ) (r : Answered) (o o′ m m′ : List ℕ) : Type 0 where
+  pub result : answerOf r ≡ lengthOf (run tree f)
+  pub answers : o′ ≡ replied o left (run tree f)
+  pub marks : m′ ≡ markAll m (reads tree f)
