@@ -1,1 +1,3 @@
 pub mod WordLaws
+pub mod BufferLaws
+pub mod BehindLaws

@@ -1,2 +1,4 @@
 pub mod Words
 pub mod Reply
+pub mod Answer
+pub mod Placed

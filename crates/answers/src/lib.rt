@@ -1,4 +1,6 @@
-// Words written to a slice, as far as they fit.
+// The words of an answer, written to a slice as far as they fit, and what a job stores beside them.
+pub mod buffers;
+
 use arith::Vec3;
 use arith::bytes;
 use reading::Values;

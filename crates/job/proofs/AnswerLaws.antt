@@ -14,9 +14,9 @@ use Rattle.job_room.specs.Room.{Room}
 use Rattle.job_requests.specs.declared.Request.{Request}
 use Rattle.job_requests.specs.Requests.{requestOf}
 use Rattle.job_serve.specs.Serve.{serve}
-use Rattle.job_buffers.specs.Answer.{fitting, answerWords, headerOf}
-use Rattle.job_buffers.specs.Placed.{Closed}
-use Rattle.job_buffers.proofs.BehindLaws.{placed-part}
+use Rattle.answers.specs.Answer.{fitting, answerWords, headerOf}
+use Rattle.answers.specs.Placed.{Closed}
+use Rattle.answers.proofs.BehindLaws.{placed-part}
 use Rattle.job.specs.List.{isFlat, replyTo}
 use Rattle.job.specs.Serving.{Told, answerTo}
 

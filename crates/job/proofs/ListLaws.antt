@@ -13,7 +13,7 @@ use Rattle.reading.specs.After.{done, Left}
 use Rattle.reading.proofs.AsksLaws.{run-bind, reads-bind}
 use Rattle.reading.proofs.MarksLaws.{markAll-append, length-markAll}
 use Rattle.job_room.specs.Room.{Room}
-use Rattle.job_buffers.specs.Answer.{fitting, answerWords}
+use Rattle.answers.specs.Answer.{fitting, answerWords}
 use Rattle.job.specs.List.{replyTo, serveAll}
 use Rattle.job.specs.Serving.{Told, answerTo}
 

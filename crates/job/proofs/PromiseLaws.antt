@@ -25,7 +25,7 @@ use Rattle.job_room.specs.declared.Prepared.{Prepared}
 use Rattle.job_room.specs.declared.Prepared.the-variants as Prepared
 use Rattle.job_room.specs.Stands.{roomIn, countsIn, Preparing}
 use Rattle.job_room.proofs.Laws.{prepared-outside, preparing-refused}
-use Rattle.job_buffers.specs.Answer.{fitting, answerWords}
+use Rattle.answers.specs.Answer.{fitting, answerWords}
 use Rattle.job_reads.proofs.Ranges.{Ranged, due, none, among-is, between}
 use Rattle.job_reads.proofs.JobRefusals.{job-refusals}
 use Rattle.job_reads.proofs.RequestRefusals.{request-refusals}

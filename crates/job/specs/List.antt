@@ -8,7 +8,7 @@ use Rattle.reading.specs.Asks.{Asks, give, _>>=_}
 use Rattle.job_requests.specs.Requests.{requestOf}
 use Rattle.job_room.specs.Room.{Room, flat, solid}
 use Rattle.job_serve.specs.Serve.{serve}
-use Rattle.job_buffers.specs.Answer.{fitting, answerWords}
+use Rattle.answers.specs.Answer.{fitting, answerWords}
 
 -- the room is a 2D one
 unfoldable pub isFlat : Room → Bool

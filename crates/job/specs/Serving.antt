@@ -6,8 +6,8 @@ use Rattle.reading.specs.declared.Values.{Values}
 use Rattle.reading.specs.Asks.{Asks, give, run, reads, _>>=_}
 use Rattle.reading.specs.Marks.{markAll}
 use Rattle.job_room.specs.Room.{Room}
-use Rattle.job_buffers.specs.Answer.{fitting, answerWords}
-use Rattle.job_buffers.specs.Placed.{Placed}
+use Rattle.answers.specs.Answer.{fitting, answerWords}
+use Rattle.answers.specs.Placed.{Placed}
 use Rattle.job.specs.List.{replyTo}
 
 -- one answer, from `at` on

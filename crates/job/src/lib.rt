@@ -1,7 +1,7 @@
 // The job: a case, a list of requests, and the buffers that are lent to it.
-use job_buffers::clear_from;
-use job_buffers::clear_marks;
-use job_buffers::close;
+use answers::buffers::clear_from;
+use answers::buffers::clear_marks;
+use answers::buffers::close;
 use job_requests::request_of;
 use job_room::Place;
 use job_room::Prepared;

@@ -1,8 +1,8 @@
 use Prim.Native.Nat.{_-_, _≤_}
 use borrow.Author.Needs.{needs}
-use Rattle.job_buffers.proofs.WordLaws.{Zeroing, zeroing-start, zeroing-next, zeroing-cleared}
-use Rattle.job_buffers.proofs.clear_marks.Statement.{statement}
-use Rattle.job_buffers.proofs.clear_marks.Tie as tie
+use Rattle.answers.proofs.BufferLaws.{Zeroing, zeroing-start, zeroing-next, zeroing-cleared}
+use Rattle.answers.proofs.buffers.clear_marks.Statement.{statement}
+use Rattle.answers.proofs.buffers.clear_marks.Tie as tie
 
 abbrev Inv-loop : tie.InvT-loop
 Inv-loop marks₀ cells i₀ marks i = Zeroing 0 i marks₀ marks × (i ≤ cells)

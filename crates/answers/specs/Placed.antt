@@ -4,7 +4,7 @@ use mathlib.Core.Path.{_≡_}
 use mathlib.Core.List.{List, _++_}
 use lib.ListN.{length, set, take, drop}
 use Rattle.reading.specs.Result.{Result, fine}
-use Rattle.job_buffers.specs.Answer.{Header}
+use Rattle.answers.specs.Answer.{Header}
 
 -- the words of the reply stand behind the place of its header, if they have room there
 pub record Behind (reply : Result (List ℕ)) (o : List ℕ) (at : ℕ) : Type 0 where

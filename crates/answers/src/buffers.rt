@@ -1,12 +1,12 @@
 // What a job stores in the lent answers and marks: an answer's header, cleared marks, the zeros at the end.
-use answers::Answered;
+use crate::Answered;
 ghost use mathlib.Core.Path.{_≡_};
 ghost use mathlib.Core.List.{_++_};
 ghost use Prim.Native.Nat.{_+_, _-_, _*_, _≤_};
 ghost use lib.ListN.{length, set, take, replicate};
 ghost use Rattle.reading.specs.Marks.{cleared};
-ghost use Rattle.job_buffers.specs.Answer.{headerOf};
-ghost use Rattle.job_buffers.specs.Placed.{Closed};
+ghost use Rattle.answers.specs.Answer.{headerOf};
+ghost use Rattle.answers.specs.Placed.{Closed};
 
 // Stores the header at `at`: the refusal, or 0, and the count. Where the next answer goes.
 fn put_header(answers: &mut [u64], at: usize, refusal: u64, count: usize) -> usize

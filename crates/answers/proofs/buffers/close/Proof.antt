@@ -1,7 +1,7 @@
-use Rattle.job_buffers.proofs.WordLaws.{close-refused, close-fits, close-44}
+use Rattle.answers.proofs.BufferLaws.{close-refused, close-fits, close-44}
 use borrow.Author.Needs.{needs}
-use Rattle.job_buffers.proofs.close.Statement.{statement}
-use Rattle.job_buffers.proofs.close.Tie as tie
+use Rattle.answers.proofs.buffers.close.Statement.{statement}
+use Rattle.answers.proofs.buffers.close.Tie as tie
 
 returns : tie.Need-returns
 returns c = close-refused _ (c .before .before .before .before .before .r .given .1) (c .before .before .put-header .ensures)

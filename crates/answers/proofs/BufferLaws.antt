@@ -10,11 +10,11 @@ use lib.Seq.{length-take-le, drop-cons, drop-length, split-at, set-at, take-appe
 use borrow.Author.Tests.{le-leb, lt-leb, leb-true}
 use Rattle.reading.specs.Result.{Result, refused, fine}
 use Rattle.reading.specs.Marks.{cleared}
 use Rattle.answers.specs.declared.Answered.{Answered}
 use Rattle.answers.specs.declared.Answered.the-variants.{Words, Refused}
 use Rattle.answers.specs.Reply.{answerOf, lengthOf}
-use Rattle.job_buffers.specs.Answer.{fitting, answerWords, headerOf}
-use Rattle.job_buffers.specs.Placed.{Behind, Placed, Closed}
+use Rattle.answers.specs.Answer.{fitting, answerWords, headerOf}
+use Rattle.answers.specs.Placed.{Behind, Placed, Closed}
 
 -- ---- zeros
 

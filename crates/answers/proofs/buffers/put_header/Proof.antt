@@ -2,8 +2,8 @@ use native.Mathlib.Omega.{arith}
 use mathlib.Core.Path.{refl}
 use lib.ListN.{length-set}
 use borrow.Author.Needs.{needs}
-use Rattle.job_buffers.proofs.put_header.Statement.{statement}
-use Rattle.job_buffers.proofs.put_header.Tie as tie
+use Rattle.answers.proofs.buffers.put_header.Statement.{statement}
+use Rattle.answers.proofs.buffers.put_header.Tie as tie
 
 slice-write-answers-2 : tie.Need-slice-write-answers-2
 slice-write-answers-2 c = simp length-set (omega arith)

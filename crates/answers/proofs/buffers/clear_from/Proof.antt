@@ -1,9 +1,9 @@
 use Prim.Native.Nat.{_-_}
 use lib.ListN.{length}
 use borrow.Author.Needs.{needs}
-use Rattle.job_buffers.proofs.WordLaws.{Zeroing, zeroing-start, zeroing-next, zeroing-end}
-use Rattle.job_buffers.proofs.clear_from.Statement.{statement}
-use Rattle.job_buffers.proofs.clear_from.Tie as tie
+use Rattle.answers.proofs.BufferLaws.{Zeroing, zeroing-start, zeroing-next, zeroing-end}
+use Rattle.answers.proofs.buffers.clear_from.Statement.{statement}
+use Rattle.answers.proofs.buffers.clear_from.Tie as tie
 
 abbrev Inv-loop : tie.InvT-loop
 Inv-loop answers₀ at i₀ answers i = Zeroing at i answers₀ answers
