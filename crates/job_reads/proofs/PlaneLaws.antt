@@ -16,7 +16,7 @@ use Rattle.planes_cut.specs.declared.Cut.{Cut}
 use Rattle.planes_crossings.specs.Crossings.{foreign, meetings}
 use Rattle.planes_sections.specs.Intersect.{PlaneCell, middle, pieceAbout, pieceOf, piecesFrom, intersect}
 use Rattle.planes_sums.specs.Sample.{Sample}
-use Rattle.planes_samples.specs.Sampling.{onward, sample}
+use Rattle.planes_samples.specs.Sampling.{Taken, onward, taken, sample}
 use Rattle.planes.specs.Answers.{sampled, sectionOf, statisticsOf, integralsOf, probeOf}
 
 all-only : {A : Type 0} (P : A → Type 0) (b : Bool) (a : A) → P a → All P (only b a)
@@ -49,15 +49,19 @@ module _ (n : ℕ) where
   pieces-below m c i (k ∷ ks) h =
       all-append Below (pieceOf m c i k) (piecesFrom m c (suc i) ks) (piece-below m c i k (omega arith)) (pieces-below m c (suc i) ks (omega arith))
 
-  onward-within : (b : Bool) (s : Sample) (t : Asks (Result (List Sample))) → Within n t → Within n (onward b s t)
+  onward-within : (b : Bool) (s : Sample) (t : Asks Taken) → Within n t → Within n (onward b s t)
   unfolding onward
   onward-within false s t w = given
   onward-within true s t w = within-bind w (λ r. given)
 
+  taken-within : (l : List PlaneCell) → All Below l → Within n (taken l)
+  unfolding taken
+  taken-within [] h = given
+  taken-within (g ∷ l) h = asked (h .0) (λ v. onward-within _ _ _ (taken-within l (h .1)))
+
   sample-within : (l : List PlaneCell) → All Below l → Within n (sample l)
   unfolding sample
-  sample-within [] h = given
-  sample-within (g ∷ l) h = asked (h .0) (λ v. onward-within _ _ _ (sample-within l (h .1)))
+  sample-within l h = within-bind (taken-within l h) (λ t. given)
 
   module _ (m : Mesh) (few : length (m .cells) ≤ n) (s : Plane) where
     pub intersect-within : Within n (sample (intersect m s))

@@ -20,7 +20,7 @@ use Rattle.planes_sums.specs.declared.Sums.{Sums}
 use Rattle.planes_sums.specs.Sample.{Sample}
 use Rattle.planes_sums.specs.Statistics.{summing, addSample, empty, statisticsFrom, statistics}
 use Rattle.planes_sums.specs.Integrals.{fit, addIntegral, vacant, integralsFrom, integrals}
-use Rattle.planes_samples.specs.Sampling.{before, onward, sample}
+use Rattle.planes_samples.specs.Sampling.{Taken, taken, complete, sample}
 use Rattle.planes.specs.Answers.{sampled, sectionOf, statisticsOf, integralsOf, probeOf}
 use Rattle.lines.specs.declared.Rake.{Rake}
 use Rattle.lines.specs.declared.StreamlineSettings.{StreamlineSettings}
@@ -110,20 +110,13 @@ module _ (f : ℕ → Values) where
 
   -- ---- 39 to 43
 
-  before-answer : (s : Sample) {r : Result (List Sample)} → Answer r → Answer (before s r)
-  unfolding before
-  before-answer s (due k h) = due k h
-  before-answer s none = none
-
-  onward-answer : (t : Bool) (s : Sample) (rest : Asks (Result (List Sample))) → Answer (run rest f) → Answer (run (onward t s rest) f)
-  unfolding onward
-  onward-answer false s rest w = due 39 refl
-  onward-answer true s rest w = then-gives rest (before s) (before-answer s w)
+  complete-answer : (t : Taken) → Answer (complete t)
+  unfolding complete
+  complete-answer t = bind (barred 39 _ refl) (λ _. none)
 
   sample-answer : (l : List PlaneCell) → Answer (run (sample l) f)
   unfolding sample
-  sample-answer [] = none
-  sample-answer (c ∷ cs) = onward-answer _ _ (sample cs) (sample-answer cs)
+  sample-answer l = then-gives (taken l) complete (complete-answer (run (taken l) f))
 
   summing-answer : (t : Bool) (s : Sums) (a b c : Float) → Answer (summing t s a b c)
   unfolding summing

@@ -40,7 +40,8 @@ use Rattle.answers.specs.declared.Answered.the-variants as Answered
 use Rattle.answers.specs.Reply.{answerOf, lengthOf, decided, replied, Replied}
 use Rattle.planes_sums.specs.Words.{sampleWords}
 use Rattle.planes_samples.specs.Stream as Planes
-use Rattle.planes.specs.Reply.{goods, leftBy}
+use Rattle.planes_samples.specs.Sampling.{taken}
+use Rattle.planes.specs.Reply.{leftBy}
 use Rattle.job_requests.specs.declared.Request.{Request}
 use Rattle.job_requests.specs.declared.Request.the-variants.{Refused, Locate, Velocity, Streamline, Rake, Section, Statistics, Integrals, Probe}
 use Rattle.job_requests.specs.Bounds.{Allowed}
@@ -217,7 +218,7 @@ left-long (solid m) (Locate p) v o = refl
 left-long (solid m) (Velocity p) v o = refl
 left-long (solid m) (Streamline p s) v o = refl
 left-long (solid m) (Rake k s) v o = refl
-left-long (solid m) (Section s) v o = length-sets o 1 (flatten (map sampleWords (goods v (intersect m s))))
+left-long (solid m) (Section s) v o = length-sets o 1 (flatten (map sampleWords (run (taken (intersect m s)) v .samples)))
 left-long (solid m) (Statistics s field) v o = refl
 left-long (solid m) (Integrals s) v o = refl
 left-long (solid m) (Probe s p) v o = refl

@@ -3,9 +3,8 @@ use Prim.Native.Nat.{ℕ, suc, _+_}
 use native.Mathlib.Omega.{arith}
 use mathlib.Core.Path.{_≡_, refl, ap, ap₂, sym, _∙_}
 use mathlib.Core.Logic.{_⊎_, inl, inr}
-use mathlib.Core.Bool.{Bool, true, false}
 use mathlib.Core.List.{List, [], _∷_, _++_, map}
-use lib.ListN.{length, set, length-append}
+use lib.ListN.{length, length-append}
 use lib.Seq.{sets}
 use Rattle.arith.specs.Lists.{fold, flatten}
 use Rattle.reading.specs.declared.Values.{Values}
@@ -20,15 +19,15 @@ use Rattle.planes_sections.specs.Intersect.{PlaneCell, intersect}
 use Rattle.answers.specs.declared.Answered.{Answered}
 use Rattle.answers.specs.Reply.{lengthOf, replied, Replied}
 use Rattle.planes_samples.specs.declared.Tallied.{Tallied}
-use Rattle.planes_sums.specs.Sample.{Sample, sound}
+use Rattle.planes_sums.specs.Sample.{Sample}
 use Rattle.planes.specs.Answers.{sampled, sectionWords, sectionOf}
 use Rattle.planes_sums.specs.Words.{sampleWords}
-use Rattle.planes_samples.specs.Stream.{talliedOf, Stream, stream, Streamed}
+use Rattle.planes_samples.specs.Stream.{talliedOf, writtenAll, stream, Streamed}
 use Rattle.planes_sums.specs.Kept.{Kept, ofSection, addTo, written}
-use Rattle.planes.specs.Reply.{goods, leftBy, ended, lastWords, Closed}
+use Rattle.planes.specs.Reply.{leftBy, ended, lastWords, Closed}
 use Rattle.answers.proofs.WordLaws.{sets-append, sets-set}
-use Rattle.planes_samples.proofs.StreamLaws.{at, stream-nil, stream-sound, stream-bad, stream-marks}
-use Rattle.planes.proofs.TreeLaws.{BadRun, GoodRun, goods-sound, goods-bad, stream-run, run-sampled, reads-sampled}
+use Rattle.planes_samples.proofs.StreamLaws.{stream-marks}
+use Rattle.planes.proofs.TreeLaws.{goods, BadRun, GoodRun, stream-run, run-sampled, reads-sampled}
 
 -- the words of some samples
 abbrev wordsFor : List Sample → List ℕ
@@ -50,33 +49,18 @@ written-there : (n i : ℕ) (o : List ℕ) (s : Sample) → written (ofSection n
 unfolding written
 written-there n i o s = refl
 
-no-goods : (f : ℕ → Values) → goods f [] ≡ []
-unfolding goods
-no-goods f = refl
+written-section : (c : Cut) (n i : ℕ) (o : List ℕ) (ss : List Sample) → writtenAll c (ofSection n i) o ss ≡ sets o i (wordsFor ss)
+unfolding writtenAll
+written-section c n i o [] = ap (sets o i) (sym no-words)
+written-section c n i o (s ∷ ss) =
+    ap₂ (λ (t : Kept) (w : List ℕ). writtenAll c t w ss) (added c n i s) (written-there n i o s)
+    ∙ written-section c (suc n) (i + length (sampleWords s)) (sets o i (sampleWords s)) ss
+    ∙ sym (sets-append o i (sampleWords s) (wordsFor ss))
+    ∙ ap (sets o i) (sym (words-next s ss))
 
-module _ (c : Cut) (f : ℕ → Values) where
-  pub stream-section : (l : List PlaneCell) (n i : ℕ) (o m : List ℕ) → stream c f l (ofSection n i) o m .answers ≡ sets o i (wordsFor (goods f l))
-  stream-section [] n i o m = ap (λ (s : Stream). s .answers) (stream-nil c f (ofSection n i) o m) ∙ rw (no-goods f, no-words)
-  stream-section (p ∷ l) n i o m =
-      by (stream-section l (suc n) (i + length (sampleWords (at c f p))) (sets o i (sampleWords (at c f p))) (set m (p .cell) 1)) (sound (f (p .cell))) refl
-    where
-      s : Sample
-      s = at c f p
-
-      by : stream c f l (ofSection (suc n) (i + length (sampleWords s))) (sets o i (sampleWords s)) (set m (p .cell) 1) .answers
-          ≡ sets (sets o i (sampleWords s)) (i + length (sampleWords s)) (wordsFor (goods f l)) →
-          (b : Bool) → sound (f (p .cell)) ≡ b → stream c f (p ∷ l) (ofSection n i) o m .answers ≡ sets o i (wordsFor (goods f (p ∷ l)))
-      by rest true h =
-          ap (λ (t : Stream). t .answers) (stream-sound c f p l (ofSection n i) o m h)
-          ∙ ap₂ (λ (t : Kept) (w : List ℕ). stream c f l t w (set m (p .cell) 1) .answers) (added c n i s) (written-there n i o s)
-          ∙ rest
-          ∙ sym (sets-append o i (sampleWords s) (wordsFor (goods f l)))
-          ∙ ap (sets o i) (sym (words-next s (goods f l)))
-          ∙ ap (λ (t : List Sample). sets o i (wordsFor t)) (sym (goods-sound c f p l h))
-      by rest false h =
-          ap (λ (t : Stream). t .answers) (stream-bad c f p l (ofSection n i) o m h)
-          ∙ ap (sets o i) (sym no-words)
-          ∙ ap (λ (t : List Sample). sets o i (wordsFor t)) (sym (goods-bad c f p l h))
+pub stream-section : (c : Cut) (f : ℕ → Values) (l : List PlaneCell) (n i : ℕ) (o m : List ℕ) → stream c f l (ofSection n i) o m .answers ≡ sets o i (wordsFor (goods f l))
+unfolding stream
+stream-section c f l n i o m = written-section c n i o (goods f l)
 
 fold-section : (c : Cut) (n i : ℕ) (ss : List Sample) → fold (addTo c) (ofSection n i) ss ≡ ofSection (n + length ss) (i + length (wordsFor ss))
 unfolding fold flatten

@@ -4,14 +4,14 @@ use mathlib.Core.Path.{_≡_, refl, ap, sym, _∙_}
 use mathlib.Core.Logic.{_⊎_, inl, inr}
 use mathlib.Core.Bool.{Bool, true, false, cond}
 use mathlib.Core.List.{List, [], _∷_, append-nil}
-use lib.ListN.{length, set}
+use lib.ListN.{length}
 use lib.Seq.{sets}
 use Rattle.arith.specs.Lists.{fold}
 use Rattle.arith.specs.declared.Vec2.{Vec2}
 use Rattle.arith.specs.declared.Vec3.{Vec3}
 use Rattle.reading.specs.declared.Values.{Values}
 use Rattle.reading.specs.Result as result
-use Rattle.reading.specs.Result.{Result, refused, fine, steps}
+use Rattle.reading.specs.Result.{Result, refused, fine, refuse, steps}
 use Rattle.reading.specs.Asks.{give, run, reads, _>>=_}
 use Rattle.reading.specs.Marks.{markAll}
 use Rattle.reading.proofs.AsksLaws.{run-bind, reads-bind}
@@ -28,19 +28,31 @@ use Rattle.planes_sums.specs.declared.Integral.{Integral}
 use Rattle.planes_sums.specs.declared.Probed.{Probed}
 use Rattle.planes_sums.specs.declared.Probed.the-variants.{Hit, Missed}
 use Rattle.planes_samples.specs.declared.Tallied.{Tallied}
-use Rattle.planes_sums.specs.Sample.{Sample, sound}
-use Rattle.planes_samples.specs.Sampling.{before, onward, sample}
+use Rattle.planes_sums.specs.Sample.{Sample}
+use Rattle.planes_samples.specs.Sampling.{Taken, taken, complete, sample}
 use Rattle.planes_sums.specs.Statistics.{noSums, addSample, statistics}
 use Rattle.planes_sums.specs.Integrals.{addIntegral, noIntegral, integrals}
 use Rattle.planes.specs.Answers.{sampled, integralsOf, statisticsOf, probeOf, probeWords}
 use Rattle.answers.specs.Words.{valuesWords, vecWords}
-use Rattle.planes_samples.specs.Stream.{talliedOf, Stream, stream, Streamed}
+use Rattle.planes_samples.specs.Stream.{talliedOf, writtenAll, stream, Streamed}
 use Rattle.planes_sums.specs.Kept.{Kept, ofSection, ofStatistics, ofIntegrals, ofProbe, addTo, written, addProbed}
-use Rattle.planes.specs.Reply.{goods, missing, statisticsEnd, integralsEnd, ended, lastWords, Closed}
+use Rattle.planes.specs.Reply.{missing, statisticsEnd, integralsEnd, ended, lastWords, Closed}
 use Rattle.planes_sums.specs.Probe.{project, covers, firstOver, off, probe}
-use Rattle.planes_samples.proofs.StreamLaws.{at, stream-nil, stream-sound, stream-bad, stream-marks}
+use Rattle.planes_samples.proofs.StreamLaws.{stream-marks}
 
 -- ---- the outcome: a bad sample, or all samples kept
+
+-- the samples before the first bad one
+abbrev pub goods : (ℕ → Values) → List PlaneCell → List Sample
+goods f l = run (taken l) f .samples
+
+complete-bad : (k : Taken) → k .bad ≡ true → complete k ≡ refused 39
+unfolding complete refuse result._>>=_
+complete-bad k h = rw h
+
+complete-good : (k : Taken) → k .bad ≡ false → complete k ≡ fine (k .samples)
+unfolding complete refuse result._>>=_
+complete-good k h = rw h
 
 module _ (c : Cut) (f : ℕ → Values) where
   pub record BadRun (l : List PlaneCell) (t : Kept) (o m : List ℕ) : Type 0 where
@@ -51,51 +63,21 @@ module _ (c : Cut) (f : ℕ → Values) where
     pub outcome : stream c f l t o m .outcome ≡ fine (fold (addTo c) t (goods f l))
     pub tree : run (sample l) f ≡ fine (goods f l)
 
-  sample-sound : (p : PlaneCell) (l : List PlaneCell) → sound (f (p .cell)) ≡ true → run (sample (p ∷ l)) f ≡ before (at c f p) (run (sample l) f)
-  unfolding sample onward
-  sample-sound p l h = ap (λ (b : Bool). run (onward b (at c f p) (sample l)) f) h ∙ run-bind (sample l) (λ r. give (before (at c f p) r)) f
-
-  sample-bad : (p : PlaneCell) (l : List PlaneCell) → sound (f (p .cell)) ≡ false → run (sample (p ∷ l)) f ≡ refused 39
-  unfolding sample onward
-  sample-bad p l h = ap (λ (b : Bool). run (onward b (at c f p) (sample l)) f) h
-
-  pub goods-sound : (p : PlaneCell) (l : List PlaneCell) → sound (f (p .cell)) ≡ true → goods f (p ∷ l) ≡ at c f p ∷ goods f l
-  unfolding goods
-  goods-sound p l h = rw (h, goods)
-
-  pub goods-bad : (p : PlaneCell) (l : List PlaneCell) → sound (f (p .cell)) ≡ false → goods f (p ∷ l) ≡ []
-  unfolding goods
-  goods-bad p l h = rw (h, goods)
+  run-sample : (l : List PlaneCell) → run (sample l) f ≡ complete (run (taken l) f)
+  unfolding sample
+  run-sample l = run-bind (taken l) (λ t. give (complete t)) f
 
   pub stream-run : (l : List PlaneCell) (t : Kept) (o m : List ℕ) → BadRun l t o m ⊎ GoodRun l t o m
-  stream-run [] t o m = inr (record { outcome = unfold stream goods fold in refl; tree = unfold sample goods in refl })
-  stream-run (p ∷ l) t o m = by (stream-run l (addTo c t (at c f p)) (written t o (at c f p)) (set m (p .cell) 1)) (sound (f (p .cell))) refl
+  unfolding stream result._>>=_
+  stream-run l t o m = by (run (taken l) f .bad) refl
     where
-      t′ : Kept
-      t′ = addTo c t (at c f p)
-
-      o′ : List ℕ
-      o′ = written t o (at c f p)
-
-      m′ : List ℕ
-      m′ = set m (p .cell) 1
-
-      rest : BadRun l t′ o′ m′ ⊎ GoodRun l t′ o′ m′ → sound (f (p .cell)) ≡ true → BadRun (p ∷ l) t o m ⊎ GoodRun (p ∷ l) t o m
-      rest (inl b) h =
-          inl (record {
-            outcome = ap (λ (s : Stream). s .outcome) (stream-sound c f p l t o m h) ∙ b .outcome;
-            tree = sample-sound p l h ∙ ap (before (at c f p)) (b .tree) ∙ (unfold before in refl);
-          })
-      rest (inr g) h =
-          inr (record {
-            outcome = ap (λ (s : Stream). s .outcome) (stream-sound c f p l t o m h) ∙ g .outcome ∙ rw (goods-sound p l h) (unfold fold in refl);
-            tree = sample-sound p l h ∙ ap (before (at c f p)) (g .tree) ∙ rw (goods-sound p l h) (unfold before in refl);
-          })
-
-      by : BadRun l t′ o′ m′ ⊎ GoodRun l t′ o′ m′ → (b : Bool) → sound (f (p .cell)) ≡ b → BadRun (p ∷ l) t o m ⊎ GoodRun (p ∷ l) t o m
-      by r true h = rest r h
-      by r false h =
-          inl (record { outcome = ap (λ (s : Stream). s .outcome) (stream-bad c f p l t o m h); tree = sample-bad p l h })
+      by : (b : Bool) → run (taken l) f .bad ≡ b → BadRun l t o m ⊎ GoodRun l t o m
+      by true h =
+          let e = complete-bad (run (taken l) f) h in
+          inl (record { outcome = rw e; tree = run-sample l ∙ e })
+      by false h =
+          let e = complete-good (run (taken l) f) h in
+          inr (record { outcome = rw e; tree = run-sample l ∙ e })
 
 -- ---- codes 6 to 8 write nothing while they read
 
@@ -119,14 +101,14 @@ quiet-written (ofStatistics field r) o s q = refl
 quiet-written (ofIntegrals r) o s q = refl
 quiet-written (ofProbe q r) o s w = refl
 
+quiet-all : (c : Cut) (t : Kept) (o : List ℕ) (ss : List Sample) → Quiet t → writtenAll c t o ss ≡ o
+unfolding writtenAll
+quiet-all c t o [] q = refl
+quiet-all c t o (s ∷ ss) q = quiet-all c (addTo c t s) (written t o s) ss (quiet-added c t s q) ∙ quiet-written t o s q
+
 pub stream-quiet : (c : Cut) (f : ℕ → Values) (l : List PlaneCell) (t : Kept) (o m : List ℕ) → Quiet t → stream c f l t o m .answers ≡ o
-stream-quiet c f [] t o m q = ap (λ (s : Stream). s .answers) (stream-nil c f t o m)
-stream-quiet c f (p ∷ l) t o m q =
-    by (stream-quiet c f l (addTo c t (at c f p)) (written t o (at c f p)) (set m (p .cell) 1) (quiet-added c t (at c f p) q)) (sound (f (p .cell))) refl
-  where
-    by : stream c f l (addTo c t (at c f p)) (written t o (at c f p)) (set m (p .cell) 1) .answers ≡ written t o (at c f p) → (b : Bool) → sound (f (p .cell)) ≡ b → stream c f (p ∷ l) t o m .answers ≡ o
-    by rest true h = ap (λ (s : Stream). s .answers) (stream-sound c f p l t o m h) ∙ rest ∙ quiet-written t o (at c f p) q
-    by rest false h = ap (λ (s : Stream). s .answers) (stream-bad c f p l t o m h)
+unfolding stream
+stream-quiet c f l t o m q = quiet-all c t o (goods f l) q
 
 -- ---- the answer of a quiet code
 

@@ -8,28 +8,23 @@ use Rattle.arith.specs.Lists.{flatten}
 use Rattle.arith.specs.declared.Vec2.{Vec2}
 use Rattle.reading.specs.declared.Values.{Values}
 use Rattle.reading.specs.Result.{Result, refused, fine, _>>=_}
+use Rattle.reading.specs.Asks.{run}
 use Rattle.planes_sections.specs.Intersect.{PlaneCell}
 use Rattle.answers.specs.declared.Answered.{Answered}
 use Rattle.answers.specs.Reply.{answerOf, lengthOf, wordsOf}
 use Rattle.planes_sums.specs.declared.Sums.{Sums}
 use Rattle.planes_sums.specs.declared.Integral.{Integral}
 use Rattle.planes_sums.specs.declared.Probed.the-variants.{Missed}
-use Rattle.planes_sums.specs.Sample.{Sample, sound}
+use Rattle.planes_samples.specs.Sampling.{taken}
 use Rattle.planes_sums.specs.Statistics.{statisticsFrom}
 use Rattle.planes_sums.specs.Integrals.{integralsFrom}
 use Rattle.planes_sums.specs.Kept.{Kept, ofSection, ofStatistics, ofIntegrals, ofProbe}
 use Rattle.planes_sums.specs.Words.{sampleWords}
 use Rattle.planes.specs.Answers.{probeWords}
 
--- the samples before the first bad one
-unfoldable pub goods : (ℕ → Values) → List PlaneCell → List Sample
-goods f [] = []
-goods f (p ∷ ps) =
-    elim (sound (f (p .cell))) [ true ↦ record { geometry = p; values = f (p .cell) } ∷ goods f ps | false ↦ [] ]
-
 -- code 5 writes its polygons while it reads them: what they leave under 39
 unfoldable pub leftBy : (ℕ → Values) → List PlaneCell → List ℕ → List ℕ
-leftBy f l o = sets o 1 (flatten (map sampleWords (goods f l)))
+leftBy f l o = sets o 1 (flatten (map sampleWords (run (taken l) f .samples)))
 
 -- ---- from what was kept to the answer
 

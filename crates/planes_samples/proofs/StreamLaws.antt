@@ -2,38 +2,79 @@
 use Prim.Native.Nat.{ℕ}
 use mathlib.Core.Path.{_≡_, refl, ap, sym, _∙_}
 use mathlib.Core.Bool.{Bool, true, false}
-use mathlib.Core.List.{List, [], _∷_, _++_}
+use mathlib.Core.List.{List, [], _∷_, _++_, append-nil}
 use native.Mathlib.Omega.{arith}
 use lib.ListN.{set}
+use Rattle.arith.specs.Lists.{fold}
 use Rattle.reading.specs.declared.Values.{Values}
-use Rattle.reading.specs.Result.{Result, refused, fine}
-use Rattle.reading.specs.Asks.{give, reads}
+use Rattle.reading.specs.Result.{Result, refused, fine, refuse, _>>=_}
+use Rattle.reading.specs.Asks.{give, run, reads}
 use Rattle.reading.specs.Marks.{markAll}
-use Rattle.reading.proofs.AsksLaws.{reads-bind}
+use Rattle.reading.proofs.AsksLaws.{run-bind, reads-bind}
 use Rattle.planes_cut.specs.declared.Cut.{Cut}
 use Rattle.planes_sections.specs.Intersect.{PlaneCell}
 use Rattle.planes_sums.specs.Sample.{Sample, sound}
-use Rattle.planes_samples.specs.Sampling.{before, onward, sample}
-use Rattle.planes_samples.specs.Stream.{Stream, stream}
+use Rattle.planes_samples.specs.Sampling.{Taken, before, onward, taken, complete, sample}
+use Rattle.planes_samples.specs.Stream.{Stream, writtenAll, stream}
 use Rattle.planes_sums.specs.Kept.{Kept, addTo, written}
 
 module _ (c : Cut) (f : ℕ → Values) where
   abbrev pub at : PlaneCell → Sample
   at p = record { geometry = p; values = f (p .cell) }
 
-  pub stream-nil : (t : Kept) (o m : List ℕ) → stream c f [] t o m ≡ record { outcome = fine t; answers = o; marks = m }
+  taken-sound : (p : PlaneCell) (ps : List PlaneCell) → sound (f (p .cell)) ≡ true → run (taken (p ∷ ps)) f ≡ before (at p) (run (taken ps) f)
+  unfolding taken onward
+  taken-sound p ps h = ap (λ (b : Bool). run (onward b (at p) (taken ps)) f) h ∙ run-bind (taken ps) (λ t. give (before (at p) t)) f
+
+  reads-sound : (p : PlaneCell) (ps : List PlaneCell) → sound (f (p .cell)) ≡ true → reads (taken (p ∷ ps)) f ≡ p .cell ∷ reads (taken ps) f
+  unfolding taken onward
+  reads-sound p ps h =
+      ap (λ (b : Bool). p .cell ∷ reads (onward b (at p) (taken ps)) f) h
+      ∙ ap (λ (l : List ℕ). p .cell ∷ l) (reads-bind (taken ps) (λ t. give (before (at p) t)) f ∙ append-nil (reads (taken ps) f))
+
+  taken-bad : (p : PlaneCell) (ps : List PlaneCell) → sound (f (p .cell)) ≡ false → run (taken (p ∷ ps)) f ≡ record { samples = []; bad = true }
+  unfolding taken onward
+  taken-bad p ps h = ap (λ (b : Bool). run (onward b (at p) (taken ps)) f) h
+
+  reads-bad : (p : PlaneCell) (ps : List PlaneCell) → sound (f (p .cell)) ≡ false → reads (taken (p ∷ ps)) f ≡ p .cell ∷ []
+  unfolding taken onward
+  reads-bad p ps h = ap (λ (b : Bool). p .cell ∷ reads (onward b (at p) (taken ps)) f) h
+
+  -- the stream of samples that were taken, from cells that were read
+  abbrev after : Taken → List ℕ → Kept → List ℕ → List ℕ → Stream
+  after k cells t o m =
+      record { outcome = complete k >>= λ ss. fine (fold (addTo c) t ss); answers = writtenAll c t o (k .samples); marks = markAll m cells }
+
+  stream-as : (l : List PlaneCell) (t : Kept) (o m : List ℕ) (k : Taken) (cells : List ℕ) → run (taken l) f ≡ k → reads (taken l) f ≡ cells → stream c f l t o m ≡ after k cells t o m
   unfolding stream
+  stream-as l t o m k cells ek ec = rw (ek, ec)
+
+  kept-more : (b : Bool) (s : Sample) (ss : List Sample) (t : Kept)
+      → (complete (record { samples = s ∷ ss; bad = b }) >>= λ l. fine (fold (addTo c) t l)) ≡ (complete (record { samples = ss; bad = b }) >>= λ l. fine (fold (addTo c) (addTo c t s) l))
+  unfolding complete refuse _>>=_ fold
+  kept-more true s ss t = refl
+  kept-more false s ss t = refl
+
+  after-more : (k : Taken) (i : ℕ) (cells : List ℕ) (s : Sample) (t : Kept) (o m : List ℕ) → after (before s k) (i ∷ cells) t o m ≡ after k cells (addTo c t s) (written t o s) (set m i 1)
+  unfolding before writtenAll
+  after-more k i cells s t o m =
+      ap (λ (r : Result Kept). record { outcome = r; answers = writtenAll c (addTo c t s) (written t o s) (k .samples); marks = markAll (set m i 1) cells }) (kept-more (k .bad) s (k .samples) t)
+
+  pub stream-nil : (t : Kept) (o m : List ℕ) → stream c f [] t o m ≡ record { outcome = fine t; answers = o; marks = m }
+  unfolding stream taken complete refuse _>>=_ fold writtenAll
   stream-nil t o m = refl
 
   pub stream-sound : (p : PlaneCell) (ps : List PlaneCell) (t : Kept) (o m : List ℕ) → sound (f (p .cell)) ≡ true →
       stream c f (p ∷ ps) t o m ≡ stream c f ps (addTo c t (at p)) (written t o (at p)) (set m (p .cell) 1)
-  unfolding stream
-  stream-sound p ps t o m e = rw (e, stream)
+  stream-sound p ps t o m e =
+      stream-as (p ∷ ps) t o m _ _ (taken-sound p ps e) (reads-sound p ps e)
+      ∙ after-more (run (taken ps) f) (p .cell) (reads (taken ps) f) (at p) t o m
+      ∙ sym (stream-as ps (addTo c t (at p)) (written t o (at p)) (set m (p .cell) 1) _ _ refl refl)
 
   pub stream-bad : (p : PlaneCell) (ps : List PlaneCell) (t : Kept) (o m : List ℕ) → sound (f (p .cell)) ≡ false →
       stream c f (p ∷ ps) t o m ≡ record { outcome = refused 39; answers = o; marks = set m (p .cell) 1 }
-  unfolding stream
-  stream-bad p ps t o m e = rw (e, stream)
+  unfolding complete refuse _>>=_ writtenAll
+  stream-bad p ps t o m e = stream-as (p ∷ ps) t o m _ _ (taken-bad p ps e) (reads-bad p ps e)
 
   -- a part was sampled: the rest goes on from there
   pub stream-then : (l k : List PlaneCell) (t t′ : Kept) (o o′ m m′ : List ℕ) → stream c f l t o m ≡ record { outcome = fine t′; answers = o′; marks = m′ } →
@@ -63,12 +104,5 @@ module _ (c : Cut) (f : ℕ → Values) where
 
   -- the marks are those of the tree
   pub stream-marks : (l : List PlaneCell) (t : Kept) (o m : List ℕ) → stream c f l t o m .marks ≡ markAll m (reads (sample l) f)
-  unfolding stream sample onward
-  stream-marks [] t o m = refl
-  stream-marks (p ∷ l) t o m = by (stream-marks l (addTo c t (at p)) (written t o (at p)) (set m (p .cell) 1)) (sound (f (p .cell))) refl
-    where
-      by : stream c f l (addTo c t (at p)) (written t o (at p)) (set m (p .cell) 1) .marks ≡ markAll (set m (p .cell) 1) (reads (sample l) f) → (b : Bool) → sound (f (p .cell)) ≡ b → stream c f (p ∷ l) t o m .marks ≡ markAll (set m (p .cell) 1) (reads (onward (sound (f (p .cell))) (at p) (sample l)) f)
-      by rest true h =
-          rw (stream-sound p l t o m h, h)
-          (rest ∙ ap (markAll (set m (p .cell) 1)) (sym (reads-bind (sample l) (λ r. give (before (at p) r)) f ∙ mathlib.Core.List.append-nil (reads (sample l) f))))
-      by rest false h = rw (stream-bad p l t o m h, h)
+  unfolding stream sample
+  stream-marks l t o m = ap (markAll m) (sym (reads-bind (taken l) (λ k. give (complete k)) f ∙ append-nil (reads (taken l) f)))

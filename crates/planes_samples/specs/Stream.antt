@@ -1,11 +1,13 @@
--- The same, sample by sample: what is kept of the samples so far, the answer words and the marks. No list of samples is held.
+-- What is kept of samples, the answer words and the marks. The code holds no list of samples.
 use Prim.Native.Nat.{ℕ, _+_, _≤_}
 use mathlib.Core.Path.{_≡_}
-use mathlib.Core.Bool.{true, false}
 use mathlib.Core.List.{List, [], _∷_}
-use lib.ListN.{length, set}
+use lib.ListN.{length}
+use Rattle.arith.specs.Lists.{fold}
 use Rattle.reading.specs.declared.Values.{Values}
-use Rattle.reading.specs.Result.{Result, refused, fine}
+use Rattle.reading.specs.Result.{Result, refused, fine, _>>=_}
+use Rattle.reading.specs.Asks.{run, reads}
+use Rattle.reading.specs.Marks.{markAll}
 use Rattle.case_file.specs.declared.Counts.{Counts}
 use Rattle.case_file.specs.declared.Opened.the-variants.{Case}
 use Rattle.case_file.specs.Trailer.{opened}
@@ -15,8 +17,9 @@ use Rattle.planes_cut.specs.Work.{Lent, bare}
 use Rattle.planes_crossings.specs.Work.{Bounded}
 use Rattle.planes_sections.specs.Intersect.{PlaneCell}
 use Rattle.planes_sums.specs.declared.Tally.{Tally}
-use Rattle.planes_sums.specs.Sample.{Sample, sound}
+use Rattle.planes_sums.specs.Sample.{Sample}
 use Rattle.planes_sums.specs.Kept.{Kept, keptOf, addTo, written, sizeOf}
+use Rattle.planes_samples.specs.Sampling.{Taken, taken, complete}
 use Rattle.planes_samples.specs.declared.Tallied.{Tallied}
 use Rattle.planes_samples.specs.declared.Tallied.the-variants.{Done, Bad}
 
@@ -31,15 +34,19 @@ pub record Stream : Type 0 where
   pub answers : List ℕ
   pub marks : List ℕ
 
--- sample after sample, up to and including the first bad one
+-- the answer words with what is written of samples, one after another
+unfoldable pub writtenAll : Cut → Kept → List ℕ → List Sample → List ℕ
+writtenAll c t o [] = o
+writtenAll c t o (s ∷ ss) = writtenAll c (addTo c t s) (written t o s) ss
+
+-- the samples kept, or refusal 39; what is written before the first bad one; and the cells that were read marked
 unfoldable pub stream : Cut → (ℕ → Values) → List PlaneCell → Kept → List ℕ → List ℕ → Stream
-stream c f [] t o m = record { outcome = fine t; answers = o; marks = m }
-stream c f (p ∷ ps) t o m =
-    let s : Sample = record { geometry = p; values = f (p .cell) } in
-    elim (sound (f (p .cell))) [
-      | true ↦ stream c f ps (addTo c t s) (written t o s) (set m (p .cell) 1)
-      | false ↦ record { outcome = refused 39; answers = o; marks = set m (p .cell) 1 }
-    ]
+stream c f l t o m =
+    record {
+      outcome = complete (run (taken l) f) >>= λ ss. fine (fold (addTo c) t ss);
+      answers = writtenAll c t o (run (taken l) f .samples);
+      marks = markAll m (reads (taken l) f);
+    }
 
 -- what a function that samples promises
 pub record Streamed (s : Stream) (r : Tallied) (o m : List ℕ) : Type 0 where
