@@ -23,6 +23,7 @@ ghost use mathlib.Core.List.{List};
 ghost use Prim.Native.Nat.{_<_};
 ghost use lib.Seq.{sets};
 ghost use lib.Ieee.{Float};
+ghost use Rattle.arith.specs.F64.{finite};
 ghost use Rattle.case_file.specs.Field.{valuesOf};
 ghost use Rattle.mesh_area.specs.Layout.{pointsIn, meshIn};
 ghost use Rattle.planes_sections.specs.Intersect.{intersect};
@@ -41,14 +42,19 @@ fn both(a: bool, b: bool) -> bool
     if a { b } else { false }
 }
 
+// All four are finite.
+fn are_finite(a: f64, b: f64, c: f64, d: f64) -> bool
+    ensures { λ r. ⌜ r ≡ (finite a && (finite b && (finite c && finite d))) ⌝ }
+{
+    let last = both(float::is_finite(c), float::is_finite(d));
+    both(float::is_finite(a), both(float::is_finite(b), last))
+}
+
 // All integrals are finite.
 fn finite_integral(t: Integral) -> bool
     ensures { λ r. ⌜ r ≡ Integrals.finiteIntegral t ⌝ }
 {
-    let flux = float::is_finite(t.flux);
-    let speed = both(float::is_finite(t.speed), flux);
-    let pressure = both(float::is_finite(t.pressure), speed);
-    both(float::is_finite(t.area), pressure)
+    are_finite(t.area, t.pressure, t.speed, t.flux)
 }
 
 // There is no area, or an integral is not finite.
@@ -95,12 +101,11 @@ fn end_integrals(r: Weighed, answers: &mut [u64]) -> Answered
 fn finite_sums(t: Sums) -> bool
     ensures { λ r. ⌜ r ≡ Statistics.finiteSums t ⌝ }
 {
-    let weighted = float::is_finite(t.weighted);
-    let negative = both(float::is_finite(t.negative), weighted);
-    let positive = both(float::is_finite(t.positive), negative);
-    let flux = both(float::is_finite(t.flux), positive);
-    let integral = both(float::is_finite(t.integral), flux);
-    both(float::is_finite(t.area), integral)
+    let others = are_finite(t.flux, t.positive, t.negative, t.weighted);
+    both(
+        float::is_finite(t.area),
+        both(float::is_finite(t.integral), others),
+    )
 }
 
 // There is no area, or a sum is not finite.

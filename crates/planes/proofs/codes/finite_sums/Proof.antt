@@ -3,56 +3,11 @@ use borrow.Author.Needs.{needs}
 use Rattle.planes.proofs.codes.finite_sums.Statement.{statement}
 use Rattle.planes.proofs.codes.finite_sums.Tie as tie
 
-is-finite-requires : tie.Need-is-finite-requires
-is-finite-requires c κs = search needs
-
-is-finite-requires-2 : tie.Need-is-finite-requires-2
-is-finite-requires-2 c κs = search needs
-
-both-requires : tie.Need-both-requires
-both-requires c κs = search needs
-
-is-finite-requires-3 : tie.Need-is-finite-requires-3
-is-finite-requires-3 c κs = search needs
-
-both-requires-2 : tie.Need-both-requires-2
-both-requires-2 c κs = search needs
-
-is-finite-requires-4 : tie.Need-is-finite-requires-4
-is-finite-requires-4 c κs = search needs
-
-both-requires-3 : tie.Need-both-requires-3
-both-requires-3 c κs = search needs
-
-is-finite-requires-5 : tie.Need-is-finite-requires-5
-is-finite-requires-5 c κs = search needs
-
-both-requires-4 : tie.Need-both-requires-4
-both-requires-4 c κs = search needs
-
-is-finite-requires-6 : tie.Need-is-finite-requires-6
-is-finite-requires-6 c κs = search needs
-
-both-requires-5 : tie.Need-both-requires-5
-both-requires-5 c κs = search needs
-
 returns : tie.Need-returns
 unfolding finiteSums
-returns c = rw (c .both5 .ensures, c .before .is-finite6 .ensures, c .before .before .both4 .ensures, c .before .before .before .is-finite5 .ensures, c .before .before .before .before .both3 .ensures, c .before .before .before .before .before .is-finite4 .ensures, c .before .before .before .before .before .before .both2 .ensures, c .before .before .before .before .before .before .before .is-finite3 .ensures, c .before .before .before .before .before .before .before .before .both .ensures, c .before .before .before .before .before .before .before .before .before .is-finite2 .ensures, c .before .before .before .before .before .before .before .before .before .before .is-finite .ensures)
+returns c = rw (c .both2 .ensures, c .before .both .ensures, c .before .before .is-finite2 .ensures, c .before .before .before .is-finite .ensures, c .before .before .before .before .are-finite .ensures)
 
 pub finite-sums-spec : {M : Type 1} → statement M
 finite-sums-spec =
     tie.close
-    (tie.spec
-    is-finite-requires
-    is-finite-requires-2
-    both-requires
-    is-finite-requires-3
-    both-requires-2
-    is-finite-requires-4
-    both-requires-3
-    is-finite-requires-5
-    both-requires-4
-    is-finite-requires-6
-    both-requires-5
-    returns)
+    (tie.spec (λ c κs. search needs) (λ c κs. search needs) (λ c κs. search needs) (λ c κs. search needs) (λ c κs. search needs) returns)
