@@ -21,10 +21,10 @@ use Rattle.case_definitions.proofs.Walking.{head-faces}
 use Rattle.mesh_area.specs.declared.Sizes.{Sizes}
 use Rattle.mesh_area.specs.Layout.{LentWords, LentFloats, listAt, facesIn}
 use Rattle.mesh_points.proofs.CollectLaws.{copied-next}
-use Rattle.mesh_faces.specs.Using.{sized}
+use Rattle.mesh_faces.specs.Using.{sized, Usable}
 use Rattle.mesh_faces.proofs.AreaLaws.{chained-kept, faces-kept}
 use Rattle.mesh_drafts.specs.Parts as Parts
-use Rattle.mesh_drafts.specs.Parts.{addFaceOf, Placeable, Grew, Placing}
+use Rattle.mesh_drafts.specs.Parts.{addFaceOf, Grew, Placing}
 use Rattle.mesh_drafts.specs.declared.NewCell.{NewCell}
 use Rattle.mesh_drafts.specs.declared.FacePlaced.{FacePlaced}
 use Rattle.mesh_drafts.specs.declared.FacePlaced.the-variants as FacePlaced
@@ -51,8 +51,8 @@ lent-floats-sized s floats floats′ n l e h =
 
 module _ (ws : List ℕ) (s : Sizes) (words : List ℕ) (floats : List Float) (cell : NewCell) (c : FaceCursor) (rd : FaceReady ws s words floats cell c)
     (vs₀ vs : List ℕ) (count : ℕ) (next : FaceCursor) (f : FaceCopied ws (cell .head) c vs₀ vs count next) where
-  pub face-placeable : Placeable s words floats (take count vs) cell
-  face-placeable =
+  pub face-usable : Usable s words floats (take count vs) (cell .number)
+  face-usable =
       let l : length (take count vs) ≡ count = ap length (f .front) ∙ sym (f .counted) in
       record {
         lent-words = rd .lent-words;

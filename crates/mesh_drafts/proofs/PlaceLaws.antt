@@ -21,7 +21,7 @@ use Rattle.mesh_faces.specs.declared.Added.{Added}
 use Rattle.mesh_faces.specs.declared.Added.the-variants.{New, Second, Third}
 use Rattle.mesh_faces.proofs.AnswerLaws.{new-number, second-number}
 use Rattle.mesh_drafts.specs.Parts as Parts
-use Rattle.mesh_drafts.specs.Parts.{measuredFrom, Growing, addFaceOf, Placeable, Placing}
+use Rattle.mesh_drafts.specs.Parts.{measuredFrom, Growing, addFaceOf, Placing}
 use Rattle.mesh_drafts.specs.declared.NewCell.{NewCell}
 use Rattle.mesh_drafts.specs.declared.FacePlaced.the-variants as FacePlaced
 
@@ -75,8 +75,8 @@ module _ (d : ℕ) (ps : List Vec3) (cell : NewCell) (s : Sizes) (words : List �
     place-third ea = Parts.Placing.refusing 14 (λ w ew. rw ea at (whole w ew))
 
 -- what the table asks of a face that is turned
-pub usable : (s : Sizes) (words : List ℕ) (floats : List Float) (vertices vertices′ : List ℕ) (cell : NewCell) → Placeable s words floats vertices cell → length vertices′ ≡ length vertices
-    → Usable s words floats vertices′ (cell .number)
+pub usable : (s : Sizes) (words : List ℕ) (floats : List Float) (vertices vertices′ : List ℕ) (cell : ℕ) → Usable s words floats vertices cell
+    → length vertices′ ≡ length vertices → Usable s words floats vertices′ cell
 usable s words floats vertices vertices′ cell p e =
     record {
       lent-words = p .lent-words;

@@ -1,7 +1,7 @@
 -- The parts of a cell's draft: refusals 13 and 14 of a face of the cell, and the cell's record.
 -- `measuredFrom`: the geometry of a face that is turned outward.
 -- `Growing`, `addFaceOf`: the faces of a cell, one after another.
--- `place_face`: `Placeable`, `Grew`, `Placing`. `put_cell`: `CellPut`.
+-- `place_face`: `Grew`, `Placing`. `put_cell`: `CellPut`.
 use Prim.Native.Nat.{ℕ, _+_, _*_, _≤_, _<_}
 use mathlib.Core.Path.{_≡_}
 use mathlib.Core.List.{List, [], _∷_, _++_}
@@ -39,15 +39,6 @@ addFaceOf d ps cell reference g l =
     orientedFace d ps reference l >>= λ o.
     addFace cell (o .vertices) (measuredFrom o) (g .faces) >>= λ p.
     fine (record { faces = p .faces; own = g .own ++ p .number ∷ [] })
-
--- a face with these numbers can be placed for a cell
-pub record Placeable (s : Sizes) (words : List ℕ) (floats : List Float) (vertices : List ℕ) (cell : NewCell) : Type 0 where
-  pub lent-words : LentWords s words
-  pub lent-floats : LentFloats s floats
-  pub chained : Chained s words
-  pub space : s .faces < s .slots
-  pub short : length vertices ≤ 8
-  pub cells-few : cell .number < 16384
 
 -- the table has n faces, face f among them, and nothing after it has changed
 pub record Grew (s : Sizes) (words words′ : List ℕ) (floats floats′ : List Float) (f n : ℕ) : Type 0 where

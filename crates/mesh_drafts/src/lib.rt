@@ -7,7 +7,8 @@ use mesh_geometry::TurnedFace;
 ghost use Prim.Native.Nat.{_+_, _*_, _≤_, _<_};
 ghost use lib.ListN.{length};
 ghost use Rattle.mesh_area.specs.Layout.{pointsIn};
-ghost use Rattle.mesh_drafts.specs.Parts.{Placeable, Placing, CellPut};
+ghost use Rattle.mesh_faces.specs.Using.{Usable};
+ghost use Rattle.mesh_drafts.specs.Parts.{Placing, CellPut};
 
 // A face's number and the number of faces in the table, or the refusal.
 pub enum FacePlaced {
@@ -35,7 +36,7 @@ pub fn place_face(
     cell: NewCell,
     vertices: &mut [u32],
 ) -> FacePlaced
-    requires { ⌜ Placeable s (now words) (now floats) (now vertices) cell × (points ≤ 65536)
+    requires { ⌜ Usable s (now words) (now floats) (now vertices) (cell .number) × (points ≤ 65536)
         × (24 * points ≤ length (now case)) ⌝ }
     ensures { λ r. ⌜ Placing dimension (pointsIn (now (case .entry)) points) cell s (now (words .entry))
         (now (words .exit)) (now (floats .entry)) (now (floats .exit)) (now (vertices .entry)) r ⌝ }

@@ -1,6 +1,6 @@
 use native.Mathlib.Omega.{arith}
 use Rattle.mesh_points.proofs.CollectLaws.{copied-count}
-use Rattle.mesh_cells.proofs.FaceLaws.{face-placeable, face-refused, face-added, face-number}
+use Rattle.mesh_cells.proofs.FaceLaws.{face-usable, face-refused, face-added, face-number}
 use borrow.Author.Needs.{needs}
 use Rattle.mesh_cells.proofs.add_face.Statement.{statement}
 use Rattle.mesh_cells.proofs.add_face.Tie as tie
@@ -11,7 +11,7 @@ slice-aggregate-place-face c = copied-count _ _ _ _ _ _ _ (c .before .before .be
 place-face-requires : tie.Need-place-face-requires
 place-face-requires c κs =
     let p = c .before .before .before .before .before .before .before .before .before .before .pre in
-    (face-placeable _ _ _ _ _ _ (p .0) _ _ _ _ (c .before .before .before .copy-face .ensures), p .1, p .2)
+    (face-usable _ _ _ _ _ _ (p .0) _ _ _ _ (c .before .before .before .copy-face .ensures), p .1, p .2)
 
 mul-at : tie.Need-mul-at
 mul-at c = let p = c .before .before .before .before .before .before .before .before .before .before .before .before .before .before .before .before .before .before .before .before .pre .0 in omega (arith, p .lent-words .few-slots)
