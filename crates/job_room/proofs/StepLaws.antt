@@ -2,12 +2,12 @@
 use Prim.Native.Nat.{ℕ, zero, suc, _+_, _*_, _/_, _%_, _≤_, _<_}
 use native.Mathlib.Omega.{arith}
 use mathlib.Core.Path.{_≡_, refl, ap, sym, _∙_, subst}
-use mathlib.Core.Bool.{Bool, true, false, _||_}
+use mathlib.Core.Bool.{Bool, true, false}
 use mathlib.Core.List.{List}
 use lib.Dec.{ltb}
 use lib.ListN.{length}
 use lib.Ieee.{Float}
-use borrow.Author.Tests.{eq-eqb, ne-eqb, lt-ltb, le-ltb, ltb-false}
+use borrow.Author.Tests.{eq-eqb, ne-eqb, lt-ltb, le-ltb}
 use Rattle.arith.specs.declared.Vec3.{Vec3}
 use Rattle.reading.specs.Result.{Result, refused, fine, _>>=_, refuse}
 use Rattle.reading.proofs.ResultLaws.{bound, not-due}
@@ -24,10 +24,11 @@ use Rattle.mesh_area.specs.Layout.{pointsIn, meshIn}
 use Rattle.mesh_area.proofs.LayoutLaws.{length-cellsIn}
 use Rattle.mesh.specs.Mesh.{fromCells}
 use Rattle.mesh.specs.Case.{Surveyed-case, surveyOf, areaShort, meshOf, Building}
+use Rattle.mesh_coordinates.specs.Coordinates.{acceptedAs}
 use Rattle.mesh.specs.Steps.{Buildable}
 use Rattle.mesh.specs.declared.Built.{Built}
 use Rattle.mesh.specs.declared.Built.the-variants as Built
-use Rattle.mesh.proofs.Laws.{Surveys, survey-right, building-refused, building-mesh}
+use Rattle.mesh.proofs.Laws.{Surveys, survey-right, area-long, building-refused, building-mesh}
 use Rattle.lines_locate.specs.declared.Grid.{Grid}
 use Rattle.lines_field.specs.declared.Built as polygons
 use Rattle.lines_field.specs.declared.Built.the-variants as Traced
@@ -40,7 +41,7 @@ use Rattle.planes_cut.specs.Work.{bare}
 use Rattle.planes_sections.proofs.PieceLaws.{same-bounds}
 use Rattle.job_room.specs.Room.{Room, flat, solid, Lent, roomFrom, roomOf, requestsWrong, shortage, prepared}
 use Rattle.job_room.specs.Stands.{roomIn, countsIn, Servable, Stands, Preparing, standing, barred}
-use Rattle.job_room.specs.Steps.{shortAs, Shortage, FieldReady}
+use Rattle.job_room.specs.Steps.{Shortage, FieldReady}
 use Rattle.job_room.specs.declared.Place.the-variants.{Flat, Solid}
 use Rattle.job_room.specs.declared.Prepared.{Prepared}
 use Rattle.job_room.specs.declared.Prepared.the-variants as Prepared
@@ -63,36 +64,31 @@ module _ (n : Counts) (faces requests words floats marks answers : ℕ) where
   abbrev lent : Lent
   lent = record { words = words; floats = floats; marks = marks; answers = answers }
 
-  pub short-words : words < 16 * faces + 96 * n .cells → Shortage n faces requests lent 4
-  unfolding Shortage shortAs shortage areaShort refuse _>>=_
-  short-words h = λ defs e. rw (← e, lt-ltb words (16 * faces + 96 * n .cells) h, refuse, _>>=_)
+  module _ (s : Bool) (told : (defs : List Definition) → faces ≡ facesCounted defs → s ≡ areaShort (record { counts = n; definitions = defs }) words floats) where
+    pub short-area : s ≡ true → Shortage n faces requests lent 4
+    unfolding Shortage acceptedAs shortage refuse _>>=_
+    short-area h = λ defs e. rw (sym (told defs e) ∙ h, refuse, _>>=_)
 
-  module _ (long : 16 * faces + 96 * n .cells ≤ words) where
-    pub short-floats : floats < 12 * faces + 64 * n .cells → Shortage n faces requests lent 4
-    unfolding Shortage shortAs shortage areaShort refuse _>>=_
-    short-floats h = λ defs e. rw (← e, le-ltb words (16 * faces + 96 * n .cells) long, lt-ltb floats (12 * faces + 64 * n .cells) h, refuse, _>>=_)
-
-    module _ (high : 12 * faces + 64 * n .cells ≤ floats) where
+    module _ (long : s ≡ false) where
       area : (defs : List Definition) → faces ≡ facesCounted defs → areaShort (record { counts = n; definitions = defs }) words floats ≡ false
-      unfolding areaShort
-      area defs e = rw (← e, le-ltb words (16 * faces + 96 * n .cells) long, le-ltb floats (12 * faces + 64 * n .cells) high)
+      area defs e = sym (told defs e) ∙ long
 
       pub short-marks : marks < n .cells → Shortage n faces requests lent 5
-      unfolding Shortage shortAs shortage refuse _>>=_
+      unfolding Shortage acceptedAs shortage refuse _>>=_
       short-marks h = λ defs e. rw (area defs e, lt-ltb marks (n .cells) h, refuse, _>>=_)
 
       module _ (reach : n .cells ≤ marks) where
         pub short-requests : requestsWrong requests ≡ true → Shortage n faces requests lent 6
-        unfolding Shortage shortAs shortage refuse _>>=_
+        unfolding Shortage acceptedAs shortage refuse _>>=_
         short-requests h = λ defs e. rw (area defs e, le-ltb marks (n .cells) reach, h, refuse, _>>=_)
 
         module _ (right : requestsWrong requests ≡ false) where
           pub short-answers : answers < 2 * (requests / 128) → Shortage n faces requests lent 7
-          unfolding Shortage shortAs shortage refuse _>>=_
+          unfolding Shortage acceptedAs shortage refuse _>>=_
           short-answers h = λ defs e. rw (area defs e, le-ltb marks (n .cells) reach, right, lt-ltb answers (2 * (requests / 128)) h, refuse, _>>=_)
 
           pub short-nothing : 2 * (requests / 128) ≤ answers → Shortage n faces requests lent 0
-          unfolding Shortage shortAs shortage refuse _>>=_
+          unfolding Shortage acceptedAs shortage refuse _>>=_
           short-nothing h = λ defs e. rw (area defs e, le-ltb marks (n .cells) reach, right, le-ltb answers (2 * (requests / 128)) h, refuse, _>>=_)
 
 -- ---- the field of a mesh, or the mesh
@@ -189,27 +185,19 @@ prepared-as {case} {w} {f} {x} e p = subst (λ (r : Result Room). Preparing r ca
 
 -- ---- 1 to 7, then the room
 
-or-left : (a b : Bool) → (a || b) ≡ false → a ≡ false
-or-left true b e = e
-or-left false b e = refl
-
-or-right : (a b : Bool) → (a || b) ≡ false → b ≡ false
-or-right true b e = absurd (let z : _≡_ {A = ℕ} 0 1 = cc in omega arith)
-or-right false b e = e
-
 module _ (case : List ℕ) (n : Counts) (faces requests : ℕ) (lent : Lent) (s : Surveys case n faces) (k : ℕ) (h : Shortage n faces requests lent k) where
   abbrev c : Surveyed-case
   c = record { counts = n; definitions = s .ds }
 
-  short : shortage c requests lent ≡ shortAs k
+  short : shortage c requests lent ≡ acceptedAs k
   unfolding Shortage
   short = h (s .ds) (s .count)
 
   there : surveyOf case ≡ fine c
   there = survey-right case n (s .opens) (s .ds) (s .right)
 
-  refused-as : (k : ℕ) → (k ≡ 0 → ⊥) → shortAs k ≡ refused k
-  unfolding shortAs
+  refused-as : (k : ℕ) → (k ≡ 0 → ⊥) → acceptedAs k ≡ refused k
+  unfolding acceptedAs
   refused-as zero h = absurd (h refl)
   refused-as (suc k) h = refl
 
@@ -220,8 +208,8 @@ module _ (case : List ℕ) (n : Counts) (faces requests : ℕ) (lent : Lent) (s 
 
   module _ (z : k ≡ 0) where
     fitting : shortage c requests lent ≡ fine tt
-    unfolding shortAs
-    fitting = short ∙ ap shortAs z
+    unfolding acceptedAs
+    fitting = short ∙ ap acceptedAs z
 
     prepare-room : roomOf case c ≡ prepared case requests lent
     unfolding _>>=_
@@ -235,15 +223,13 @@ module _ (case : List ℕ) (n : Counts) (faces requests : ℕ) (lent : Lent) (s 
     long = let b = bound _ _ _ fitting in not-due 4 _ _ (b .had)
 
     pub buildable : (w : List ℕ) (f : List Float) → lent .words ≡ length w → lent .floats ≡ length f → Buildable case n faces w f
-    unfolding areaShort
     buildable w f ew ef =
-        let a : 16 * facesCounted (s .ds) + 96 * n .cells ≤ lent .words = ltb-false _ _ (or-left _ _ long) in
-        let b : 12 * facesCounted (s .ds) + 64 * n .cells ≤ lent .floats = ltb-false _ _ (or-right (ltb (lent .words) (16 * facesCounted (s .ds) + 96 * n .cells)) _ long) in
+        let a = area-long n faces (lent .words) (lent .floats) (s .ds) (s .count) long in
         record {
           opens = s .opens;
           defs = s .ds;
           right = s .right;
           counted = s .count;
-          long-words = omega (arith, a, ew, s .count);
-          long-floats = omega (arith, b, ef, s .count);
+          long-words = rw (← ew) (a .words-long);
+          long-floats = rw (← ef) (a .floats-long);
         }

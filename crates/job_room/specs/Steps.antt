@@ -1,9 +1,8 @@
 -- What the parts of `prepare` need, and what they promise of the number of a refusal.
-use Prim.Native.Nat.{ℕ, zero, suc}
+use Prim.Native.Nat.{ℕ}
 use mathlib.Core.Path.{_≡_}
 use mathlib.Core.List.{List}
 use lib.Ieee.{Float}
-use Rattle.reading.specs.Result.{Result, refused, fine}
 use Rattle.case_definitions.specs.Faces.{Definition, facesCounted}
 use Rattle.case_file.specs.Trailer.{opened}
 use Rattle.case_file.specs.declared.Counts.{Counts}
@@ -12,16 +11,12 @@ use Rattle.mesh_area.specs.declared.Sizes.{Sizes}
 use Rattle.mesh_area.specs.Layout.{pointsIn, meshIn, LentWords, LentFloats}
 use Rattle.lines_field.specs.Field.{Few}
 use Rattle.planes_crossings.specs.Work.{Bounded}
+use Rattle.mesh_coordinates.specs.Coordinates.{acceptedAs}
 use Rattle.job_room.specs.Room.{Lent, shortage}
-
--- what the number of a refusal among 4 to 7 stands for; 0 is none
-unfoldable pub shortAs : ℕ → Result (Unit {0})
-shortAs zero = fine tt
-shortAs (suc k) = refused (suc k)
 
 -- the refusal of a case with these counts and as many faces
 unfoldable pub Shortage : Counts → ℕ → ℕ → Lent → ℕ → Type 0
-Shortage n faces requests lent r = (defs : List Definition) → faces ≡ facesCounted defs → shortage (record { counts = n; definitions = defs }) requests lent ≡ shortAs r
+Shortage n faces requests lent r = (defs : List Definition) → faces ≡ facesCounted defs → shortage (record { counts = n; definitions = defs }) requests lent ≡ acceptedAs r
 
 -- the mesh of a case stands in the area
 pub record FieldReady (case : List ℕ) (n : Counts) (s : Sizes) (words : List ℕ) (floats : List Float) : Type 0 where

@@ -96,10 +96,7 @@ fn shortage(
     ensures { λ r. ⌜ Shortage n faces requests
         (record { words = words; floats = floats; marks = marks; answers = answers }) r ⌝ }
 {
-    if words < 16 * faces + 96 * n.cells {
-        return 4;
-    }
-    if floats < 12 * faces + 64 * n.cells {
+    if mesh::is_short(n, faces, words, floats) {
         return 4;
     }
     if marks < n.cells {

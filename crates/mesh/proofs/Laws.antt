@@ -2,11 +2,12 @@
 use Prim.Native.Nat.{ℕ, zero, suc, _+_, _-_, _*_, _≤_, _<_}
 use native.Mathlib.Omega.{arith}
 use mathlib.Core.Path.{_≡_, refl, ap, ap₂, sym, _∙_, subst}
-use mathlib.Core.Bool.{Bool, true, false}
+use mathlib.Core.Bool.{Bool, true, false, _||_}
 use mathlib.Core.List.{List, [], _∷_}
 use lib.ListN.{length, getD, length-drop}
+use lib.Dec.{ltb}
 use lib.Ieee.{Float}
-use borrow.Author.Tests.{lt-ltb, le-ltb}
+use borrow.Author.Tests.{lt-ltb, le-ltb, ltb-false}
 use Rattle.arith.specs.Lists.{anyOf, fold}
 use Rattle.arith.specs.declared.Vec3.{Vec3}
 use Rattle.reading.specs.Result.{Result, refused, fine, _>>=_, refuse, mapAll}
@@ -309,19 +310,45 @@ module _ (file : List ℕ) (n : Counts) (ds : List Definition) (o : opened file 
   unfolding caseFaces
   faces-all = sym (ap caseFaces there)
 
-  pub short-words : words < 16 * facesCounted ds + 96 * n .cells → meshFrom file words floats ≡ refused 4
-  unfolding meshFrom areaShort refuse _>>=_
-  short-words h = rw (there, _>>=_) (rw (lt-ltb words (16 * facesCounted ds + 96 * n .cells) h, refuse, _>>=_))
+  pub short-area : areaShort (record { counts = n; definitions = ds }) words floats ≡ true → meshFrom file words floats ≡ refused 4
+  unfolding meshFrom refuse _>>=_
+  short-area h = rw (there, _>>=_) (rw (h, refuse, _>>=_))
 
-  pub short-floats : 16 * facesCounted ds + 96 * n .cells ≤ words → floats < 12 * facesCounted ds + 64 * n .cells → meshFrom file words floats ≡ refused 4
-  unfolding meshFrom areaShort refuse _>>=_
-  short-floats g h =
-      rw (there, _>>=_) (rw (le-ltb words (16 * facesCounted ds + 96 * n .cells) g, lt-ltb floats (12 * facesCounted ds + 64 * n .cells) h, refuse, _>>=_))
+  pub long-area : areaShort (record { counts = n; definitions = ds }) words floats ≡ false → meshFrom file words floats ≡ fromCells (n .dimension) (pointsIn file (n .points)) ds
+  unfolding meshFrom meshOf refuse _>>=_
+  long-area h = rw (there, _>>=_) (rw (h, refuse, _>>=_))
 
-  pub long-enough : 16 * facesCounted ds + 96 * n .cells ≤ words → 12 * facesCounted ds + 64 * n .cells ≤ floats → meshFrom file words floats ≡ fromCells (n .dimension) (pointsIn file (n .points)) ds
-  unfolding meshFrom meshOf areaShort refuse _>>=_
-  long-enough g h =
-      rw (there, _>>=_) (rw (le-ltb words (16 * facesCounted ds + 96 * n .cells) g, le-ltb floats (12 * facesCounted ds + 64 * n .cells) h, refuse, _>>=_))
+module _ (n : Counts) (faces words floats : ℕ) where
+  pub short-words : words < 16 * faces + 96 * n .cells → (defs : List Definition) → faces ≡ facesCounted defs → true ≡ areaShort (record { counts = n; definitions = defs }) words floats
+  unfolding areaShort
+  short-words h defs e = rw (← e, lt-ltb words (16 * faces + 96 * n .cells) h)
+
+  pub short-floats : 16 * faces + 96 * n .cells ≤ words → (defs : List Definition) → faces ≡ facesCounted defs
+      → ltb floats (12 * faces + 64 * n .cells) ≡ areaShort (record { counts = n; definitions = defs }) words floats
+  unfolding areaShort
+  short-floats h defs e = rw (← e, le-ltb words (16 * faces + 96 * n .cells) h)
+
+or-left : (a b : Bool) → (a || b) ≡ false → a ≡ false
+or-left true b e = e
+or-left false b e = refl
+
+or-right : (a b : Bool) → (a || b) ≡ false → b ≡ false
+or-right true b e = absurd (let z : _≡_ {A = ℕ} 0 1 = cc in omega arith)
+or-right false b e = e
+
+-- what an area that is not too short has room for
+pub record Long (n : Counts) (faces words floats : ℕ) : Type 0 where
+  pub words-long : 16 * faces + 96 * n .cells ≤ words
+  pub floats-long : 12 * faces + 64 * n .cells ≤ floats
+
+pub area-long : (n : Counts) (faces words floats : ℕ) (defs : List Definition) → faces ≡ facesCounted defs
+    → areaShort (record { counts = n; definitions = defs }) words floats ≡ false → Long n faces words floats
+unfolding areaShort
+area-long n faces words floats defs e h =
+    record {
+      words-long = rw e (ltb-false _ _ (or-left _ _ h));
+      floats-long = rw e (ltb-false _ _ (or-right (ltb words (16 * facesCounted defs + 96 * n .cells)) _ h));
+    }
 
 pub mesh-shut : (file : List ℕ) (words floats k : ℕ) → surveyOf file ≡ refused k → meshFrom file words floats ≡ refused k
 unfolding meshFrom _>>=_

@@ -16,12 +16,12 @@ ghost use mathlib.Core.List.{List};
 ghost use Rattle.arith.specs.declared.Vec3.{Vec3};
 ghost use Rattle.mesh_area.specs.Layout.{facesIn, cellsIn};
 ghost use Rattle.reading.specs.Result.{fine};
-ghost use Rattle.case_definitions.specs.Faces.{Definition};
+ghost use Rattle.case_definitions.specs.Faces.{Definition, facesCounted};
 ghost use Rattle.case_definitions.specs.Definitions.{definitions};
 ghost use Rattle.case_file.specs.Trailer.{countsOf, wordsOf};
 ghost use Rattle.mesh_cells.specs.Steps.{Addable};
 ghost use Rattle.mesh.specs.Mesh.{joined, completed, filled, fromCells};
-ghost use Rattle.mesh.specs.Case.{Surveying, Building, surveyOf, caseFaces, meshFrom};
+ghost use Rattle.mesh.specs.Case.{Surveying, Building, surveyOf, areaShort, caseFaces, meshFrom};
 ghost use Rattle.mesh.specs.Steps.{Joinable, Completable, Buildable, draftsHeld};
 
 // The counts of a case and the number of faces of all its definitions, or refusal 1, 2 or 3.
@@ -47,6 +47,18 @@ pub fn survey(case: &[u8]) -> Surveyed
             Walked::Faces(f) => Surveyed::Case(n, f),
         },
     }
+}
+
+// Refusal 4: a work area of these lengths is too short for a case with so many faces.
+pub fn is_short(n: Counts, faces: usize, words: usize, floats: usize) -> bool
+    requires { ⌜ (faces ≤ 1048576) × (n .cells ≤ 16384) ⌝ }
+    ensures { λ r. ⌜ ((defs : List Definition) → faces ≡ facesCounted defs → r ≡ areaShort
+        (record { counts = n; definitions = defs }) words floats) ⌝ }
+{
+    if words < 16 * faces + 96 * n.cells {
+        return true;
+    }
+    floats < 12 * faces + 64 * n.cells
 }
 
 // 16, then the neighbours of each cell, then 17.
@@ -148,10 +160,7 @@ pub fn from_cells(case: &[u8], words: &mut [u32], floats: &mut [f64]) -> Built
     match survey(case) {
         Surveyed::Refused(k) => Built::Refused(k),
         Surveyed::Case(n, faces) => {
-            if words.len() < 16 * faces + 96 * n.cells {
-                return Built::Refused(4);
-            }
-            if floats.len() < 12 * faces + 64 * n.cells {
+            if is_short(n, faces, words.len(), floats.len()) {
                 return Built::Refused(4);
             }
             build(case, n, faces, words, floats)

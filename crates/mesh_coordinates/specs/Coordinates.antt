@@ -24,7 +24,7 @@ acceptable ps defs =
     refuse 9 (not (allOf (each3 finite) ps)) >>= λ _.
     refuse 10 (not (allOf (each3 within) ps))
 
--- what the number of a refusal among 8, 9 and 10 stands for; 0 is none
+-- what the number of a refusal stands for; 0 is none
 unfoldable pub acceptedAs : ℕ → Result (Unit {0})
 acceptedAs zero = fine tt
 acceptedAs (suc k) = refused (suc k)
