@@ -12,7 +12,7 @@ use lib.Dec.{eqb, ltb, leb, lit≤}
 use lib.ListN.{length, getD, set}
 use lib.Seq.{getD-set-same, getD-set-other, take-set-le}
 use Rattle.arith.proofs.RecordLaws.{stride-le, lt-or-ge, same-below}
-use Rattle.lines_bins.specs.Index.{slotIn, inBin, place, poolIn, headIn, Same, PoolSet, FlagSet, Pushed, Chain, none, node, Chains, Ranged, Indexed, passed, within, Grown, Filled, Built}
+use Rattle.lines_bins.specs.Index.{slotIn, reaches, inBin, place, poolIn, headIn, Same, PoolSet, FlagSet, Pushed, Chain, none, node, Chains, Ranged, Indexed, passed, within, Grown, Filled, Built}
 
 -- ---- the records
 
@@ -98,27 +98,27 @@ off-4 false c d e = refl
 
 module _ (w : List ℕ) (base x y i : ℕ) where
   pub left-of : x < slotIn w base i 0 → inBin w base x y i ≡ false
-  unfolding inBin
+  unfolding inBin reaches
   left-of h = rw (lt-leb _ _ h)
 
   pub right-of : slotIn w base i 2 < x → inBin w base x y i ≡ false
-  unfolding inBin
+  unfolding inBin reaches
   right-of h = off-2 (leb (slotIn w base i 0) x) _ _ (lt-leb _ _ h)
 
   pub under : y < slotIn w base i 1 → inBin w base x y i ≡ false
-  unfolding inBin
+  unfolding inBin reaches
   under h = off-3 (leb (slotIn w base i 0) x && leb x (slotIn w base i 2)) _ _ (lt-leb _ _ h)
 
   pub over : slotIn w base i 3 < y → inBin w base x y i ≡ false
-  unfolding inBin
+  unfolding inBin reaches
   over h = off-4 (leb (slotIn w base i 0) x && leb x (slotIn w base i 2)) (leb (slotIn w base i 1) y) _ (lt-leb _ _ h)
 
   pub inside : slotIn w base i 0 ≤ x → x ≤ slotIn w base i 2 → slotIn w base i 1 ≤ y → inBin w base x y i ≡ leb y (slotIn w base i 3)
-  unfolding inBin
+  unfolding inBin reaches
   inside a b c = rw (le-leb _ _ a, le-leb _ _ b, le-leb _ _ c)
 
   same-bin : (w′ : List ℕ) (n : ℕ) → i < n → Same w w′ base n → inBin w′ base x y i ≡ inBin w base x y i
-  unfolding inBin
+  unfolding inBin reaches
   same-bin w′ n h s =
       let e : (k : ℕ) → k < 8 → slotIn w′ base i k ≡ slotIn w base i k = λ k l. slots w w′ base n s i k h l in
       rw (e 0 (lit≤ tt), e 1 (lit≤ tt), e 2 (lit≤ tt), e 3 (lit≤ tt))

@@ -13,9 +13,13 @@ use lib.ListN.{length, getD, take}
 abbrev pub slotIn : List ℕ → ℕ → ℕ → ℕ → ℕ
 slotIn w base i k = getD w (base + 8 * i + k) 0
 
+-- from first to last: "a range that ends below its start lists nothing"
+unfoldable pub reaches : ℕ → ℕ → ℕ → Bool
+reaches first last b = leb first b && leb b last
+
 -- bin x, y is in the range of cell i
 unfoldable pub inBin : List ℕ → ℕ → ℕ → ℕ → ℕ → Bool
-inBin w base x y i = (leb (slotIn w base i 0) x && leb x (slotIn w base i 2)) && (leb (slotIn w base i 1) y && leb y (slotIn w base i 3))
+inBin w base x y i = reaches (slotIn w base i 0) (slotIn w base i 2) x && reaches (slotIn w base i 1) (slotIn w base i 3) y
 
 -- 1 where the index stands
 abbrev pub flagIn : List ℕ → ℕ → ℕ → ℕ

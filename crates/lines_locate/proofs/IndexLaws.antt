@@ -15,10 +15,10 @@ use Rattle.arith.specs.declared.Found.{Found}
 use Rattle.arith.specs.declared.Found.the-variants.{At, Nothing}
 use Rattle.mesh_area.specs.declared.Sizes.{Sizes}
 use Rattle.mesh_area.specs.Layout.{wordsEnd}
-use Rattle.lines_bins.specs.Index.{slotIn, inBin, poolIn, Chain, Indexed}
+use Rattle.lines_bins.specs.Index.{slotIn, reaches, inBin, poolIn, Chain, Indexed}
 use Rattle.lines_bins.proofs.Laws.{Opened, opened, closed, bin-low}
 use Rattle.lines_locate.specs.declared.Bin.{Bin}
-use Rattle.lines_locate.specs.Bins.{isListed, reaches}
+use Rattle.lines_locate.specs.Bins.{isListed}
 use Rattle.lines_locate.specs.Locate.{holds}
 use Rattle.lines_polygon.specs.Contains.{contains}
 use Rattle.lines_locate.specs.Layout.{wordsAt, binFrom, polygonIn, cellPolygonIn, cellPolygonsIn}

@@ -2,10 +2,10 @@
 use Prim.Native.Nat.{ℕ, _%_, _<_, _≤_}
 use mathlib.Core.Bool.{Bool, _&&_}
 use mathlib.Core.List.{List}
-use lib.Dec.{leb}
 use lib.Ieee.{Float}
 use Rattle.arith.specs.F64.{_⊖_, _⊗_, _⊘_, clamp, ofℕ, floorℕ}
 use Rattle.arith.specs.declared.Vec2.{Vec2}
+use Rattle.lines_bins.specs.Index.{reaches}
 use Rattle.lines_locate.specs.declared.Bin.{Bin}
 use Rattle.lines_locate.specs.declared.Grid.{Grid}
 
@@ -26,10 +26,6 @@ pub record CellPolygon : Type 0 where
   pub polygon : List Vec2
   pub first : Bin
   pub last : Bin
-
--- from first to last: "a range that ends below its start lists nothing"
-unfoldable pub reaches : ℕ → ℕ → ℕ → Bool
-reaches first last b = leb first b && leb b last
 
 -- the cell is listed in bin b
 unfoldable pub isListed : Bin → CellPolygon → Bool

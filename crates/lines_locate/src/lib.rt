@@ -15,6 +15,7 @@ ghost use lib.Ieee.{Float};
 ghost use Rattle.arith.specs.Lists.{firstFrom};
 ghost use mathlib.Core.Bool.{true};
 ghost use Rattle.mesh_area.specs.Layout.{wordsEnd, LentWords, LentFloats};
+ghost use Rattle.lines_bins.specs.Index as Index;
 ghost use Rattle.lines_bins.specs.Index.{flagIn, Indexed};
 ghost use Rattle.lines_polygon.specs.Contains.{contains};
 ghost use Rattle.lines_locate.specs.Bins as Bins;
@@ -102,7 +103,7 @@ fn bin_at(words: &[u32], at: usize) -> Bin
 
 // b lies from first to last.
 fn reaches(first: usize, last: usize, b: usize) -> bool
-    ensures { λ r. ⌜ r ≡ Bins.reaches first last b ⌝ }
+    ensures { λ r. ⌜ r ≡ Index.reaches first last b ⌝ }
 {
     if first <= b { b <= last } else { false }
 }

@@ -1,5 +1,5 @@
 use borrow.Author.Tests.{le-leb, lt-leb}
-use Rattle.lines_locate.specs.Bins.{reaches}
+use Rattle.lines_bins.specs.Index.{reaches}
 use Rattle.lines_locate.proofs.reaches.Statement.{statement}
 use Rattle.lines_locate.proofs.reaches.Tie as tie
 
