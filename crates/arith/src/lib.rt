@@ -1,8 +1,9 @@
 // The arithmetic that mesh, lines and planes are written in: numbers in bytes, counts, Rust's methods
-// of f64, and vectors.
+// of f64, vectors, and the sides that a line crosses.
 pub mod bytes;
 pub mod float;
 pub mod number;
+pub mod polygon;
 mod vector;
 
 // A point or a vector of the room.

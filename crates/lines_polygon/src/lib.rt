@@ -4,11 +4,11 @@ pub mod extent;
 use arith::Vec2;
 use arith::float;
 use arith::number::next_of;
+use arith::polygon::crosses;
 ghost use mathlib.Core.Path.{_≡_};
 ghost use Prim.Native.Nat.{_+_, _*_, _<_, _≤_};
 ghost use lib.ListN.{length};
 ghost use Rattle.arith.specs.Lists.{after};
-ghost use Rattle.arith.specs.Polygon as Polygon;
 ghost use Rattle.lines_polygon.specs.Contains as Contains;
 ghost use Rattle.lines_polygon.specs.Vertices.{pairFrom, pairsFrom, sideFrom};
 
@@ -19,8 +19,8 @@ pub struct Limits {
     pub right: f64,
 }
 
-// A side of a polygon: a vertex and the next one.
-struct Side {
+// The ends of a side of a polygon: a vertex and the next one.
+struct Ends {
     from: Vec2,
     to: Vec2,
 }
@@ -70,19 +70,12 @@ fn on_edge(q: Vec2, a: Vec2, b: Vec2) -> bool
     }
 }
 
-// The line from q to the right crosses the side from a to b.
-fn crosses(q: Vec2, a: Vec2, b: Vec2) -> bool
-    ensures { λ r. ⌜ r ≡ Polygon.crosses q (record { from = a; to = b }) ⌝ }
-{
-    (a.y > q.y) != (b.y > q.y) && q.x < (b.x - a.x) * (q.y - a.y) / (b.y - a.y) + a.x
-}
-
-// Side i of the polygon of n vertices.
-fn side_at(floats: &[f64], at: usize, n: usize, i: usize) -> Side
+// The ends of side i of the polygon of n vertices.
+fn side_at(floats: &[f64], at: usize, n: usize, i: usize) -> Ends
     requires { ⌜ (at + 2 * n ≤ length (now floats)) × (i < n) ⌝ }
     ensures { λ r. ⌜ sideFrom (now (floats .entry)) at n i ≡ record { from = r .from; to = r .to } ⌝ }
 {
-    Side {
+    Ends {
         from: pair_at(floats, at + 2 * i),
         to: pair_at(floats, at + 2 * next_of(i, n)),
     }

@@ -3,6 +3,7 @@ use arith::Vec2;
 use arith::Vec3;
 use arith::float;
 use arith::number::next_of;
+use arith::polygon::crosses;
 use planes_crossings::held;
 use planes_cut::Plane;
 use reading::Values;
@@ -88,13 +89,6 @@ pub fn off(plane: Plane, p: Vec3) -> bool
 {
     let normal = plane.u.cross(plane.v);
     float::abs(p.sub(plane.origin).dot(normal)) > 1e-8
-}
-
-// The line from q to the right crosses the side from a to b.
-fn crosses(q: Vec2, a: Vec2, b: Vec2) -> bool
-    ensures { λ r. ⌜ r ≡ Polygon.crosses q (record { from = a; to = b }) ⌝ }
-{
-    (a.y > q.y) != (b.y > q.y) && q.x < (b.x - a.x) * (q.y - a.y) / (b.y - a.y) + a.x
 }
 
 // The line from q to the right crosses side i of the n points' polygon.

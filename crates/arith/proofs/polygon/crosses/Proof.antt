@@ -1,6 +1,6 @@
 use Rattle.arith.specs.Polygon.{crosses}
-use Rattle.lines_polygon.proofs.crosses.Statement.{statement}
-use Rattle.lines_polygon.proofs.crosses.Tie as tie
+use Rattle.arith.proofs.polygon.crosses.Statement.{statement}
+use Rattle.arith.proofs.polygon.crosses.Tie as tie
 
 returns : tie.Need-returns
 unfolding crosses
