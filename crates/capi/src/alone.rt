@@ -6,7 +6,7 @@ use crate::convert;
 ghost use lib.ListN.{length};
 ghost use Rattle.job_requests.specs.Encode.{bytesOf};
 ghost use Rattle.job.specs.Promise.{Promised};
-ghost use Rattle.job_single.specs.Single.{locateWords, velocityWords, streamlineWords, rakeWords, sectionWords, statisticsWords, integralsWords, probeWords};
+ghost use Rattle.job_words.specs.Single.{locateWords, velocityWords, streamlineWords, rakeWords, sectionWords, statisticsWords, integralsWords, probeWords};
 ghost use Rattle.capi.specs.Convert.{vectorOf, planeOf, settingsOf, rakeOf};
 
 // The cell at a point.

@@ -1,7 +1,7 @@
-use Rattle.job_single.specs.Single.{directionWord}
+use Rattle.job_words.specs.Single.{directionWord}
 use borrow.Author.Needs.{needs}
-use Rattle.job_single.proofs.direction_word.Statement.{statement}
-use Rattle.job_single.proofs.direction_word.Tie as tie
+use Rattle.job_words.proofs.direction_word.Statement.{statement}
+use Rattle.job_words.proofs.direction_word.Tie as tie
 
 returns : tie.Need-returns
 unfolding directionWord

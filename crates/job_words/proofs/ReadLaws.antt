@@ -21,8 +21,8 @@ use Rattle.job_requests.specs.Requests.{number, real, point, refuseIf, unusedSe
 use Rattle.job_requests.specs.Codes.{row, unknown, codes, codeOf, isUnknown}
 use Rattle.job_requests.specs.declared.Request.{Request}
 use Rattle.job_requests.specs.declared.Request.the-variants.{Locate, Velocity, Streamline, Rake, Section, Statistics, Integrals, Probe}
-use Rattle.job_single.specs.Single.{padded, directionWord, lineWords, planeWords, locateWords, velocityWords, streamlineWords, rakeWords, sectionWords, statisticsWords, integralsWords, probeWords}
-use Rattle.job_single.proofs.Laws.{F64, F64s, OptionsHeld, RakeHeld, PlaneHeld}
+use Rattle.job_words.specs.Single.{padded, directionWord, lineWords, planeWords, locateWords, velocityWords, streamlineWords, rakeWords, sectionWords, statisticsWords, integralsWords, probeWords}
+use Rattle.job_words.proofs.Laws.{F64, F64s, OptionsHeld, RakeHeld, PlaneHeld}
 
 -- ---- one float, one point, one plane, and a line's direction and options
 

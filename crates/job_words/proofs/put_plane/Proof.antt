@@ -1,8 +1,8 @@
 use Rattle.answers.specs.Words.{vecWords}
-use Rattle.job_single.specs.Single.{planeWords}
+use Rattle.job_words.specs.Single.{planeWords}
 use borrow.Author.Needs.{needs}
-use Rattle.job_single.proofs.put_plane.Statement.{statement}
-use Rattle.job_single.proofs.put_plane.Tie as tie
+use Rattle.job_words.proofs.put_plane.Statement.{statement}
+use Rattle.job_words.proofs.put_plane.Tie as tie
 
 returns : tie.Need-returns
 unfolding planeWords vecWords

@@ -1,8 +1,8 @@
 use native.Mathlib.Numerals.{add-one, add-two, add-three, add-four}
-use Rattle.job_single.specs.Single.{lineWords}
+use Rattle.job_words.specs.Single.{lineWords}
 use borrow.Author.Needs.{needs}
-use Rattle.job_single.proofs.put_line.Statement.{statement}
-use Rattle.job_single.proofs.put_line.Tie as tie
+use Rattle.job_words.proofs.put_line.Statement.{statement}
+use Rattle.job_words.proofs.put_line.Tie as tie
 
 returns : tie.Need-returns
 unfolding lineWords
