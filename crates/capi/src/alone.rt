@@ -1,13 +1,14 @@
 // Each request alone: 0 or the refusal.
-use crate::LineOptions;
-use crate::SectionPlane;
-use crate::Vector;
-use crate::convert;
+use capi_values::LineOptions;
+use capi_values::SectionPlane;
+use capi_values::Vector;
+use capi_values::convert;
+use job_promise::number_of;
 ghost use lib.ListN.{length};
 ghost use Rattle.job_requests.specs.Encode.{bytesOf};
-ghost use Rattle.job.specs.Promise.{Promised};
+ghost use Rattle.job_promise.specs.Promise.{Promised};
 ghost use Rattle.job_words.specs.Single.{locateWords, velocityWords, streamlineWords, rakeWords, sectionWords, statisticsWords, integralsWords, probeWords};
-ghost use Rattle.capi.specs.Convert.{vectorOf, planeOf, settingsOf, rakeOf};
+ghost use Rattle.capi_values.specs.Convert.{vectorOf, planeOf, settingsOf, rakeOf};
 
 // The cell at a point.
 #[no_mangle]
@@ -23,7 +24,7 @@ pub extern "C" fn hookyellow_locate(
         (length (now (words .entry))) (length (now (floats .entry))) (now (answers .entry)) (now (marks .entry))
         (record { result = r; answers = now (answers .exit); marks = now (marks .exit) }) ⌝ }
 {
-    convert::number(job_single::locate(case, convert::vector(p), words, floats, marks, answers))
+    number_of(job_single::locate(case, convert::vector(p), words, floats, marks, answers))
 }
 
 // The velocity at a point.
@@ -40,7 +41,7 @@ pub extern "C" fn hookyellow_velocity(
         (length (now (words .entry))) (length (now (floats .entry))) (now (answers .entry)) (now (marks .entry))
         (record { result = r; answers = now (answers .exit); marks = now (marks .exit) }) ⌝ }
 {
-    convert::number(job_single::velocity(case, convert::vector(p), words, floats, marks, answers))
+    number_of(job_single::velocity(case, convert::vector(p), words, floats, marks, answers))
 }
 
 // The line from a seed.
@@ -60,7 +61,7 @@ pub extern "C" fn hookyellow_streamline(
         (length (now (words .entry))) (length (now (floats .entry))) (now (answers .entry)) (now (marks .entry))
         (record { result = r; answers = now (answers .exit); marks = now (marks .exit) }) ⌝ }
 {
-    convert::number(job_single::streamline(
+    number_of(job_single::streamline(
         case,
         convert::vector(seed),
         convert::settings(backward, options),
@@ -90,7 +91,7 @@ pub extern "C" fn hookyellow_rake(
         (length (now (words .entry))) (length (now (floats .entry))) (now (answers .entry)) (now (marks .entry))
         (record { result = r; answers = now (answers .exit); marks = now (marks .exit) }) ⌝ }
 {
-    convert::number(job_single::rake(
+    number_of(job_single::rake(
         case,
         convert::seeds(start, end, count),
         convert::settings(backward, options),
@@ -115,7 +116,7 @@ pub extern "C" fn hookyellow_section(
         (length (now (words .entry))) (length (now (floats .entry))) (now (answers .entry)) (now (marks .entry))
         (record { result = r; answers = now (answers .exit); marks = now (marks .exit) }) ⌝ }
 {
-    convert::number(job_single::section(case, convert::plane(plane), words, floats, marks, answers))
+    number_of(job_single::section(case, convert::plane(plane), words, floats, marks, answers))
 }
 
 // The statistics of a field over a section.
@@ -133,7 +134,7 @@ pub extern "C" fn hookyellow_statistics(
         (length (now (words .entry))) (length (now (floats .entry))) (now (answers .entry)) (now (marks .entry))
         (record { result = r; answers = now (answers .exit); marks = now (marks .exit) }) ⌝ }
 {
-    convert::number(job_single::statistics(
+    number_of(job_single::statistics(
         case,
         convert::plane(plane),
         field,
@@ -158,14 +159,7 @@ pub extern "C" fn hookyellow_integrals(
         (length (now (words .entry))) (length (now (floats .entry))) (now (answers .entry)) (now (marks .entry))
         (record { result = r; answers = now (answers .exit); marks = now (marks .exit) }) ⌝ }
 {
-    convert::number(job_single::integrals(
-        case,
-        convert::plane(plane),
-        words,
-        floats,
-        marks,
-        answers,
-    ))
+    number_of(job_single::integrals(case, convert::plane(plane), words, floats, marks, answers))
 }
 
 // The sample at a point of a section.
@@ -183,7 +177,7 @@ pub extern "C" fn hookyellow_probe(
         (length (now (words .entry))) (length (now (floats .entry))) (now (answers .entry)) (now (marks .entry))
         (record { result = r; answers = now (answers .exit); marks = now (marks .exit) }) ⌝ }
 {
-    convert::number(job_single::probe(
+    number_of(job_single::probe(
         case,
         convert::plane(plane),
         convert::vector(p),

@@ -2,6 +2,7 @@
 use answers::buffers::clear_from;
 use answers::buffers::clear_marks;
 use answers::buffers::close;
+use job_promise::Outcome;
 use job_requests::request_of;
 use job_room::Place;
 use job_room::Prepared;
@@ -15,16 +16,10 @@ ghost use Rattle.reading.specs.After.{done, Left};
 ghost use Rattle.case_file.specs.Field.{valuesOf};
 ghost use Rattle.job_requests.specs.Requests.{wordsAt, requestsIn};
 ghost use Rattle.job_room.specs.Stands.{countsIn, roomIn, Stands};
-ghost use Rattle.job.specs.List.{isFlat, serveAll};
-ghost use Rattle.job.specs.Job.{numberOf, outcomeOf};
-ghost use Rattle.job.specs.Promise.{Promised};
-ghost use Rattle.job.specs.Serving.{Told, answerTo};
-
-// The job's result.
-pub enum Outcome {
-    Done,
-    Refused(u64),
-}
+ghost use Rattle.job_promise.specs.List.{isFlat, serveAll};
+ghost use Rattle.job_promise.specs.Job.{numberOf, outcomeOf};
+ghost use Rattle.job_promise.specs.Promise.{Promised};
+ghost use Rattle.job_promise.specs.Serving.{Told, answerTo};
 
 fn is_flat(place: Place) -> bool
     ensures { λ r. ⌜ ((file words : List ℕ) (floats : List Float) → r ≡ isFlat (roomIn file words floats place)) ⌝ }

@@ -9,8 +9,8 @@ use Rattle.job_requests.specs.Encode.{bytesOf}
 use Rattle.job_requests.proofs.EncodeLaws.{length-bytesOf}
 use Rattle.job_words.proofs.Laws.{Whole, list-of-one}
 use Rattle.job_room.specs.Room.{Lent, prepared}
-use Rattle.job.specs.List.{serveAll}
-use Rattle.job.specs.Job.{jobOf}
+use Rattle.job_promise.specs.List.{serveAll}
+use Rattle.job_promise.specs.Job.{jobOf}
 
 -- "Each request can also be called alone, as a job of one; it starts from the case bytes too."
 pub job-of-one : (file : List ℕ) (lent : Lent) (ws : List ℕ) → Whole ws

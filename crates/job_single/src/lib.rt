@@ -1,14 +1,14 @@
 // Each request alone, as a job of one: it starts from the case bytes too.
 use arith::Vec3;
-use job::Outcome;
+use job_promise::Outcome;
 use lines::Rake;
 use lines::StreamlineSettings;
 use planes_cut::Plane;
 ghost use mathlib.Core.Path.{_≡_};
 ghost use lib.ListN.{length};
 ghost use Rattle.job_requests.specs.Encode.{bytesOf};
-ghost use Rattle.job.specs.Job.{numberOf, outcomeOf};
-ghost use Rattle.job.specs.Promise.{Promised};
+ghost use Rattle.job_promise.specs.Job.{numberOf, outcomeOf};
+ghost use Rattle.job_promise.specs.Promise.{Promised};
 ghost use Rattle.job_words.specs.Single.{locateWords, velocityWords, streamlineWords, rakeWords, sectionWords, statisticsWords, integralsWords, probeWords};
 
 // The cell at a point.

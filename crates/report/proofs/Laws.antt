@@ -5,7 +5,7 @@ use mathlib.Core.List.{List}
 use lib.ListN.{length}
 use borrow.Author.Tests.{lt-ltb, le-ltb, eq-eqb, ne-eqb}
 use Rattle.reading.specs.After.{After}
-use Rattle.job.specs.Promise.{Promised}
+use Rattle.job_promise.specs.Promise.{Promised}
 use Rattle.listing.specs.Listing.{doneText, refusedText}
 use Rattle.listing.specs.Written.{Listed}
 use Rattle.report.specs.Report.{ended, textOf, Reported}

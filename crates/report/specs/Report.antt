@@ -6,7 +6,7 @@ use mathlib.Core.List.{List}
 use lib.Dec.{ltb, eqb}
 use lib.ListN.{length}
 use Rattle.reading.specs.After.{After}
-use Rattle.job.specs.Job.{outcome}
+use Rattle.job_promise.specs.Job.{outcome}
 use Rattle.listing.specs.Listing.{doneText, refusedText}
 use Rattle.listing.specs.Written.{Listed}
 

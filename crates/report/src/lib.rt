@@ -1,26 +1,15 @@
 // The text that `airjob` prints, from the bytes of its two files and the buffers that it lends.
-use job::Outcome;
+use job_promise::number_of;
 use listing::put_done;
 use listing::put_refusal;
 ghost use Prim.Native.Nat.{_/_};
 ghost use mathlib.Core.Path.{_≡_};
 ghost use lib.ListN.{length};
-ghost use Rattle.job.specs.Job.{numberOf};
 ghost use Rattle.listing.specs.Written.{Listed};
 ghost use Rattle.report.specs.Report.{ended, textOf, Reported};
 
 // The longest file, in bytes.
 const LONGEST: usize = 65536;
-
-// The number of the refusal, or 0.
-fn number_of(r: Outcome) -> u64
-    ensures { λ k. ⌜ k ≡ numberOf r ⌝ }
-{
-    match r {
-        Outcome::Done => 0,
-        Outcome::Refused(k) => k,
-    }
-}
 
 // Runs the job, unless a file is too long: 0, or the refusal.
 fn run(

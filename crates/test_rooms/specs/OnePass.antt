@@ -15,7 +15,7 @@ use Rattle.reading.specs.Marks.{markAll}
 use Rattle.reading.specs.After.{After, done}
 use Rattle.case_file.specs.Field.{outside, cellsOf, valuesOf}
 use Rattle.job_room.specs.Room.{Lent}
-use Rattle.job.specs.Job.{jobOf, outcome}
+use Rattle.job_promise.specs.Job.{jobOf, outcome}
 use Rattle.test_rooms.specs.Printed.{Printed, endOf, Known}
 
 -- answer and cells in one pass

@@ -8,7 +8,7 @@ use Rattle.reading.specs.Marks.{markAll}
 use Rattle.reading.specs.After.{After}
 use Rattle.case_file.specs.Field.{cellsOf}
 use Rattle.job_room.specs.Room.{Lent}
-use Rattle.job.specs.Job.{outcome}
+use Rattle.job_promise.specs.Job.{outcome}
 
 -- `width` bytes of n, before those of l
 unfoldable pub bytesFrom : ℕ → ℕ → List ℕ → List ℕ

@@ -4,7 +4,7 @@ use Rattle.capi.proofs.hookyellow_job.Statement.{statement}
 use Rattle.capi.proofs.hookyellow_job.Tie as tie
 
 returns : tie.Need-returns
-returns c = number-promised (c .before .before .before .before .before .before .before .before .before .job .ensures .0) (c .number .ensures)
+returns c = number-promised (c .before .before .before .before .before .before .before .before .before .job .ensures .0) (c .number-of .ensures)
 
 pub hookyellow-job-spec : {M : Type 1} → statement M
 hookyellow-job-spec =

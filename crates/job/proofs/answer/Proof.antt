@@ -1,4 +1,4 @@
-use Rattle.job.proofs.AnswerLaws.{told-part, reply-is}
+use Rattle.job_promise.proofs.AnswerLaws.{told-part, reply-is}
 use Prim.Native.Nat.{_+_, _-_}
 use lib.ListN.{length}
 use borrow.Author.Needs.{needs}

@@ -1,5 +1,5 @@
 use Rattle.job_room.specs.Stands.{roomIn}
-use Rattle.job.specs.List.{isFlat}
+use Rattle.job_promise.specs.List.{isFlat}
 use borrow.Author.Needs.{needs}
 use Rattle.job.proofs.is_flat.Statement.{statement}
 use Rattle.job.proofs.is_flat.Tie as tie

@@ -1,7 +1,7 @@
-use Rattle.job.proofs.JobLaws.{run-asks}
-use Rattle.job.proofs.PromiseLaws.{refused-promise, done-promise}
+use Rattle.job_promise.proofs.JobLaws.{run-asks}
+use Rattle.job_promise.proofs.PromiseLaws.{refused-promise, done-promise}
 use lib.ListN.{length}
-use Rattle.job.specs.Job.{numberOf}
+use Rattle.job_promise.specs.Job.{numberOf}
 use borrow.Author.Needs.{needs}
 use Rattle.job.proofs.job.Statement.{statement}
 use Rattle.job.proofs.job.Tie as tie

@@ -1,4 +1,4 @@
-use Rattle.job.proofs.ListLaws.{run-is}
+use Rattle.job_promise.proofs.ListLaws.{run-is}
 use borrow.Author.Needs.{needs}
 use Rattle.job.proofs.run.Statement.{statement}
 use Rattle.job.proofs.run.Tie as tie

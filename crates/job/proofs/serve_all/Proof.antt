@@ -1,7 +1,7 @@
 use Prim.Native.Nat.{_-_}
 use Rattle.case_file.specs.Field.{valuesOf}
 use Rattle.job_room.specs.Stands.{roomIn}
-use Rattle.job.proofs.ThroughLaws.{Through, through-room, through-start, through-next, through-end}
+use Rattle.job_promise.proofs.ThroughLaws.{Through, through-room, through-start, through-next, through-end}
 use borrow.Author.Needs.{needs}
 use Rattle.job.proofs.serve_all.Statement.{statement}
 use Rattle.job.proofs.serve_all.Tie as tie

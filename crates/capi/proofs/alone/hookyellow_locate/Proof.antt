@@ -4,7 +4,7 @@ use Rattle.capi.proofs.alone.hookyellow_locate.Statement.{statement}
 use Rattle.capi.proofs.alone.hookyellow_locate.Tie as tie
 
 returns : tie.Need-returns
-returns c = number-promised (rw (c .before .before .before .before .before .before .before .before .before .before .before .before .before .before .vector .ensures) at (c .before .before .before .before .before .before .before .before .before .locate .ensures .0)) (c .number .ensures)
+returns c = number-promised (rw (c .before .before .before .before .before .before .before .before .before .before .before .before .before .before .vector .ensures) at (c .before .before .before .before .before .before .before .before .before .locate .ensures .0)) (c .number-of .ensures)
 
 pub hookyellow-locate-spec : {M : Type 1} → statement M
 hookyellow-locate-spec =

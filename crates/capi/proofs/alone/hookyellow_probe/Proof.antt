@@ -4,7 +4,7 @@ use Rattle.capi.proofs.alone.hookyellow_probe.Statement.{statement}
 use Rattle.capi.proofs.alone.hookyellow_probe.Tie as tie
 
 returns : tie.Need-returns
-returns c = number-promised (rw (c .before .before .before .before .before .before .before .before .before .before .before .before .before .before .before .plane .ensures, c .before .before .before .before .before .before .before .before .before .before .before .before .before .before .vector .ensures) at (c .before .before .before .before .before .before .before .before .before .probe .ensures .0)) (c .number .ensures)
+returns c = number-promised (rw (c .before .before .before .before .before .before .before .before .before .before .before .before .before .before .before .plane .ensures, c .before .before .before .before .before .before .before .before .before .before .before .before .before .before .vector .ensures) at (c .before .before .before .before .before .before .before .before .before .probe .ensures .0)) (c .number-of .ensures)
 
 pub hookyellow-probe-spec : {M : Type 1} → statement M
 hookyellow-probe-spec =

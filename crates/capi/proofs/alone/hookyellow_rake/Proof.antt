@@ -4,7 +4,7 @@ use Rattle.capi.proofs.alone.hookyellow_rake.Statement.{statement}
 use Rattle.capi.proofs.alone.hookyellow_rake.Tie as tie
 
 returns : tie.Need-returns
-returns c = number-promised (rw (c .before .before .before .before .before .before .before .before .before .before .before .before .before .before .before .seeds .ensures, c .before .before .before .before .before .before .before .before .before .before .before .before .before .before .settings .ensures) at (c .before .before .before .before .before .before .before .before .before .rake .ensures .0)) (c .number .ensures)
+returns c = number-promised (rw (c .before .before .before .before .before .before .before .before .before .before .before .before .before .before .before .seeds .ensures, c .before .before .before .before .before .before .before .before .before .before .before .before .before .before .settings .ensures) at (c .before .before .before .before .before .before .before .before .before .rake .ensures .0)) (c .number-of .ensures)
 
 pub hookyellow-rake-spec : {M : Type 1} → statement M
 hookyellow-rake-spec =

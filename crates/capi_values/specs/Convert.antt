@@ -1,0 +1,42 @@
+-- The values of the exported functions as those of the crates below.
+use Prim.Native.Nat.{ℕ}
+use mathlib.Core.Bool.{Bool, true, false}
+use Rattle.arith.specs.declared.Vec3.{Vec3}
+use Rattle.lines_step.specs.declared.StreamlineOptions.{StreamlineOptions}
+use Rattle.lines.specs.declared.StreamlineDirection.{StreamlineDirection}
+use Rattle.lines.specs.declared.StreamlineDirection.the-variants.{Forward, Backward}
+use Rattle.lines.specs.declared.StreamlineSettings.{StreamlineSettings}
+use Rattle.lines.specs.declared.Rake.{Rake}
+use Rattle.planes_cut.specs.declared.Plane.{Plane}
+use Rattle.capi_values.specs.declared.Vector.{Vector}
+use Rattle.capi_values.specs.declared.SectionPlane.{SectionPlane}
+use Rattle.capi_values.specs.declared.LineOptions.{LineOptions}
+
+-- a vector
+unfoldable pub vectorOf : Vector → Vec3
+vectorOf p = record { x = p .x; y = p .y; z = p .z }
+
+-- a plane by its origin and axes
+unfoldable pub planeOf : SectionPlane → Plane
+planeOf s = record { origin = vectorOf (s .origin); u = vectorOf (s .u); v = vectorOf (s .v) }
+
+-- backward, or forward
+unfoldable pub directionOf : Bool → StreamlineDirection
+directionOf true = Backward
+directionOf false = Forward
+
+-- the options of a line
+unfoldable pub optionsOf : LineOptions → StreamlineOptions
+optionsOf o =
+    record {
+      «step_size» = o .«step_size»;
+      «max_steps» = o .«max_steps»;
+      «max_length» = o .«max_length»;
+      «stagnation_speed» = o .«stagnation_speed»;
+    }
+
+unfoldable pub settingsOf : Bool → LineOptions → StreamlineSettings
+settingsOf backward o = record { direction = directionOf backward; options = optionsOf o }
+
+unfoldable pub rakeOf : Vector → Vector → ℕ → Rake
+rakeOf start end count = record { start = vectorOf start; end = vectorOf end; count = count }

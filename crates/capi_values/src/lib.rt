@@ -1,0 +1,27 @@
+// The values that the exported functions take.
+pub mod convert;
+
+// A point or a vector.
+#[repr(C)]
+pub struct Vector {
+    pub x: f64,
+    pub y: f64,
+    pub z: f64,
+}
+
+// The plane of a section, with its axes.
+#[repr(C)]
+pub struct SectionPlane {
+    pub origin: Vector,
+    pub u: Vector,
+    pub v: Vector,
+}
+
+// How a line is followed.
+#[repr(C)]
+pub struct LineOptions {
+    pub step_size: f64,
+    pub max_steps: usize,
+    pub max_length: f64,
+    pub stagnation_speed: f64,
+}

@@ -1,0 +1,20 @@
+-- What the parts of the job promise.
+use Prim.Native.Nat.{ℕ}
+use mathlib.Core.Path.{_≡_}
+use mathlib.Core.List.{List}
+use Rattle.reading.specs.declared.Values.{Values}
+use Rattle.reading.specs.Asks.{Asks, give, run, reads, _>>=_}
+use Rattle.reading.specs.Marks.{markAll}
+use Rattle.job_room.specs.Room.{Room}
+use Rattle.answers.specs.Answer.{fitting, answerWords}
+use Rattle.answers.specs.Placed.{Placed}
+use Rattle.job_promise.specs.List.{replyTo}
+
+-- one answer, from `at` on
+unfoldable pub answerTo : Room → ℕ → ℕ → List ℕ → Asks (List ℕ)
+answerTo room left later r = replyTo room r >>= λ a. give (answerWords (fitting left later a))
+
+-- what a tree gives stands from `at` on, and what it reads is marked
+pub record Told (t : Asks (List ℕ)) (f : ℕ → Values) (m m′ o o′ : List ℕ) (at later r : ℕ) : Type 0 where
+  pub marks : m′ ≡ markAll m (reads t f)
+  pub placed : Placed (run t f) o o′ at later r
