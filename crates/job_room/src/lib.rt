@@ -1,6 +1,6 @@
 // The room of a case: its mesh in the work area and, in 2D, its field. Refusals 1 to 19.
 use case_file::Counts;
-use lines_field::build;
+use lines_build::build;
 use lines_velocity::Tracer;
 use mesh::Surveyed;
 use mesh_area::Sizes;

@@ -1,9 +1,6 @@
-// The polygons of a 2D mesh's cells, and the bins that the cells are listed in, in the lent work area:
-// `StreamlineField::from_dataset`.
-mod bins;
-mod bounds;
-pub mod build;
-mod corners;
+// The bounds of a 2D mesh's polygons, and the bins that the cells are listed in, in the lent work area.
+pub mod bins;
+pub mod bounds;
 
 use lines_locate::Grid;
 

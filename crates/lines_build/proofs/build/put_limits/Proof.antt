@@ -1,0 +1,50 @@
+use native.Mathlib.Omega.{arith}
+use lib.ListN.{length-set}
+use borrow.Author.Needs.{needs}
+use Rattle.lines_build.proofs.build.put_limits.Statement.{statement}
+use Rattle.lines_build.proofs.build.put_limits.Tie as tie
+
+mul-floats : tie.Need-mul-floats
+mul-floats c = search needs
+
+slice-write-floats : tie.Need-slice-write-floats
+slice-write-floats c = search needs
+
+add-floats : tie.Need-add-floats
+add-floats c = search needs
+
+mul-floats-2 : tie.Need-mul-floats-2
+mul-floats-2 c = search needs
+
+slice-write-floats-2 : tie.Need-slice-write-floats-2
+slice-write-floats-2 c = simp length-set (omega arith)
+
+add-floats-2 : tie.Need-add-floats-2
+add-floats-2 c = search needs
+
+mul-floats-3 : tie.Need-mul-floats-3
+mul-floats-3 c = search needs
+
+slice-write-floats-3 : tie.Need-slice-write-floats-3
+slice-write-floats-3 c = simp length-set (omega arith)
+
+same-length : tie.Need-same-length
+same-length c = search needs
+
+returns : tie.Need-returns
+returns c = search needs
+
+pub put-limits-spec : {M : Type 1} → statement M
+put-limits-spec =
+    tie.close
+    (tie.spec
+    mul-floats
+    slice-write-floats
+    add-floats
+    mul-floats-2
+    slice-write-floats-2
+    add-floats-2
+    mul-floats-3
+    slice-write-floats-3
+    same-length
+    returns)
