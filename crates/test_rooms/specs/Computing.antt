@@ -5,7 +5,7 @@ use Rattle.arith_root.specs.Work.{unitsOf}
 use Rattle.arith.specs.Angle.{leftward, quarter, slope, angleOf, precedes, turnsBefore}
 use Rattle.arith.specs.Bytes.{le32, le64, floatAt, vecAt, readAll}
 use Rattle.arith.specs.F64.{finite, abs, signed, fmin, fmax, clamp, nearer, within, ceilℕ}
-use Rattle.arith.specs.Lists.{fold, anyOf, allOf, countWhere, firstFrom, only, flatten, addNew, insertBefore, sort, sidesWith, windows, sides, same, sorted}
+use Rattle.arith.specs.Lists.{fold, anyOf, allOf, countWhere, firstFrom, only, flatten, addNew, insertBefore, sort, sidesWith, windows, sides, same, sorted, rising}
 use Rattle.arith.specs.Polygon.{crosses, evenOdd}
 use Rattle.arith.specs.Records.{tab, upTo}
 use Rattle.arith.specs.Sort.{angleAt, earlier, sortedPlaces, comparable, placeIn}
@@ -14,20 +14,18 @@ use Rattle.arith.specs.Vec.{plus, minus, times, over, dot, normSquared, norm, c
 use Rattle.reading.specs.After.{done, Named}
 use Rattle.reading.specs.Asks.{_>>=_}
 use Rattle.reading.specs.Result.{_>>=_ as _>>=_-2, refuse, steps, mapAll}
-use Rattle.answers.specs.Answer.{fitting, answerWords, headerOf}
-use Rattle.answers.specs.Reply.{answerOf, lengthOf, wordsOf, decided, replied}
 use Rattle.answers.specs.Words.{vecWords, pointWords, valuesWords}
 use Rattle.mesh_area.specs.Layout.{pointsIn, meshWords, meshFloats, listAt, vecFrom, found, faceIn, cellIn, facesIn, cellsIn, meshIn}
 use Rattle.mesh_area.specs.Tables.{pointAt, faceAt, cellAt}
 use Rattle.case_file.specs.Field.{blank, outside, cellsOf, nought, valuesIn, valuesOf}
-use Rattle.case_file.specs.Trailer.{trailerWord, countsOf, wordsFrom, fieldFrom, pressuresFrom, trailerFrom, isDimension, hasOffsets, hasParts, trailerRight, overLimit, opened, openedCase, wordsIn, wordsOf as wordsOf-2}
+use Rattle.case_file.specs.Trailer.{trailerWord, countsOf, wordsFrom, fieldFrom, pressuresFrom, trailerFrom, isDimension, hasOffsets, hasParts, trailerRight, overLimit, opened, openedCase, wordsIn, wordsOf}
 use Rattle.case_definitions.specs.Definitions.{numbers, counted, faceLists, made, kinds, definition, definitions}
 use Rattle.case_definitions.specs.Faces.{tetrahedron, hexahedron, prism, pyramid, ends, picked, facesOf, faceCount, addFaceCount, facesCounted}
 use Rattle.case_definitions.specs.Helpers.{listed, listAt as listAt-2, skipped, tableOf, placesOf}
 use Rattle.case_definitions.specs.Walker.{firstOf, headOf, cursorAt, stepped, stepAt, walked, walkedFaces, readOf, definitionAt, faceAt as faceAt-2, faceFrom, nextFace}
 use Rattle.mesh_keys.specs.Keys.{total}
 use Rattle.mesh_geometry.specs.Answers.{vectorOf, faceOf}
-use Rattle.mesh_geometry.specs.Faces.{insertNew, rising, addPoint, average, turnedEdge, addCross, vectorIn, areaVector, enough, longEnough, faceAreaVector, faceWith, measured, inward, turnedIf, orientedFace, leftOrder}
+use Rattle.mesh_geometry.specs.Faces.{insertNew, rising as rising-2, addPoint, average, turnedEdge, addCross, vectorIn, areaVector, enough, longEnough, faceAreaVector, faceWith, measured, inward, turnedIf, orientedFace, leftOrder}
 use Rattle.mesh_volumes.specs.Geometry.{weightless, addPart, doubled, addTriangle, centre2D, sixth, addVolume, addTetrahedron, addFan, fanOf, addFace3D, centre3D, geometryIn, cellGeometry, cellOf}
 use Rattle.mesh_face_table.specs.Chains.{last}
 use Rattle.mesh_face_table.specs.Records.{bodyOf, bodyIn, measuredOf, measuredIn, faceOf as faceOf-2, tableIn, headIn, freshAt}
@@ -39,11 +37,11 @@ use Rattle.mesh_connection.specs.Search.{countBelow}
 use Rattle.planes_cut.specs.Cut.{widest, farthest, epsOf, tolerance, cutOf, height, near, below, above}
 use Rattle.planes_cut.specs.Plane.{finiteAxes, notUnit, notOrthogonal, invalid, originBeyond, planeRefusal, normalOf, along}
 use Rattle.planes_cut.specs.Work.{bare, cornerOf, signWith, noSigns, addSign, faceSigns, signsOf, mayMeet}
-use Rattle.lines_bins.specs.Index.{reaches, inBin, poolIn, passed}
+use Rattle.lines_bins.specs.Index.{inBin, poolIn, passed}
 use Rattle.lines_polygon.specs.Contains.{between, onLine, onEdge, contains}
 use Rattle.lines_polygon.specs.Extent.{limitsFrom, misses, endWithin, run, isLevel, crossingWithin, sideWithin, reach, sideless, widened, narrowest, unlimited, limitsOf}
 use Rattle.lines_polygon.specs.Vertices.{pairFrom, pairsFrom, sideFrom}
-use Rattle.lines_locate.specs.Bins.{binAlong, binFor, isListed}
+use Rattle.lines_locate.specs.Bins.{binAlong, binFor, reaches, isListed}
 use Rattle.lines_locate.specs.Layout.{countIn, polygonIn, binFrom, cellPolygonIn, cellPolygonsIn, fieldIn}
 use Rattle.lines_locate.specs.Locate.{flat, holds, locateWhere, locate}
 use Rattle.planes_crossings.specs.Crossings.{close, rises, parted, between as between-2, addEnd, addBetween, addMeeting, shared, onPlane, foreign, addSide, addFace as addFace-2, meetings}
@@ -56,10 +54,11 @@ use Rattle.planes_sums.specs.Probe.{project, covers, firstOver, off, probe}
 use Rattle.planes_sums.specs.Sample.{sound, addVector, vectorOf as vectorOf-2, measureOf}
 use Rattle.planes_sums.specs.Statistics.{scalarOf, noSums, including, counted as counted-2, summing, addSample, finiteSums, empty, fractionWords, statisticsWords, statisticsFrom, statistics}
 use Rattle.planes_sums.specs.Words.{sampleWords}
-use Rattle.planes_samples.specs.Sampling.{before, onward, taken, complete, sample}
-use Rattle.planes_samples.specs.Stream.{talliedOf, writtenAll, stream}
+use Rattle.planes_samples.specs.Sampling.{before, onward, sample}
+use Rattle.planes_samples.specs.Stream.{talliedOf, stream}
 use Rattle.planes.specs.Answers.{sectionWords, probeWords, sampled, sectionOf, statisticsOf, integralsOf, probeOf}
-use Rattle.planes.specs.Reply.{leftBy, statisticsEnd, integralsEnd, ended, lastWords, missing}
+use Rattle.planes.specs.Reply.{answerOf, lengthOf, wordsOf as wordsOf-2, replied, goods, leftBy, statisticsEnd, integralsEnd, ended, lastWords, missing}
+use Rattle.job_buffers.specs.Answer.{fitting, answerWords, headerOf}
 use Rattle.mesh_measure.specs.Orientation.{behind, neighbourBehind, misplaced}
 use Rattle.mesh_measure.specs.Records.{facesAt, fansOf}
 use Rattle.mesh_points.specs.Collect.{wrongKind, missing as missing-2, referenceOf, insertBelow, numbersIn, checked, referenceCase}
@@ -81,6 +80,7 @@ use Rattle.lines_velocity.specs.Ready.{tracerField}
 use Rattle.lines_velocity.specs.Velocity.{locateIn, centreOf, neighboursOf as neighboursOf-2, distanceSquared, nearerOf, nearestOf, blended, apart, besideIf, beside, besideNearest, toward, velocityIn, velocityWhere, velocityAt, from, unit, directionAt}
 use Rattle.lines_step.specs.RungeKutta.{weighed, fourth, third, second, rungeKutta}
 use Rattle.lines_step.specs.Step.{hereIf, rk4Step, kept, step}
+use Rattle.lines.specs.Answered.{resultOf, countOf, readsOf, wordsOf as wordsOf-3}
 use Rattle.lines.specs.Line.{sign, signedStep, onward as onward-2, lineFrom, pointsAfter, line, isLength, isSpeed, areGood, isNowhere, nowhere, lineWords, lineAnswer, integrate}
 use Rattle.lines.specs.Rake.{seedAt, seeds, linesWords, integrateRake}
 use Rattle.job_requests.specs.Bounds.{Allowed}
@@ -89,13 +89,13 @@ use Rattle.job_requests.specs.Encode.{bytesFrom, wordBytes, bytesOf}
 use Rattle.job_requests.specs.Requests.{wordsAt, requestsIn, number, real, point, refuseIf, unusedSet, badDirection, illFormed, wrongDimension, direction, options, settings, streamline, rakeOf, rake, planeOf, statistics as statistics-2, overPlane, planar, byCode, requestOf}
 use Rattle.job_room.specs.Room.{roomFrom, roomOf, requestsWrong, shortage, prepared}
 use Rattle.job_room.specs.Stands.{roomIn, countsIn, Servable}
-use Rattle.job_room.specs.Steps.{Shortage}
+use Rattle.job_room.specs.Steps.{shortAs, Shortage}
 use Rattle.job_serve.specs.Left.{leftUnder}
-use Rattle.job_serve.specs.Serve.{foundWords, velocityWords, serveFlat, serveSolid, serve}
-use Rattle.job.specs.Job.{jobOf, outcome, numberOf, outcomeOf}
-use Rattle.job.specs.List.{isFlat, replyTo, serveAll}
-use Rattle.job.specs.Serving.{answerTo}
+use Rattle.job_serve.specs.Serve.{foundWords, velocityWords, decided, serveFlat, serveSolid, serve}
+use Rattle.job_promise.specs.Job.{jobOf, outcome, numberOf, outcomeOf}
+use Rattle.job_promise.specs.List.{isFlat, replyTo, serveAll}
+use Rattle.job_promise.specs.Serving.{answerTo}
 
 unfoldable pub computing : Unit {0}
-unfolding add sub mul div lt le eq ofBits toBits ofInt round toUnsigned isNan neg size odd mag SquareRoot isqrt rounded root unitsOf leftward quarter slope angleOf precedes turnsBefore le32 le64 floatAt vecAt readAll finite abs signed fmin fmax clamp nearer within ceilℕ fold anyOf allOf countWhere firstFrom only flatten addNew insertBefore sort sidesWith windows sides same sorted crosses evenOdd tab upTo angleAt earlier sortedPlaces comparable placeIn those tie InOrder plus minus times over dot normSquared norm cross each3 done Named _>>=_ _>>=_-2 refuse steps mapAll fitting answerWords headerOf answerOf lengthOf wordsOf decided replied vecWords pointWords valuesWords pointsIn meshWords meshFloats listAt vecFrom found faceIn cellIn facesIn cellsIn meshIn pointAt faceAt cellAt blank outside cellsOf nought valuesIn valuesOf trailerWord countsOf wordsFrom fieldFrom pressuresFrom trailerFrom isDimension hasOffsets hasParts trailerRight overLimit opened openedCase wordsIn wordsOf-2 numbers counted faceLists made kinds definition definitions tetrahedron hexahedron prism pyramid ends picked facesOf faceCount addFaceCount facesCounted listed listAt-2 skipped tableOf placesOf firstOf headOf cursorAt stepped stepAt walked walkedFaces readOf definitionAt faceAt-2 faceFrom nextFace total vectorOf faceOf insertNew rising addPoint average turnedEdge addCross vectorIn areaVector enough longEnough faceAreaVector faceWith measured inward turnedIf orientedFace leftOrder weightless addPart doubled addTriangle centre2D sixth addVolume addTetrahedron addFan fanOf addFace3D centre3D geometryIn cellGeometry cellOf last bodyOf bodyIn measuredOf measuredIn faceOf-2 tableIn headIn freshAt hasKey faceWithKey newFace withNeighbour joining settled adding placed addFace wordsAfter floatsAfter someBelow everyBelow oneRound rounds connectedBy sidesAre joins share connected meets connectedCells otherOf beyond addFound addNeighbour neighboursOf linkedAt linked countBelow widest farthest epsOf tolerance cutOf height near below above finiteAxes notUnit notOrthogonal invalid originBeyond planeRefusal normalOf along bare cornerOf signWith noSigns addSign faceSigns signsOf mayMeet reaches inBin poolIn passed between onLine onEdge contains limitsFrom misses endWithin run isLevel crossingWithin sideWithin reach sideless widened narrowest unlimited limitsOf pairFrom pairsFrom sideFrom binAlong binFor isListed countIn polygonIn binFrom cellPolygonIn cellPolygonsIn fieldIn flat holds locateWhere locate close rises parted between-2 addEnd addBetween addMeeting shared onPlane foreign addSide addFace-2 meetings pointIn heldIn sideAt meetingOf earlierOn addArea areaOf middle wide pieceAbout pieceOf piecesFrom intersect pieceIn verticesOf arrangedAbout arrangedOf angleOn noIntegral weighing fit addIntegral finiteIntegral vacant integralWords integralsFrom integrals sumsOf integralOf keptOf summingOf weighingOf addProbed addTo written usedOf sizeOf project covers firstOver off probe sound addVector vectorOf-2 measureOf scalarOf noSums including counted-2 summing addSample finiteSums empty fractionWords statisticsWords statisticsFrom statistics sampleWords before onward taken complete sample talliedOf writtenAll stream sectionWords probeWords sampled sectionOf statisticsOf integralsOf probeOf leftBy statisticsEnd integralsEnd ended lastWords missing behind neighbourBehind misplaced facesAt fansOf wrongKind missing-2 referenceOf insertBelow numbersIn checked referenceCase measuredFrom addFaceOf addCell drafts draftIn draftsIn read finished finishedAs geometryAt firstCells surveyOf areaShort meshOf caseFaces meshFrom builtAs sizesFor LaidOut acceptable joined completed filled fromCells draftsHeld acceptedAs listedIn aspect binCounts areFlat areMany boundless widened-2 boundsOf alike addCorner addCorners cornersOf about turnsAbout polygonOf polygonsOf gridFor gridOf fieldOf builtGrid polygonsIn cornersIn keyIn tracerField locateIn centreOf neighboursOf-2 distanceSquared nearerOf nearestOf blended apart besideIf beside besideNearest toward velocityIn velocityWhere velocityAt from unit directionAt weighed fourth third second rungeKutta hereIf rk4Step kept step sign signedStep onward-2 lineFrom pointsAfter line isLength isSpeed areGood isNowhere nowhere lineWords lineAnswer integrate seedAt seeds linesWords integrateRake Allowed row unknown codes codeOf isUnknown bytesFrom wordBytes bytesOf wordsAt requestsIn number real point refuseIf unusedSet badDirection illFormed wrongDimension direction options settings streamline rakeOf rake planeOf statistics-2 overPlane planar byCode requestOf roomFrom roomOf requestsWrong shortage prepared roomIn countsIn Servable Shortage leftUnder foundWords velocityWords serveFlat serveSolid serve jobOf outcome numberOf outcomeOf isFlat replyTo serveAll answerTo
+unfolding add sub mul div lt le eq ofBits toBits ofInt round toUnsigned isNan neg size odd mag SquareRoot isqrt rounded root unitsOf leftward quarter slope angleOf precedes turnsBefore le32 le64 floatAt vecAt readAll finite abs signed fmin fmax clamp nearer within ceilℕ fold anyOf allOf countWhere firstFrom only flatten addNew insertBefore sort sidesWith windows sides same sorted rising crosses evenOdd tab upTo angleAt earlier sortedPlaces comparable placeIn those tie InOrder plus minus times over dot normSquared norm cross each3 done Named _>>=_ _>>=_-2 refuse steps mapAll vecWords pointWords valuesWords pointsIn meshWords meshFloats listAt vecFrom found faceIn cellIn facesIn cellsIn meshIn pointAt faceAt cellAt blank outside cellsOf nought valuesIn valuesOf trailerWord countsOf wordsFrom fieldFrom pressuresFrom trailerFrom isDimension hasOffsets hasParts trailerRight overLimit opened openedCase wordsIn wordsOf numbers counted faceLists made kinds definition definitions tetrahedron hexahedron prism pyramid ends picked facesOf faceCount addFaceCount facesCounted listed listAt-2 skipped tableOf placesOf firstOf headOf cursorAt stepped stepAt walked walkedFaces readOf definitionAt faceAt-2 faceFrom nextFace total vectorOf faceOf insertNew rising-2 addPoint average turnedEdge addCross vectorIn areaVector enough longEnough faceAreaVector faceWith measured inward turnedIf orientedFace leftOrder weightless addPart doubled addTriangle centre2D sixth addVolume addTetrahedron addFan fanOf addFace3D centre3D geometryIn cellGeometry cellOf last bodyOf bodyIn measuredOf measuredIn faceOf-2 tableIn headIn freshAt hasKey faceWithKey newFace withNeighbour joining settled adding placed addFace wordsAfter floatsAfter someBelow everyBelow oneRound rounds connectedBy sidesAre joins share connected meets connectedCells otherOf beyond addFound addNeighbour neighboursOf linkedAt linked countBelow widest farthest epsOf tolerance cutOf height near below above finiteAxes notUnit notOrthogonal invalid originBeyond planeRefusal normalOf along bare cornerOf signWith noSigns addSign faceSigns signsOf mayMeet inBin poolIn passed between onLine onEdge contains limitsFrom misses endWithin run isLevel crossingWithin sideWithin reach sideless widened narrowest unlimited limitsOf pairFrom pairsFrom sideFrom binAlong binFor reaches isListed countIn polygonIn binFrom cellPolygonIn cellPolygonsIn fieldIn flat holds locateWhere locate close rises parted between-2 addEnd addBetween addMeeting shared onPlane foreign addSide addFace-2 meetings pointIn heldIn sideAt meetingOf earlierOn addArea areaOf middle wide pieceAbout pieceOf piecesFrom intersect pieceIn verticesOf arrangedAbout arrangedOf angleOn noIntegral weighing fit addIntegral finiteIntegral vacant integralWords integralsFrom integrals sumsOf integralOf keptOf summingOf weighingOf addProbed addTo written usedOf sizeOf project covers firstOver off probe sound addVector vectorOf-2 measureOf scalarOf noSums including counted-2 summing addSample finiteSums empty fractionWords statisticsWords statisticsFrom statistics sampleWords before onward sample talliedOf stream sectionWords probeWords sampled sectionOf statisticsOf integralsOf probeOf answerOf lengthOf wordsOf-2 replied goods leftBy statisticsEnd integralsEnd ended lastWords missing fitting answerWords headerOf behind neighbourBehind misplaced facesAt fansOf wrongKind missing-2 referenceOf insertBelow numbersIn checked referenceCase measuredFrom addFaceOf addCell drafts draftIn draftsIn read finished finishedAs geometryAt firstCells surveyOf areaShort meshOf caseFaces meshFrom builtAs sizesFor LaidOut acceptable joined completed filled fromCells draftsHeld acceptedAs listedIn aspect binCounts areFlat areMany boundless widened-2 boundsOf alike addCorner addCorners cornersOf about turnsAbout polygonOf polygonsOf gridFor gridOf fieldOf builtGrid polygonsIn cornersIn keyIn tracerField locateIn centreOf neighboursOf-2 distanceSquared nearerOf nearestOf blended apart besideIf beside besideNearest toward velocityIn velocityWhere velocityAt from unit directionAt weighed fourth third second rungeKutta hereIf rk4Step kept step resultOf countOf readsOf wordsOf-3 sign signedStep onward-2 lineFrom pointsAfter line isLength isSpeed areGood isNowhere nowhere lineWords lineAnswer integrate seedAt seeds linesWords integrateRake Allowed row unknown codes codeOf isUnknown bytesFrom wordBytes bytesOf wordsAt requestsIn number real point refuseIf unusedSet badDirection illFormed wrongDimension direction options settings streamline rakeOf rake planeOf statistics-2 overPlane planar byCode requestOf roomFrom roomOf requestsWrong shortage prepared roomIn countsIn Servable shortAs Shortage leftUnder foundWords velocityWords decided serveFlat serveSolid serve jobOf outcome numberOf outcomeOf isFlat replyTo serveAll answerTo
 computing = tt
