@@ -8,7 +8,7 @@ use job_room::Place;
 use job_room::Prepared;
 ghost use mathlib.Core.Path.{_≡_};
 ghost use mathlib.Core.List.{List};
-ghost use Prim.Native.Nat.{ℕ, _+_, _-_, _*_, _/_, _≤_};
+ghost use Prim.Native.Nat.{ℕ, _+_, _-_, _*_, _/_, _≤_, _<_};
 ghost use lib.Ieee.{Float};
 ghost use lib.ListN.{length};
 ghost use Rattle.reading.specs.Result.{fine};
@@ -19,7 +19,7 @@ ghost use Rattle.job_room.specs.Stands.{countsIn, roomIn, Stands};
 ghost use Rattle.job_promise.specs.List.{isFlat, serveAll};
 ghost use Rattle.job_promise.specs.Job.{numberOf, outcomeOf};
 ghost use Rattle.job_promise.specs.Promise.{Promised};
-ghost use Rattle.job_promise.specs.Serving.{Told, answerTo};
+ghost use Rattle.job_promise.specs.Serving.{Told, answerTo, laterThan};
 
 fn is_flat(place: Place) -> bool
     ensures { λ r. ⌜ ((file words : List ℕ) (floats : List Float) → r ≡ isFlat (roomIn file words floats place)) ⌝ }
@@ -39,27 +39,28 @@ fn cells_of(place: Place) -> usize
     }
 }
 
-// The answer to the request at byte `from`, from word `at` on. Where the next one goes.
+// The answer to request i, from word `at` on. Where the next one goes.
 fn answer(
     case: &[u8],
     requests: &[u8],
-    from: usize,
+    i: usize,
     words: &[u32],
     floats: &[f64],
     place: Place,
     marks: &mut [u8],
     answers: &mut [u64],
     at: usize,
-    later: usize,
 ) -> usize
     requires { ⌜ Stands (now case) (now words) (now floats) place × (countsIn place .cells ≤ length (now marks)) ⌝ }
-    requires { ⌜ (from + 128 ≤ length (now requests)) × (at + 2 + 2 * later ≤ length (now answers)) ⌝ }
+    requires { ⌜ (i < length (now requests) / 128)
+        × (at + 2 + 2 * laterThan (now requests) i ≤ length (now answers)) ⌝ }
     ensures { λ r. ⌜ Told (answerTo (roomIn (now (case .entry)) (now (words .entry)) (now (floats .entry)) place)
-        (length (now (answers .entry)) - at) later (wordsAt (now (requests .entry)) from))
-        (valuesOf (now (case .entry))) (now (marks .entry)) (now (marks .exit)) (now (answers .entry))
-        (now (answers .exit)) at later r ⌝ }
+        (length (now (answers .entry)) - at) (laterThan (now (requests .entry)) i)
+        (wordsAt (now (requests .entry)) (128 * i))) (valuesOf (now (case .entry))) (now (marks .entry))
+        (now (marks .exit)) (now (answers .entry)) (now (answers .exit)) at (laterThan (now (requests .entry)) i) r ⌝ }
 {
-    let q = request_of(is_flat(place), requests, from);
+    let later = requests.len() / 128 - i - 1;
+    let q = request_of(is_flat(place), requests, 128 * i);
     let r = job_serve::serve(case, words, floats, place, marks, &mut answers[at + 2..], q);
     close(answers, at, later, r)
 }
@@ -84,18 +85,7 @@ fn serve_all(
     let mut at = 0;
     let mut i = 0;
     while i < count {
-        at = answer(
-            case,
-            requests,
-            128 * i,
-            words,
-            floats,
-            place,
-            marks,
-            answers,
-            at,
-            count - i - 1,
-        );
+        at = answer(case, requests, i, words, floats, place, marks, answers, at);
         i += 1;
     }
     at

@@ -1,7 +1,8 @@
 -- What the parts of the job promise.
-use Prim.Native.Nat.{ℕ}
+use Prim.Native.Nat.{ℕ, _-_, _/_}
 use mathlib.Core.Path.{_≡_}
 use mathlib.Core.List.{List}
+use lib.ListN.{length}
 use Rattle.reading.specs.declared.Values.{Values}
 use Rattle.reading.specs.Asks.{Asks, give, run, reads, _>>=_}
 use Rattle.reading.specs.Marks.{markAll}
@@ -10,7 +11,11 @@ use Rattle.answers.specs.Answer.{fitting, answerWords}
 use Rattle.answers.specs.Placed.{Placed}
 use Rattle.job_promise.specs.List.{replyTo}
 
--- one answer, from `at` on
+-- how many requests of the bytes follow request i
+abbrev pub laterThan : List ℕ → ℕ → ℕ
+laterThan requests i = length requests / 128 - i - 1
+
+-- one answer, with so many words left and so many later requests
 unfoldable pub answerTo : Room → ℕ → ℕ → List ℕ → Asks (List ℕ)
 answerTo room left later r = replyTo room r >>= λ a. give (answerWords (fitting left later a))
 

@@ -19,7 +19,7 @@ loop-holds c = through-start _ _ _ _ _ (search needs)
 answer-requires : tie.Need-answer-requires Inv-loop μ-loop
 answer-requires c κs =
     let fits = through-room _ _ _ _ _ _ (c .before .before .before .loop .inv) (search needs) (c .before .before .before .before .before .before .before .before .before .before .pre .0 .1) in
-    ((c .before .before .before .before .before .before .before .before .before .before .pre .0 .0, fits .0), (fits .1, fits .2))
+    ((c .before .before .before .before .before .before .before .before .before .before .pre .0 .0, fits .0), (search needs, fits .2))
 
 loop-again : tie.Need-loop-again Inv-loop μ-loop
 loop-again c = through-next _ _ _ _ _ (c .before .before .before .before .before .before .before .before .loop .inv) (search needs) (search needs) (c .before .before .before .before .answer .ensures)
@@ -34,9 +34,6 @@ serve-all-spec =
     Inv-loop
     μ-loop
     loop-holds
-    (λ c. search needs)
-    (λ c. search needs)
-    (λ c. search needs)
     answer-requires
     (λ c. search needs)
     (λ c. search needs)
