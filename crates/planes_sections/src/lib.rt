@@ -1,9 +1,8 @@
-// Sections of a mesh by a plane: the piece that a plane cuts from one cell.
+// Sections of a mesh by a plane: the middle, the area and the angles of the points of a piece.
 use arith::Vec3;
 
-mod arrange;
-mod middle;
-pub mod pieces;
+pub mod angles;
+pub mod middle;
 
 // The piece of a cell: its centre and how many vertices it has.
 pub enum Piece {

@@ -23,7 +23,7 @@ fn sum(x: &[f64], y: &[f64], z: &[f64], n: usize) -> Vec3
 }
 
 // The sum, times one over the number.
-pub(crate) fn average(x: &[f64], y: &[f64], z: &[f64], n: usize) -> Vec3
+pub fn average(x: &[f64], y: &[f64], z: &[f64], n: usize) -> Vec3
     requires { ⌜ Holds (now x) (now y) (now z) n × (n ≤ 4294967296) ⌝ }
     ensures { λ r. ⌜ r ≡ middle (heldIn (now (x .entry)) (now (y .entry)) (now (z .entry)) n) ⌝ }
 {
@@ -38,7 +38,7 @@ fn add_area(o: Vec3, p: Vec3, q: Vec3, area: f64) -> f64
 }
 
 // The area of the polygon of n points.
-pub(crate) fn area(x: &[f64], y: &[f64], z: &[f64], n: usize) -> f64
+pub fn area(x: &[f64], y: &[f64], z: &[f64], n: usize) -> f64
     requires { ⌜ Holds (now x) (now y) (now z) n × (1 ≤ n) ⌝ }
     ensures { λ r. ⌜ r ≡ areaOf (heldIn (now (x .entry)) (now (y .entry)) (now (z .entry)) n) ⌝ }
 {

@@ -1,7 +1,7 @@
 use Rattle.planes_sections.specs.Intersect.{wide}
 use borrow.Author.Needs.{needs}
-use Rattle.planes_sections.proofs.pieces.is_wide.Statement.{statement}
-use Rattle.planes_sections.proofs.pieces.is_wide.Tie as tie
+use Rattle.planes_pieces.proofs.pieces.is_wide.Statement.{statement}
+use Rattle.planes_pieces.proofs.pieces.is_wide.Tie as tie
 
 returns : tie.Need-returns
 unfolding wide

@@ -1,10 +1,10 @@
 use mathlib.Core.Path.{ap, sym, _∙_}
 use Rattle.arith_angles.specs.Sort.{sortedPlaces}
 use Rattle.planes_crossings.proofs.HeldLaws.{holds-as, rest-as}
 use Rattle.planes_sections.proofs.AngleLaws.{sorted-within, arranged}
 use borrow.Author.Needs.{needs}
-use Rattle.planes_sections.proofs.arrange.arrange_by.Statement.{statement}
-use Rattle.planes_sections.proofs.arrange.arrange_by.Tie as tie
+use Rattle.planes_pieces.proofs.arrange.arrange_by.Statement.{statement}
+use Rattle.planes_pieces.proofs.arrange.arrange_by.Tie as tie
 
 gather-requires : tie.Need-gather-requires
 gather-requires c κs =

@@ -1,7 +1,7 @@
 use Rattle.planes_sections.proofs.PieceLaws.{piece-unmet, pieced-any}
 use borrow.Author.Needs.{needs}
-use Rattle.planes_sections.proofs.pieces.piece_of.Statement.{statement}
-use Rattle.planes_sections.proofs.pieces.piece_of.Tie as tie
+use Rattle.planes_pieces.proofs.pieces.piece_of.Statement.{statement}
+use Rattle.planes_pieces.proofs.pieces.piece_of.Tie as tie
 
 returns : tie.Need-returns
 returns c = pieced-any _ _ _ _ _ _ _ (c .before .before .before .before .before .before .cut-cell .ensures)

@@ -1,20 +1,20 @@
 // The piece that the plane cuts from one cell.
-use crate::Piece;
 use crate::arrange;
-use crate::middle;
 use mesh_area::Sizes;
 use planes_crossings::meetings;
 use planes_cut::Cut;
 use planes_cut::heights;
+use planes_sections::Piece;
+use planes_sections::middle;
 ghost use mathlib.Core.Path.{_≡_};
 ghost use mathlib.Core.List.{List};
 ghost use Prim.Native.Nat.{_≤_};
 ghost use lib.Ieee.{Float};
 ghost use Rattle.mesh_area.specs.Layout.{pointsIn, meshIn};
 ghost use Rattle.planes_sections.specs.Intersect.{wide};
 ghost use Rattle.planes_crossings.specs.Work.{heldIn, Holds, Bounded};
 ghost use Rattle.planes_cut.specs.Work.{Lent, bare};
 ghost use Rattle.planes_sections.specs.Work.{PiecedAbout, Pieced};
 
 // The polygon's area is above the square of the tolerance.
 fn is_wide(cut: Cut, x: &[f64], y: &[f64], z: &[f64], n: usize) -> bool

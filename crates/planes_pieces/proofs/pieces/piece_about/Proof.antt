@@ -1,9 +1,9 @@
 use mathlib.Core.Path.{sym}
 use Rattle.planes_crossings.proofs.HeldLaws.{length-held}
 use Rattle.planes_sections.proofs.PieceLaws.{piece-few, piece-wide, piece-flat}
 use borrow.Author.Needs.{needs}
-use Rattle.planes_sections.proofs.pieces.piece_about.Statement.{statement}
-use Rattle.planes_sections.proofs.pieces.piece_about.Tie as tie
+use Rattle.planes_pieces.proofs.pieces.piece_about.Statement.{statement}
+use Rattle.planes_pieces.proofs.pieces.piece_about.Tie as tie
 
 returns : tie.Need-returns
 returns c = piece-few _ _ _ (sym (length-held _ _ _ _)) _ _ _ (c .if1 .taken)

@@ -7,8 +7,8 @@ use Rattle.planes_crossings.specs.Work.{heldIn, pointIn, Holds, Rest}
 use Rattle.planes_cut.proofs.Turns.{at-end}
 use Rattle.planes_crossings.proofs.HeldLaws.{rest-same, rest-stored, rest-then, gathered-more}
 use borrow.Author.Needs.{needs}
-use Rattle.planes_sections.proofs.arrange.gather.Statement.{statement}
-use Rattle.planes_sections.proofs.arrange.gather.Tie as tie
+use Rattle.planes_sections.proofs.angles.gather.Statement.{statement}
+use Rattle.planes_sections.proofs.angles.gather.Tie as tie
 
 abbrev Inv-loop : tie.InvT-loop
 Inv-loop px py pz places x₀ y₀ z₀ i₀ x y z i = (i ≤ length places) × (length x ≡ length x₀) × (length y ≡ length y₀) × (length z ≡ length z₀) × Rest x₀ y₀ z₀ x y z (length places) × (heldIn x y z i ≡ tab (λ k. pointIn px py pz (getD places k 0)) i)

@@ -1,7 +1,7 @@
 use Rattle.planes_sections.proofs.PieceLaws.{piece-foreign, piece-met}
 use borrow.Author.Needs.{needs}
-use Rattle.planes_sections.proofs.pieces.cut_cell.Statement.{statement}
-use Rattle.planes_sections.proofs.pieces.cut_cell.Tie as tie
+use Rattle.planes_pieces.proofs.pieces.cut_cell.Statement.{statement}
+use Rattle.planes_pieces.proofs.pieces.cut_cell.Tie as tie
 
 returns : tie.Need-returns
 returns c = piece-foreign _ _ _ _ _ _ _ (c .before .has-foreign .ensures) (c .if1 .taken)

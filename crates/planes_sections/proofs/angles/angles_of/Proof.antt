@@ -7,8 +7,8 @@ use Rattle.planes_sections.specs.Work.{angleOn, Angled}
 use Rattle.planes_cut.proofs.Turns.{at-end}
 use Rattle.planes_sections.proofs.AngleLaws.{angled-none, angled-more}
 use borrow.Author.Needs.{needs}
-use Rattle.planes_sections.proofs.arrange.angles_of.Statement.{statement}
-use Rattle.planes_sections.proofs.arrange.angles_of.Tie as tie
+use Rattle.planes_sections.proofs.angles.angles_of.Statement.{statement}
+use Rattle.planes_sections.proofs.angles.angles_of.Tie as tie
 
 abbrev Inv-loop : tie.InvT-loop
 Inv-loop plane centre x y z quarters₀ slopes₀ n i₀ quarters slopes i = (i ≤ n) × (length quarters ≡ length quarters₀) × (length slopes ≡ length slopes₀) × Angled plane centre (pointIn x y z) i quarters slopes

@@ -2,8 +2,8 @@ use mathlib.Core.Path.{sym, _∙_}
 use lib.Seq.{length-take-le}
 use Rattle.planes_crossings.proofs.HeldLaws.{holds-as}
 use borrow.Author.Needs.{needs}
-use Rattle.planes_sections.proofs.arrange.arrange_first.Statement.{statement}
-use Rattle.planes_sections.proofs.arrange.arrange_first.Tie as tie
+use Rattle.planes_pieces.proofs.arrange.arrange_first.Statement.{statement}
+use Rattle.planes_pieces.proofs.arrange.arrange_first.Tie as tie
 
 slice-aggregate-arrange-by : tie.Need-slice-aggregate-arrange-by
 slice-aggregate-arrange-by c = sym (length-take-le (c .before .before .before .before .before .before .before .before .before .before .before .before .before .args .n) (c .before .before .before .before .before .before .before .before .before .before .before .before .before .args .quarters .now) (c .before .before .before .before .before .before .before .before .before .before .before .before .before .pre .1 .0))

@@ -1,8 +1,8 @@
 use Rattle.planes_cut.specs.Plane.{along}
 use Rattle.planes_sections.specs.Work.{angleOn}
 use borrow.Author.Needs.{needs}
-use Rattle.planes_sections.proofs.arrange.angle_on.Statement.{statement}
-use Rattle.planes_sections.proofs.arrange.angle_on.Tie as tie
+use Rattle.planes_sections.proofs.angles.angle_on.Statement.{statement}
+use Rattle.planes_sections.proofs.angles.angle_on.Tie as tie
 
 returns : tie.Need-returns
 unfolding angleOn along
