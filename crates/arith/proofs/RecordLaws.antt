@@ -4,13 +4,12 @@ use mathlib.Core.Path.{_≡_, refl, sym, ap, _∙_, subst}
 use mathlib.Core.List.{List, [], _∷_, _++_}
 use mathlib.Core.Logic.{⊎-elim, _≢_, _⊎_, inl, inr}
 use Prim.Native.Nat.{ℕ, zero, suc, _+_, _-_, _*_, _<_, _≤_}
-use native.Mathlib.Nat.{add-zero, le-refl, le-trans, le-of-lt, le-of-suc-le-suc, not-suc-le-zero, mul-le-mul-left, mul-suc, eq-or-lt-of-le, suc-ne-zero, add-sub-cancel-left}
-use mathlib.Core.Bool.{Bool, true, false, cond}
+use native.Mathlib.Nat.{add-zero, le-refl, le-trans, le-of-lt, le-of-suc-le-suc, not-suc-le-zero, mul-le-mul-left, mul-suc, eq-or-lt-of-le, add-sub-cancel-left}
 use native.Mathlib.Decide.{decLt}
 use native.Mathlib.Numerals.{add-one}
 use native.Mathlib.Omega.{arith}
 use lib.ListN.{length, getD, take, drop, set, length-append, length-drop, length-set, List·getD-append}
-use lib.Seq.{drop-cons, getD-take, getD-drop, getD-append-seam, length-take-le, drop-drop, getD-set-same, getD-set-other, take-set-le, take-nil, take-at, drop-at}
+use lib.Seq.{drop-cons, getD-take, getD-drop, getD-append-seam, length-take-le, drop-drop, getD-set-same, getD-set-other, take-set-le, take-nil, take-at}
 use borrow.Rule.Slice.PartMut.{drop-put}
 use Rattle.arith.specs.Records.{tab, part, puts, putsFrom, chunk, patch}
 
@@ -26,15 +25,6 @@ lt-or-ge a b = by (decLt a b)
     by : Dec (a < b) → (a < b) ⊎ (b ≤ a)
     by (yes h) = inl h
     by (no h) = inr (omega arith)
-
--- a tower of tests that ends in 0: the test held, and the rest is 0
-pub peel : (b : Bool) (x y : ℕ) → cond b x (suc y) ≡ 0 → (b ≡ true) × (x ≡ 0)
-peel true x y e = (refl, e)
-peel false x y e = absurd (suc-ne-zero y e)
-
-pub peel-not : (b : Bool) (x y : ℕ) → cond b (suc y) x ≡ 0 → (b ≡ false) × (x ≡ 0)
-peel-not true x y e = absurd (suc-ne-zero y e)
-peel-not false x y e = (refl, e)
 
 -- ---- strides: record i of s elements
 
@@ -226,24 +216,6 @@ module _ {A : Type 0} where
   take-puts l at [] = refl
   take-puts l at (v ∷ vs) = take-putsFrom vs (set l at v) at 1 at (omega arith) ∙ take-set-le at l at v (le-refl at)
 
-  -- ---- a record of s elements stored at i: record j keeps each element k
-  pub other-record : (s : ℕ) (l : List A) (i j k : ℕ) (vs : List A) (d : A) → j ≢ i → k < s → length vs ≤ s
-      → getD (puts l (s * i) vs) (s * j + k) d ≡ getD l (s * j + k) d
-  other-record s l i j k vs d ne hk hv =
-      getD-puts-out l (s * i) vs (s * j + k) d
-      (⊎-elim (λ lt. inl (before (stride-le s lt))) (λ ge. inr (⊎-elim (λ e. absurd (ne (sym e))) (λ gt. after (stride-le s gt)) (eq-or-lt-of-le ge))) (lt-or-ge j i))
-    where
-      before : s * j + s ≤ s * i → s * j + k < s * i
-      before p = omega arith
-
-      after : s * i + s ≤ s * j → s * i + length vs ≤ s * j + k
-      after p = omega arith
-
-  pub other-record-first : (s : ℕ) (l : List A) (i j : ℕ) (vs : List A) (d : A) → j ≢ i → 0 < s → length vs ≤ s
-      → getD (puts l (s * i) vs) (s * j) d ≡ getD l (s * j) d
-  other-record-first s l i j vs d ne hs hv =
-      subst (λ (m : ℕ). getD (puts l (s * i) vs) m d ≡ getD l m d) (add-zero (s * j)) (other-record s l i j 0 vs d ne hs hv)
-
   -- ---- a record of s elements lent as `&mut l[s * i..s * i + s]`: what is lent, and what stands there when it is back
 
   pub chunk-lent : (l : List A) (s i : ℕ) → take (s * i + s - s * i) (drop (s * i) l) ≡ chunk l s i
@@ -258,9 +230,6 @@ module _ {A : Type 0} where
   module _ (l m : List A) (s i : ℕ) (room : s * i + s ≤ length l) (long : length m ≡ s) where
     before : length (take (s * i) l) ≡ s * i
     before = length-take-le (s * i) l (omega arith)
-
-    pub chunk-same : chunk (patch (s * i) (s * i + s - s * i) l m) s i ≡ m
-    chunk-same = rw (drop-at (take (s * i) l) (m ++ drop (s * i + s - s * i) (drop (s * i) l)) (s * i) before) (take-at m _ s long)
 
     -- record j is as it was
     pub chunk-other : (j : ℕ) → j ≢ i → chunk (patch (s * i) (s * i + s - s * i) l m) s j ≡ chunk l s j

@@ -139,9 +139,6 @@ module _ (b a h q : ℕ) (S : Scaled b a h) (W : WholeRoot (wide a h * 2 ^ 54) q
   pub q-high : q < 2 ^ 54 - 1
   q-high = less (wide a h * 2 ^ 54) q (2 ^ 54 - 1) W (let w = wide-in b a h S .1 in omega arith)
 
-  pub q-fits : q + 1 < 2 ^ 64
-  q-fits = let x = q-high in omega arith
-
   abbrev over : ℕ
   over = (q + 1) / 2 - 2 ^ 52
 

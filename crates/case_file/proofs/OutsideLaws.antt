@@ -119,13 +119,6 @@ module _ (file : List ℕ) where
       by true e = same-counts file e
       by false e = ap countsOf (wrong e)
 
-  pub outside-length : length (outside file) ≡ length file
-  outside-length = by (trailerRight file) refl
-    where
-      by : (t : Bool) → trailerRight file ≡ t → length (outside file) ≡ length file
-      by true e = same-length file e
-      by false e = ap length (wrong e)
-
   -- refusals 1 and 2
   pub outside-opened : opened (outside file) ≡ opened file
   outside-opened = by (trailerRight file) refl

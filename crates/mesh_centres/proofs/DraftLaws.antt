@@ -2,7 +2,6 @@
 use Prim.Native.Nat.{ℕ}
 use mathlib.Core.Path.{_≡_, refl, sym, ap, _∙_}
 use mathlib.Core.List.{List, [], _∷_, _++_, map, append-nil}
-use lib.ListN.{length, length-map}
 use Rattle.arith.specs.declared.Vec3.{Vec3}
 use Rattle.reading.specs.Result.{fine, steps}
 use Rattle.reading.proofs.ResultLaws.{bound}
@@ -37,6 +36,3 @@ module _ (d : ℕ) (ps : List Vec3) where
   pub drafts-defined : (defs : List Definition) (t : Drafts) → drafts d ps defs ≡ fine t → definitionsOf (t .cells) ≡ defs
   unfolding drafts
   drafts-defined defs t e = all-added defs _ t e
-
-  pub drafts-counted : (defs : List Definition) (t : Drafts) → drafts d ps defs ≡ fine t → length (t .cells) ≡ length defs
-  drafts-counted defs t e = sym (length-map (t .cells) _) ∙ ap length (drafts-defined defs t e)

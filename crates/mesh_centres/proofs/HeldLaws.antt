@@ -1,24 +1,22 @@
 -- From the area that holds the drafts to the cells, with the face table beside them. Assumes nothing.
 use Prim.Native.Nat.{ℕ, _+_, _*_, _≤_, _<_}
 use native.Mathlib.Omega.{arith}
-use mathlib.Core.Path.{_≡_, refl, sym, ap, _∙_}
+use mathlib.Core.Path.{_≡_, sym, ap, _∙_}
 use mathlib.Core.List.{List}
 use lib.Ieee.{Float, nan}
 use lib.ListN.{getD, take}
 use lib.Seq.{getD-take}
 use Rattle.arith.specs.declared.Vec3.{Vec3}
 use Rattle.arith.proofs.RecordLaws.{tab-same, same-below}
-use Rattle.reading.specs.Result.{fine, mapAll}
+use Rattle.reading.specs.Result.{fine}
 use Rattle.case_definitions.specs.Faces.{Definition}
 use Rattle.case_definitions.specs.Definitions.{definitions}
 use Rattle.mesh_area.specs.declared.Sizes.{Sizes}
-use Rattle.mesh_area.specs.Layout.{vecFrom, faceIn, facesIn, cellsIn, meshWords, meshFloats, floatsEnd, LentWords, LentFloats}
+use Rattle.mesh_area.specs.Layout.{vecFrom, faceIn, facesIn, meshWords, meshFloats, floatsEnd, LentWords, LentFloats}
 use Rattle.mesh_coordinates.specs.Coordinates.{Points}
-use Rattle.mesh_faces.specs.Using.{sized}
 use Rattle.mesh_cells.specs.Cells.{Drafts, drafts}
 use Rattle.mesh_cells.specs.Drafting.{Held}
-use Rattle.mesh_centres.specs.declared.Finished.{Finished}
-use Rattle.mesh_centres.specs.Finish.{finished, finishedAs, definitionsOf, Finishable, Finishing}
+use Rattle.mesh_centres.specs.Finish.{definitionsOf, Finishable}
 use Rattle.mesh_centres.proofs.DraftLaws.{drafts-defined}
 
 module _ (d : ℕ) (ps : List Vec3) (ws words : List ℕ) (floats : List Float) (s : Sizes) (n : ℕ) (t : Drafts) (held : Held ws s words floats n t) where
@@ -35,16 +33,6 @@ module _ (d : ℕ) (ps : List Vec3) (ws words : List ℕ) (floats : List Float) 
         lists = held .lists;
         defined = ap definitionsOf (held .cells) ∙ drafts-defined d ps defs t made;
       }
-
-  -- and what it leaves is the finished drafts
-  pub held-finished : (floats′ : List Float) (r : Finished) → Finishing d ps ws s words floats floats′ r
-      → mapAll (finished d ps) (t .cells) ≡ finishedAs r (cellsIn s words floats′)
-  held-finished floats′ r f = sym (ap (mapAll (finished d ps)) (held .cells)) ∙ f .cells
-
--- the cells do not depend on the number of faces
-pub cells-sized : (s : Sizes) (n : ℕ) (words : List ℕ) (floats : List Float) → cellsIn (sized s n) words floats ≡ cellsIn s words floats
-unfolding cellsIn meshWords meshFloats
-cells-sized s n words floats = refl
 
 -- the face table does not depend on the cells' floats
 module _ (s : Sizes) (words : List ℕ) (floats floats′ : List Float) (few : s .faces ≤ s .slots) (same : take (12 * s .slots) floats′ ≡ take (12 * s .slots) floats) where

@@ -1,7 +1,7 @@
 -- What an answer says of the table, for a caller. Assumes nothing.
 use mathlib.Core.Path.{_≡_, ap}
 use mathlib.Core.Bool.{Bool, true, false}
-use mathlib.Core.List.{List, [], _∷_, reverse}
+use mathlib.Core.List.{List, [], _∷_}
 use Prim.Native.Nat.{ℕ, suc, _+_, _<_}
 use native.Mathlib.Omega.{arith}
 use lib.ListN.{length}
@@ -9,14 +9,9 @@ use Rattle.arith.specs.Lists.{firstFrom, sorted}
 use Rattle.arith.specs.declared.Found.{Found}
 use Rattle.arith.specs.declared.Found.the-variants.{At, Nothing}
 use Rattle.mesh_area.specs.Tables.{Face, faceAt}
-use Rattle.mesh_keys.proofs.OrderLaws.{sorted-reverse}
 use Rattle.mesh_geometry.specs.declared.FaceGeometry.{FaceGeometry}
 use Rattle.mesh_faces.specs.Table.{hasKey, faceWithKey, joining, settled, adding}
 use Rattle.mesh_faces.specs.declared.Added.the-variants.{New, Second}
-
--- a face that is turned has the same key
-pub lookup-turned : (l : List ℕ) (fs : List Face) → faceWithKey (sorted (reverse l)) fs ≡ faceWithKey (sorted l) fs
-lookup-turned l fs = ap (λ (k : List ℕ). faceWithKey k fs) (sorted-reverse l)
 
 -- what is found is there
 pub first-below : (p : Face → Bool) (k : ℕ) (l : List Face) (i : ℕ) → firstFrom p k l ≡ At i → i < k + length l

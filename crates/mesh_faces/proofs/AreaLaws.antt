@@ -1,29 +1,25 @@
 -- Laws of the table in the lent area: the mesh's part lent and back, an empty table, and what leaves a table as it is. Assumes nothing.
 use mathlib.Core.Path.{_≡_, refl, sym, ap, _∙_}
 use mathlib.Core.List.{List, _++_}
-use Prim.Native.Nat.{ℕ, _+_, _*_, _%_, _<_, _≤_}
+use Prim.Native.Nat.{ℕ, _+_, _*_, _<_, _≤_}
 use native.Mathlib.Nat.{le-antisymm, mod-lt, not-suc-le-zero}
 use native.Mathlib.Omega.{arith}
 use lib.ListN.{length, getD, take, drop, set, replicate, length-replicate, getD-replicate, replicate-append-replicate, length-append, take-append-drop, List·getD-append}
 use lib.Seq.{sets, length-sets, sets-eq, take-at, take-take, take-set-lt, drop-set-lt, length-take-le, getD-take, getD-append-add}
 use lib.Ieee.{Float}
-use Rattle.arith.specs.Lists.{sorted}
 use Rattle.arith.specs.Records.{chunk}
 use Rattle.arith.proofs.RecordLaws.{tab-same, take-drop-take, same-below}
-use Rattle.mesh_area.specs.Tables.{Face, faceAt}
-use Rattle.mesh_area.specs.Layout.{facesIn, faceIn, meshWords, meshFloats, LentWords, LentFloats}
+use Rattle.mesh_area.specs.Layout.{facesIn, faceIn, meshWords, meshFloats, LentWords}
 use Rattle.mesh_area.specs.declared.Sizes.{Sizes}
-use Rattle.mesh_area.proofs.LayoutLaws.{face-in, length-listAt}
 use Rattle.mesh_geometry.specs.declared.FaceGeometry.{FaceGeometry}
 use Rattle.mesh_keys.specs.Keys.{total}
 use Rattle.mesh_face_table.specs.Records.{bodyOf, bodyIn, measuredOf, measuredIn, faceOf, tableIn, headIn, freshAt, floatsOf}
 use Rattle.mesh_face_table.specs.Chains.{last, bucketOf, Chains, Chained}
-use Rattle.mesh_face_table.proofs.RecordParts.{face-parts, read-count, fresh-take, fresh-drop, sets-front, sets-behind, sets-snoc}
+use Rattle.mesh_face_table.proofs.RecordParts.{face-parts, fresh-take, fresh-drop, sets-front, sets-behind, sets-snoc}
 use Rattle.mesh_face_table.proofs.ChainLaws.{chains-same}
 use Rattle.mesh_faces.specs.declared.Added.{Added}
 use Rattle.mesh_faces.specs.declared.Added.the-variants.{New, Second, Third}
 use Rattle.mesh_faces.specs.Using.{Ready, wordsAfter, floatsAfter, Settled, after, storedAt, sized, Usable, Used}
-use Rattle.mesh_faces.proofs.TableLaws.{table-at}
 
 -- ---- area's faces are the table's
 
@@ -233,41 +229,3 @@ module _ (s : Sizes) (words words′ : List ℕ) (lent : LentWords s words) (lon
           chunk-front (take (12 * s .slots + 4 * s .cells) floats) (take (12 * s .slots + 4 * s .cells) floats′) (12 * s .slots) j
           (front floats floats′ (12 * s .slots) (12 * s .slots + 4 * s .cells) (omega arith) same-floats)
           (let f = ch .few in omega arith)
-
--- ---- what a table in the area holds
-
-module _ (s : Sizes) (words : List ℕ) (floats : List Float) (ch : Chained s words) where
-  key-in : (i : ℕ) → i < s .faces → sorted (faceAt (facesIn s words floats) i .vertices) ≡ sorted (bodyIn (meshWords s words) i .vertices)
-  unfolding faceOf
-  key-in i l =
-      ap (λ (f : Face). sorted (f .vertices))
-      (ap (λ (t : List Face). faceAt t i) (table-in (meshWords s words) (meshFloats s floats) s words floats refl refl ch)
-      ∙ table-at (meshWords s words) (meshFloats s floats) (s .faces) i l)
-
-  -- no key stands twice
-  pub keys-distinct : (j k : ℕ) → j < s .faces → k < s .faces
-      → sorted (faceAt (facesIn s words floats) j .vertices) ≡ sorted (faceAt (facesIn s words floats) k .vertices) → j ≡ k
-  keys-distinct j k lj lk e = ch .distinct j k lj lk (sym (key-in j lj) ∙ e ∙ key-in k lk)
-
-  -- a face has at most eight vertices
-  pub vertices-few : (i : ℕ) → i < s .faces → length (faceAt (facesIn s words floats) i .vertices) ≤ 8
-  unfolding faceIn
-  vertices-few i l = rw (face-in s words floats i l, length-listAt) (rw (read-count (meshWords s words) i) (ch .short i l))
-
--- ---- the area after a face was used
-
-after-few : (r : Added) (n slots : ℕ) → n < slots → after r n ≤ slots
-after-few (New i) n slots h = omega arith
-after-few (Second i) n slots h = omega arith
-after-few Third n slots h = omega arith
-
-module _ (s : Sizes) (words words′ : List ℕ) (floats floats′ : List Float) (vertices : List ℕ) (cell : ℕ) (r : Added) (u : Usable s words floats vertices cell) where
-  pub lent-words-after : length words′ ≡ length words → LentWords (sized s (after r (s .faces))) words′
-  lent-words-after long =
-      let l = u .lent-words in
-      record { few-slots = l .few-slots; few-faces = after-few r (s .faces) (s .slots) (u .space); few-cells = l .few-cells; long = let g = l .long in omega arith }
-
-  pub lent-floats-after : length floats′ ≡ length floats → LentFloats (sized s (after r (s .faces))) floats′
-  lent-floats-after long =
-      let l = u .lent-floats in
-      record { few-slots = l .few-slots; few-faces = after-few r (s .faces) (s .slots) (u .space); few-cells = l .few-cells; long = let g = l .long in omega arith }

@@ -1,20 +1,15 @@
 -- How the promises of a function's parts make its own. Assumes nothing.
 use Prim.Native.Nat.{ℕ}
-use mathlib.Core.Path.{_≡_, refl, ap, sym, _∙_}
+use mathlib.Core.Path.{refl, ap, sym, _∙_}
 use mathlib.Core.List.{List}
-use lib.ListN.{length, set}
 use Rattle.reading.specs.declared.Values.{Values}
-use Rattle.reading.specs.Asks.{Asks, give, ask, run, reads, _>>=_}
+use Rattle.reading.specs.Asks.{Asks, give, run, reads, _>>=_}
 use Rattle.reading.specs.Marks.{markAll}
 use Rattle.reading.specs.Served.{Served, Going}
 use Rattle.reading.proofs.AsksLaws.{run-bind, reads-bind}
-use Rattle.reading.proofs.MarksLaws.{markAll-append, length-markAll}
+use Rattle.reading.proofs.MarksLaws.{markAll-append}
 
 module _ {A : Type 0} {whole : Asks A} {f : ℕ → Values} {m₀ : List ℕ} where
-  -- one cell was read
-  pub going-ask : {i : ℕ} {k : Values → Asks A} {m : List ℕ} → Going whole f m₀ (ask i k) m → Going whole f m₀ (k (f i)) (set m i 1)
-  going-ask g = record { answer = g .answer; marks = g .marks }
-
   -- a part was served
   pub going-part : {B : Type 0} {t : Asks B} (h : B → Asks A) {m m′ : List ℕ} {r : B} →
       Going whole f m₀ (t >>= h) m → Served t f m m′ r → Going whole f m₀ (h r) m′
@@ -47,15 +42,3 @@ module _ {A : Type 0} {f : ℕ → Values} where
   pub served-then : {B : Type 0} {t : Asks B} (h : B → Asks A) {m m′ m″ : List ℕ} {b : B} {a : A} →
       Served t f m m′ b → Served (h b) f m′ m″ a → Served (t >>= h) f m m″ a
   served-then {t} h {m} s r = going-last (going-part h (going-start (t >>= h) f m) s) r
-
--- marks keep their number
-pub going-length : {A : Type 0} {whole rest : Asks A} {f : ℕ → Values} {m₀ m : List ℕ} → Going whole f m₀ rest m → length m ≡ length m₀
-going-length {whole} {rest} {f} {m₀} {m} g =
-    sym (length-markAll m (reads rest f)) ∙ ap length (g .marks) ∙ length-markAll m₀ (reads whole f)
-
-pub served-length : {A : Type 0} {t : Asks A} {f : ℕ → Values} {m m′ : List ℕ} {a : A} → Served t f m m′ a → length m′ ≡ length m
-served-length {t} {f} {m} s = ap length (s .marks) ∙ length-markAll m (reads t f)
-
--- the values of one cell
-pub served-one : {f : ℕ → Values} {i : ℕ} {m : List ℕ} → Served (ask i give) f m (set m i 1) (f i)
-served-one = record { answer = refl; marks = refl }
