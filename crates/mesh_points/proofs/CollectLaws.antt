@@ -7,12 +7,11 @@ use mathlib.Core.List.{List, [], _∷_, _++_}
 use lib.Dec.{leb, ltb, eqb}
 use lib.ListN.{length, getD, take, drop, length-drop, drop-of-length-le}
 use lib.Seq.{length-take-le}
-use borrow.Author.Tests.{le-leb, lt-leb, eq-eqb, ne-eqb}
+use borrow.Author.Tests.{eq-eqb, ne-eqb}
 use Rattle.arith.specs.Lists.{fold, anyOf, flatten}
 use Rattle.arith.specs.declared.Vec3.{Vec3}
 use Rattle.arith.proofs.ListLaws.{left-at}
 use Rattle.reading.specs.Result.{Result, refused, fine, _>>=_, refuse, steps}
-use Rattle.reading.proofs.ResultLaws.{steps-next, steps-refused}
 use Rattle.case_definitions.specs.Faces.{Definition, facesOf}
 use Rattle.case_definitions.specs.Walker.{definitionAt, faceAt, Headed}
 use Rattle.case_faces.specs.Copying.{AtFace, nextFace, FaceCopied}
@@ -20,10 +19,11 @@ use Rattle.case_definitions.specs.declared.Head.{Head}
 use Rattle.case_faces.specs.declared.FaceCursor.{FaceCursor}
 use Rattle.case_faces.proofs.FaceLaws.{PolygonHead, HeadCase, polygon-head, solid-head, polyhedron-head, head-case, at-first}
 use Rattle.case_definitions.proofs.Walking.{head-faces}
-use Rattle.mesh_averages.specs.Averages.{insertNew, rising, average, Inserted}
-use Rattle.mesh_points.specs.Collect.{wrongKind, missing, referenceOf, insertBelow, numbersIn, Collecting, checked, referenceCase}
-use Rattle.mesh_points.specs.declared.Collected.{Collected}
-use Rattle.mesh_points.specs.declared.Collected.the-variants.{Numbers, Missing}
+use Rattle.mesh_averages.specs.Averages.{average}
+use Rattle.mesh_numbers.specs.Numbers.{insertNew, rising, insertBelow, numbersIn, Collecting}
+use Rattle.mesh_numbers.specs.declared.Collected.{Collected}
+use Rattle.mesh_numbers.specs.declared.Collected.the-variants.{Numbers, Missing}
+use Rattle.mesh_points.specs.Collect.{wrongKind, missing, referenceOf, checked, referenceCase}
 use Rattle.mesh_points.specs.declared.Reference.the-variants.{Point, Refused}
 
 -- ---- refusal 11
@@ -79,44 +79,6 @@ module _ (d : ℕ) (ws : List ℕ) (h : Head) (g : Headed ws h) where
       by (polygon-head k p) = omega arith
       by (solid-head low high p) = omega arith
       by (polyhedron-head k p) = omega arith
-
--- ---- the numbers of one face
-
-module _ (points : ℕ) where
-  insert-below : (l : List ℕ) (x : ℕ) → x < points → insertBelow points l x ≡ fine (insertNew l x)
-  unfolding insertBelow refuse _>>=_
-  insert-below l x h = rw (lt-leb points x h)
-
-  insert-missing : (l : List ℕ) (x : ℕ) → points ≤ x → insertBelow points l x ≡ refused 12
-  unfolding insertBelow refuse _>>=_
-  insert-missing l x h = rw (le-leb points x h)
-
-  pub collect-turn : (vertices out out′ : List ℕ) (m m′ i y : ℕ) (r : Result (List ℕ)) → steps (insertBelow points) (take m out) (drop i vertices) ≡ r
-      → i < length vertices → y ≡ getD vertices i 0 → y < points → Inserted out out′ m (getD vertices i 0) m′
-      → steps (insertBelow points) (take m′ out′) (drop (i + 1) vertices) ≡ r
-  collect-turn vertices out out′ m m′ i y r inv more e low ins =
-      let one : insertBelow points (take m out) (getD vertices i 0) ≡ fine (take m′ out′) =
-      insert-below (take m out) (getD vertices i 0) (omega arith) ∙ ap fine (sym (ins .held))
-      in
-      sym (steps-next vertices i 0 more (insertBelow points) (take m out) (take m′ out′) one) ∙ inv
-
-  pub collect-missing : (vertices l k out : List ℕ) (i y limit : ℕ) → steps (insertBelow points) k (drop i vertices) ≡ steps (insertBelow points) l vertices
-      → i < length vertices → y ≡ getD vertices i 0 → points ≤ y → Collecting points l vertices out limit Missing
-  unfolding numbersIn
-  collect-missing vertices l k out i y limit inv more e high =
-      let one : insertBelow points k (getD vertices i 0) ≡ refused 12 = insert-missing k (getD vertices i 0) (omega arith) in
-      record { same = sym (steps-refused vertices i 0 more (insertBelow points) k 12 one) ∙ inv; few = omega arith }
-
-  pub collect-done : (vertices l out : List ℕ) (m n i : ℕ) → steps (insertBelow points) (take m out) (drop i vertices) ≡ steps (insertBelow points) l vertices
-      → i ≤ length vertices → length vertices ≤ i → m ≤ n + i → Collecting points l vertices out (n + length vertices) (Numbers m)
-  unfolding numbersIn steps
-  collect-done vertices l out m n i inv low end few = record { same = rw (drop-of-length-le vertices {i = i} end, steps) at inv; few = omega arith }
-
--- as many as were collected
-pub collect-few : (points : ℕ) (l k out : List ℕ) (limit : ℕ) (r : Collected) (n : ℕ) → Collecting points l k out limit r → r ≡ Numbers n → n ≤ limit
-collect-few points l k out limit r n g e = rw e at (g .few)
-
-pub ruleset collects = (collect-turn, collect-missing, collect-done)
 
 -- ---- the faces of a record, one after another
 
@@ -231,9 +193,6 @@ module _ (d : ℕ) (ps : List Vec3) (def : Definition) (t : Bool) (et : t ≡ wr
     all-of : numbersIn out r ≡ (refuse 12 (missing ps def) >>= λ _. fine (rising (flatten (facesOf def))))
     unfolding missing rising
     all-of = got .same ∙ below-all points [] (flatten (facesOf def)) ∙ rw long
-
-    by-missing : (m : Bool) → missing ps def ≡ m → numbersIn out r ≡ (refuse 12 m >>= λ _. fine (rising (flatten (facesOf def))))
-    by-missing m e = all-of ∙ rw e
 
     pub checked-missing : r ≡ Missing → referenceCase (Refused 12) ≡ checked d ps def
     unfolding referenceCase checked numbersIn refuse _>>=_

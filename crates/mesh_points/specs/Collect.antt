@@ -1,20 +1,17 @@
 -- What `from_cells` asks of a cell before its faces: refusals 11 and 12, and the average of its points.
 -- `wrongKind`: 11. `missing`: 12. `referenceOf`: the average.
--- `insertBelow`, `numbersIn`, `countOf`, `Collecting`: the numbers, one after another.
 -- `checked`, `referenceCase`: the three together, and what the answer stands for.
-use Prim.Native.Nat.{ℕ, _≤_}
-use mathlib.Core.Path.{_≡_}
+use Prim.Native.Nat.{ℕ}
 use mathlib.Core.Bool.{Bool, not, _||_}
 use mathlib.Core.List.{List}
 use lib.Dec.{leb, ltb, eqb}
-use lib.ListN.{length, take}
+use lib.ListN.{length}
 use Rattle.arith.specs.Lists.{anyOf, flatten}
 use Rattle.arith.specs.declared.Vec3.{Vec3}
-use Rattle.reading.specs.Result.{Result, refused, fine, _>>=_, refuse, steps}
+use Rattle.reading.specs.Result.{Result, refused, fine, _>>=_, refuse}
 use Rattle.case_definitions.specs.Faces.{Definition, polygon, solid, polyhedron, facesOf}
-use Rattle.mesh_averages.specs.Averages.{insertNew, rising, average}
-use Rattle.mesh_points.specs.declared.Collected.{Collected}
-use Rattle.mesh_points.specs.declared.Collected.the-variants.{Numbers, Missing}
+use Rattle.mesh_averages.specs.Averages.{average}
+use Rattle.mesh_numbers.specs.Numbers.{rising}
 use Rattle.mesh_points.specs.declared.Reference.{Reference}
 use Rattle.mesh_points.specs.declared.Reference.the-variants.{Point, Refused}
 
@@ -31,27 +28,6 @@ missing ps def = anyOf (leb (length ps)) (flatten (facesOf def))
 -- "its cell averages in rising point order", over distinct numbers
 unfoldable pub referenceOf : List Vec3 → Definition → Vec3
 referenceOf ps def = average ps (rising (flatten (facesOf def)))
-
--- ---- the distinct point numbers of a cell, and their average
-
--- one number more, or refusal 12
-unfoldable pub insertBelow : ℕ → List ℕ → ℕ → Result (List ℕ)
-insertBelow points l x = refuse 12 (leb points x) >>= λ _. fine (insertNew l x)
-
--- what each case of the answer stands for, where `out` holds the numbers
-unfoldable pub numbersIn : List ℕ → Collected → Result (List ℕ)
-numbersIn out (Numbers n) = fine (take n out)
-numbersIn out Missing = refused 12
-
--- how many there are
-abbrev pub countOf : Collected → ℕ
-countOf (Numbers n) = n
-countOf Missing = 0
-
--- the numbers put one after another into a rising list; there are at most `limit` then
-pub record Collecting (points : ℕ) (rising numbers out : List ℕ) (limit : ℕ) (r : Collected) : Type 0 where
-  pub same : numbersIn out r ≡ steps (insertBelow points) rising numbers
-  pub few : countOf r ≤ limit
 
 -- refusals 11 and 12 of a cell, or the average of its points
 unfoldable pub checked : ℕ → List Vec3 → Definition → Result Vec3

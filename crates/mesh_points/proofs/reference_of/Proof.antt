@@ -3,7 +3,8 @@ use lib.ListN.{length-take}
 use lib.Seq.{length-take-le}
 use mathlib.Core.Path.{sym}
 use Rattle.mesh_area.proofs.LayoutLaws.{length-points}
-use Rattle.mesh_points.proofs.CollectLaws.{collect-few, checked-kind, checked-missing, checked-point}
+use Rattle.mesh_numbers.proofs.Laws.{collect-few}
+use Rattle.mesh_points.proofs.CollectLaws.{checked-kind, checked-missing, checked-point}
 use borrow.Author.Needs.{needs}
 use Rattle.mesh_points.proofs.reference_of.Statement.{statement}
 use Rattle.mesh_points.proofs.reference_of.Tie as tie
