@@ -7,7 +7,7 @@ use job_promise::number_of;
 ghost use lib.ListN.{length};
 ghost use Rattle.job_requests.specs.Encode.{bytesOf};
 ghost use Rattle.job_promise.specs.Promise.{Promised};
-ghost use Rattle.job_words.specs.Single.{locateWords, velocityWords, streamlineWords, rakeWords, sectionWords, statisticsWords, integralsWords, probeWords};
+ghost use Rattle.job_encoding.specs.Single.{locateWords, velocityWords, streamlineWords, rakeWords, sectionWords, statisticsWords, integralsWords, probeWords};
 ghost use Rattle.capi_values.specs.Convert.{vectorOf, planeOf, settingsOf, rakeOf};
 
 // The cell at a point.

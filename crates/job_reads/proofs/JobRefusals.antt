@@ -21,7 +21,7 @@ use Rattle.mesh_geometry.specs.declared.FaceGeometry.{FaceGeometry}
 use Rattle.mesh_faces.specs.declared.Added.{Added}
 use Rattle.mesh_faces.specs.declared.Added.the-variants as Added
 use Rattle.mesh_faces.specs.Table.{placed, addFace}
-use Rattle.mesh_drafts.specs.Parts.{addFaceOf}
+use Rattle.mesh_cell_parts.specs.Parts.{addFaceOf}
 use Rattle.mesh_cells.specs.Cells.{Draft, Drafts, addCell, drafts}
 use Rattle.mesh_centres.specs.Finish.{finished}
 use Rattle.mesh_coordinates.specs.Coordinates.{acceptable}

@@ -20,7 +20,7 @@ use Rattle.case_definitions.specs.Faces.{Definition}
 use Rattle.mesh_area.specs.Tables.{Face, Cell, Mesh, faceAt, noFace, cellAt, noCell}
 use Rattle.mesh_geometry.specs.declared.FaceGeometry.{FaceGeometry}
 use Rattle.mesh_faces.specs.Table.{faceWithKey, newFace, withNeighbour, joining, settled, adding, Placed, placed, addFace}
-use Rattle.mesh_drafts.specs.Parts.{Growing, addFaceOf}
+use Rattle.mesh_cell_parts.specs.Parts.{Growing, addFaceOf}
 use Rattle.mesh_cells.specs.Cells.{Drafts, addCell, drafts}
 use Rattle.mesh_neighbours.specs.Neighbours.{otherOf, beyond, addFound, addNeighbour, neighboursOf, linkedAt, linked}
 use Rattle.mesh_centres.specs.Finish.{finished}

@@ -7,7 +7,7 @@ use lib.ListN.{length}
 use Rattle.reading.specs.Result.{fine, _>>=_}
 use Rattle.job_requests.specs.Encode.{bytesOf}
 use Rattle.job_requests.proofs.EncodeLaws.{length-bytesOf}
-use Rattle.job_words.proofs.Laws.{Whole, list-of-one}
+use Rattle.job_encoding.proofs.Laws.{Whole, list-of-one}
 use Rattle.job_room.specs.Room.{Lent, prepared}
 use Rattle.job_promise.specs.List.{serveAll}
 use Rattle.job_promise.specs.Job.{jobOf}

@@ -9,7 +9,7 @@ ghost use lib.ListN.{length};
 ghost use Rattle.job_requests.specs.Encode.{bytesOf};
 ghost use Rattle.job_promise.specs.Job.{numberOf, outcomeOf};
 ghost use Rattle.job_promise.specs.Promise.{Promised};
-ghost use Rattle.job_words.specs.Single.{locateWords, velocityWords, streamlineWords, rakeWords, sectionWords, statisticsWords, integralsWords, probeWords};
+ghost use Rattle.job_encoding.specs.Single.{locateWords, velocityWords, streamlineWords, rakeWords, sectionWords, statisticsWords, integralsWords, probeWords};
 
 // The cell at a point.
 pub fn locate(
@@ -25,7 +25,7 @@ pub fn locate(
         (record { result = numberOf r; answers = now (answers .exit); marks = now (marks .exit) }) ⌝ }
     ensures { λ r. ⌜ r ≡ outcomeOf (numberOf r) ⌝ }
 {
-    let request = job_words::locate(p);
+    let request = job_encoding::locate(p);
     job::job(case, &request, words, floats, marks, answers)
 }
 
@@ -43,7 +43,7 @@ pub fn velocity(
         (record { result = numberOf r; answers = now (answers .exit); marks = now (marks .exit) }) ⌝ }
     ensures { λ r. ⌜ r ≡ outcomeOf (numberOf r) ⌝ }
 {
-    let request = job_words::velocity(p);
+    let request = job_encoding::velocity(p);
     job::job(case, &request, words, floats, marks, answers)
 }
 
@@ -62,7 +62,7 @@ pub fn streamline(
         (record { result = numberOf r; answers = now (answers .exit); marks = now (marks .exit) }) ⌝ }
     ensures { λ r. ⌜ r ≡ outcomeOf (numberOf r) ⌝ }
 {
-    let request = job_words::streamline(seed, settings);
+    let request = job_encoding::streamline(seed, settings);
     job::job(case, &request, words, floats, marks, answers)
 }
 
@@ -81,7 +81,7 @@ pub fn rake(
         (record { result = numberOf r; answers = now (answers .exit); marks = now (marks .exit) }) ⌝ }
     ensures { λ r. ⌜ r ≡ outcomeOf (numberOf r) ⌝ }
 {
-    let request = job_words::rake(seeds, settings);
+    let request = job_encoding::rake(seeds, settings);
     job::job(case, &request, words, floats, marks, answers)
 }
 
@@ -99,7 +99,7 @@ pub fn section(
         (record { result = numberOf r; answers = now (answers .exit); marks = now (marks .exit) }) ⌝ }
     ensures { λ r. ⌜ r ≡ outcomeOf (numberOf r) ⌝ }
 {
-    let request = job_words::section(plane);
+    let request = job_encoding::section(plane);
     job::job(case, &request, words, floats, marks, answers)
 }
 
@@ -118,7 +118,7 @@ pub fn statistics(
         (record { result = numberOf r; answers = now (answers .exit); marks = now (marks .exit) }) ⌝ }
     ensures { λ r. ⌜ r ≡ outcomeOf (numberOf r) ⌝ }
 {
-    let request = job_words::statistics(plane, field);
+    let request = job_encoding::statistics(plane, field);
     job::job(case, &request, words, floats, marks, answers)
 }
 
@@ -136,7 +136,7 @@ pub fn integrals(
         (record { result = numberOf r; answers = now (answers .exit); marks = now (marks .exit) }) ⌝ }
     ensures { λ r. ⌜ r ≡ outcomeOf (numberOf r) ⌝ }
 {
-    let request = job_words::integrals(plane);
+    let request = job_encoding::integrals(plane);
     job::job(case, &request, words, floats, marks, answers)
 }
 
@@ -155,6 +155,6 @@ pub fn probe(
         (record { result = numberOf r; answers = now (answers .exit); marks = now (marks .exit) }) ⌝ }
     ensures { λ r. ⌜ r ≡ outcomeOf (numberOf r) ⌝ }
 {
-    let request = job_words::probe(plane, p);
+    let request = job_encoding::probe(plane, p);
     job::job(case, &request, words, floats, marks, answers)
 }

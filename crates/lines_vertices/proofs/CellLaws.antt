@@ -17,7 +17,7 @@ use Rattle.mesh_points.specs.Collect.{wrongKind, referenceOf}
 use Rattle.mesh_geometry.specs.Faces.{enough}
 use Rattle.mesh_geometry.specs.declared.FaceGeometry.{FaceGeometry}
 use Rattle.mesh_faces.specs.Table.{Placed, addFace}
-use Rattle.mesh_drafts.specs.Parts.{Growing, addFaceOf, measuredFrom}
+use Rattle.mesh_cell_parts.specs.Parts.{Growing, addFaceOf, measuredFrom}
 use Rattle.mesh_cells.specs.Cells.{Draft, Drafts, addCell, drafts}
 use Rattle.lines_vertices.specs.Shapes.{keyIn, Turned, Later, Placing, Naming, Named, FacesNamed, Limited}
 use Rattle.lines_vertices.proofs.TableLaws.{turned, later-self, later-more, all-at, AllFaces, placing, placing-all}

@@ -35,8 +35,8 @@ use Rattle.mesh_faces.proofs.AreaLaws.{chained-kept, faces-kept}
 use Rattle.mesh_points.specs.Collect.{wrongKind, missing, checked, referenceCase}
 use Rattle.mesh_points.specs.declared.Reference.{Reference}
 use Rattle.mesh_points.specs.declared.Reference.the-variants as Reference
-use Rattle.mesh_drafts.specs.Parts.{addFaceOf, CellPut}
-use Rattle.mesh_drafts.specs.declared.NewCell.{NewCell}
+use Rattle.mesh_cell_parts.specs.Parts.{addFaceOf, CellPut}
+use Rattle.mesh_cell_parts.specs.declared.NewCell.{NewCell}
 use Rattle.mesh_cells.specs.Cells.{Draft, Drafts, addCell, drafts}
 use Rattle.mesh_cells.specs.Drafting as Drafting
 use Rattle.mesh_cells.specs.Drafting.{cellWord, draftIn, draftsIn, Lists, Adding}

@@ -23,11 +23,11 @@ use Rattle.mesh_area.specs.Layout.{LentWords, LentFloats, listAt, facesIn}
 use Rattle.mesh_points.proofs.CollectLaws.{copied-next}
 use Rattle.mesh_faces.specs.Using.{sized, Usable}
 use Rattle.mesh_faces.proofs.AreaLaws.{chained-kept, faces-kept}
-use Rattle.mesh_drafts.specs.Parts as Parts
-use Rattle.mesh_drafts.specs.Parts.{addFaceOf, Grew, Placing}
-use Rattle.mesh_drafts.specs.declared.NewCell.{NewCell}
-use Rattle.mesh_drafts.specs.declared.FacePlaced.{FacePlaced}
-use Rattle.mesh_drafts.specs.declared.FacePlaced.the-variants as FacePlaced
+use Rattle.mesh_cell_parts.specs.Parts as Parts
+use Rattle.mesh_cell_parts.specs.Parts.{addFaceOf, Grew, Placing}
+use Rattle.mesh_cell_parts.specs.declared.NewCell.{NewCell}
+use Rattle.mesh_cell_parts.specs.declared.FacePlaced.{FacePlaced}
+use Rattle.mesh_cell_parts.specs.declared.FacePlaced.the-variants as FacePlaced
 use Rattle.mesh_cells.specs.Steps as Steps
 use Rattle.mesh_cells.specs.Steps.{growingIn, FaceReady, Listed, FaceAdding, FacesReady, addFaces, FacesAdding}
 use Rattle.mesh_cells.specs.declared.FaceAdded.{FaceAdded}

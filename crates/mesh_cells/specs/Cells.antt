@@ -9,7 +9,7 @@ use Rattle.reading.specs.Result.{Result, fine, _>>=_, refuse, steps}
 use Rattle.case_definitions.specs.Faces.{Definition, facesOf}
 use Rattle.mesh_area.specs.Tables.{Face}
 use Rattle.mesh_points.specs.Collect.{wrongKind, missing, referenceOf}
-use Rattle.mesh_drafts.specs.Parts.{addFaceOf}
+use Rattle.mesh_cell_parts.specs.Parts.{addFaceOf}
 
 -- a cell before its centre is known: its definition, the numbers of its faces, and the average of its points
 pub record Draft : Type 0 where

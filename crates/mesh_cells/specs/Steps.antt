@@ -25,8 +25,8 @@ use Rattle.mesh_area.specs.Layout.{LentWords, LentFloats, listAt, vecFrom, face
 use Rattle.mesh_face_table.specs.Chains.{Chained}
 use Rattle.mesh_faces.specs.Using.{sized}
 use Rattle.mesh_points.specs.Collect.{checked}
-use Rattle.mesh_drafts.specs.Parts.{Growing, addFaceOf}
-use Rattle.mesh_drafts.specs.declared.NewCell.{NewCell}
+use Rattle.mesh_cell_parts.specs.Parts.{Growing, addFaceOf}
+use Rattle.mesh_cell_parts.specs.declared.NewCell.{NewCell}
 use Rattle.mesh_cells.specs.Cells.{addCell, drafts}
 use Rattle.mesh_cells.specs.Drafting.{cellWord, draftsIn, Lists}
 use Rattle.mesh_cells.specs.declared.FaceAdded.{FaceAdded}

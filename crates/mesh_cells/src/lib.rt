@@ -6,8 +6,8 @@ use case_definitions::Step;
 use case_definitions::walker;
 use case_faces::FaceCursor;
 use mesh_area::Sizes;
-use mesh_drafts::FacePlaced;
-use mesh_drafts::NewCell;
+use mesh_cell_parts::FacePlaced;
+use mesh_cell_parts::NewCell;
 use mesh_points::Reference;
 ghost use mathlib.Core.Path.{_≡_};
 ghost use mathlib.Core.List.{List};
@@ -77,7 +77,7 @@ fn add_face(
     let h = cell.head;
     let copied = case_faces::copy_face(ws, h, c, &mut vertices);
     let count = copied.count;
-    let placed = mesh_drafts::place_face(
+    let placed = mesh_cell_parts::place_face(
         case,
         points,
         dimension,
@@ -155,7 +155,7 @@ fn fill_cell(
 {
     let h = cell.head;
     let reference = cell.reference;
-    mesh_drafts::put_cell(
+    mesh_cell_parts::put_cell(
         words,
         floats,
         s,

@@ -1,7 +1,7 @@
 // The angles of points about a centre, and the points at given places.
-use arith_angles::Angle;
 use arith::Vec2;
 use arith::Vec3;
+use arith_angles::Angle;
 use arith_angles::angles;
 use planes_crossings::held;
 use planes_cut::Plane;

@@ -67,7 +67,7 @@ use Rattle.planes.specs.Reply.{answerOf, lengthOf, wordsOf as wordsOf-2, replie
 use Rattle.job_buffers.specs.Answer.{fitting, answerWords, headerOf}
 use Rattle.mesh_measure.specs.Records.{facesAt, fansOf}
 use Rattle.mesh_points.specs.Collect.{wrongKind, missing as missing-2, referenceOf, checked, referenceCase}
-use Rattle.mesh_drafts.specs.Parts.{measuredFrom, addFaceOf}
+use Rattle.mesh_cell_parts.specs.Parts.{measuredFrom, addFaceOf}
 use Rattle.mesh_cells.specs.Cells.{addCell, drafts}
 use Rattle.mesh_cells.specs.Drafting.{draftIn, draftsIn}
 use Rattle.mesh_cells.specs.Steps.{read}
