@@ -7,9 +7,8 @@ use lib.ListN.{length, take, drop, length-append, length-drop, drop-of-length-le
 use lib.Seq.{sets, sets-eq, take-all, take-at, drop-at, take-append-le, length-take-le, take-take}
 use Rattle.reading.specs.Result.{Result, refused, fine}
 use Rattle.answers.specs.declared.Answered.{Answered}
-use Rattle.answers.specs.Reply.{answerOf, lengthOf, replied}
+use Rattle.answers.specs.Contracts.{answerOf, lengthOf, replied, Behind, Placed, Closed}
 use Rattle.answers.specs.Answer.{fitting, answerWords, headerOf}
-use Rattle.answers.specs.Placed.{Behind, Placed, Closed}
 use Rattle.answers.proofs.BufferLaws.{closed-placed}
 
 module _ (o out′ : List ℕ) (at : ℕ) (fits : at + 2 ≤ length o) where

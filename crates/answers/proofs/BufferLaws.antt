@@ -12,9 +12,8 @@ use Rattle.reading.specs.Result.{Result, refused, fine}
 use Rattle.reading.specs.Marks.{cleared}
 use Rattle.answers.specs.declared.Answered.{Answered}
 use Rattle.answers.specs.declared.Answered.the-variants.{Words, Refused}
-use Rattle.answers.specs.Reply.{answerOf, lengthOf}
+use Rattle.answers.specs.Contracts.{answerOf, lengthOf, Behind, Placed, Closed}
 use Rattle.answers.specs.Answer.{fitting, answerWords, headerOf}
-use Rattle.answers.specs.Placed.{Behind, Placed, Closed}
 
 -- ---- zeros
 

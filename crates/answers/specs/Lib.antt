@@ -1,4 +1,3 @@
 pub mod Words
-pub mod Reply
 pub mod Answer
-pub mod Placed
+pub mod Contracts

@@ -6,7 +6,7 @@ ghost use Prim.Native.Nat.{_+_, _-_, _*_, _≤_};
 ghost use lib.ListN.{length, set, take, replicate};
 ghost use Rattle.reading.specs.Marks.{cleared};
 ghost use Rattle.answers.specs.Answer.{headerOf};
-ghost use Rattle.answers.specs.Placed.{Closed};
+ghost use Rattle.answers.specs.Contracts.{Closed};
 
 // Stores the header at `at`: the refusal, or 0, and the count. Where the next answer goes.
 fn put_header(answers: &mut [u64], at: usize, refusal: u64, count: usize) -> usize

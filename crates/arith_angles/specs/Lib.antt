@@ -1,3 +1,4 @@
 pub mod Stable
 pub mod Angle
 pub mod Sort
+pub mod Contracts

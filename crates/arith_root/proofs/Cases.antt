@@ -12,7 +12,7 @@ use lib.Ieee.Fits.{up-pos, down-pos}
 use lib.Ieee.Bits.{ofBits-toBits, toBits-lt, nanBits-is, nanBits-above}
 use borrow.Author.Tests.{ltb-true, ltb-false, lt-leb, le-ltb, eq-eqb, ne-eqb}
 use Rattle.arith_root.specs.Root.{mag, root, rounded, plus}
-use Rattle.arith_root.specs.Work.{unitsOf}
+use Rattle.arith_root.specs.Contracts.{unitsOf}
 
 -- +0
 abbrev pub nought : Float

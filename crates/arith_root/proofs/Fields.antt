@@ -8,7 +8,7 @@ use lib.Dec.{lit≤}
 use lib.Pow.{pow-add, pow-mono, shl-lt}
 use lib.Count.{leadingZeros, leading-top}
 use borrow.Author.Tests.{eq-eqb, ne-eqb}
-use Rattle.arith_root.specs.Work.{unitsOf, Scaled}
+use Rattle.arith_root.specs.Contracts.{unitsOf, Scaled}
 
 -- ---- a pattern with no exponent: its digits move up by s = leadingZeros - 11
 

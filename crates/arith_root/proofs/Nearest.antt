@@ -13,7 +13,7 @@ use lib.Ieee.Bits.{ofBits-toBits, toBits-lt, ofBits-fits}
 use borrow.Author.Tests.{lt-ltb}
 use Rattle.arith_root.specs.Root.{mag, root, plus, Nearest, SquareRoot, isqrt}
 use Rattle.arith_whole_root.specs.Whole.{WholeRoot}
-use Rattle.arith_root.specs.Work.{unitsOf, Scaled}
+use Rattle.arith_root.specs.Contracts.{unitsOf, Scaled}
 use Rattle.arith_root.proofs.Cases.{nought, some-above, equals→mag, mag-odd, mag-bits, plus-top, some-bits, root-above}
 use Rattle.arith_root.proofs.Fields.{unpack-0, unpack-1}
 use Rattle.arith_root.proofs.Pack.{wide, wide-in, in-108, units-are, square-is, rounded-is, packed, q-low}

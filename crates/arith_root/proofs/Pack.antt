@@ -12,7 +12,7 @@ use lib.Ieee.Digits.{size-le, size-lt}
 use borrow.Author.Tests.{ne-eqb, lt-leb, le-ltb}
 use Rattle.arith_root.specs.Root.{isqrt, rounded}
 use Rattle.arith_whole_root.specs.Whole.{WholeRoot, HalfRoot}
-use Rattle.arith_root.specs.Work.{unitsOf, Scaled}
+use Rattle.arith_root.specs.Contracts.{unitsOf, Scaled}
 use Rattle.arith_whole_root.proofs.Whole.{whole-one, at-least, less}
 use Rattle.arith_root.proofs.Whole.{isqrt-is}
 

@@ -3,7 +3,7 @@ ghost use mathlib.Core.Path.{_≡_};
 ghost use lib.Ieee.{binary64, ofBits};
 ghost use Prim.Native.Nat.{_+_, _*_, _^_, _≤_, _<_};
 ghost use Rattle.arith_root.specs.Root.{root, rounded, SquareRoot};
-ghost use Rattle.arith_root.specs.Work.{Scaled, unitsOf};
+ghost use Rattle.arith_root.specs.Contracts.{Scaled, unitsOf};
 
 // Within 4 % of 1 / √x, for the x above 2^-1022 whose bit pattern is b. Half of the pattern has
 // half of the exponent, and taken from a constant it has that exponent's opposite.

@@ -13,7 +13,7 @@ use Rattle.reading.specs.Result.{Result, refused, fine, _>>=_}
 use Rattle.reading.proofs.ResultLaws.{bound}
 use Rattle.case_definitions.specs.Faces.{Definition, polygon, solid, polyhedron, tetrahedron, hexahedron, prism, pyramid, faceCount, addFaceCount, facesCounted}
 use Rattle.case_definitions.specs.Definitions.{Taken, numbers, counted, faceLists, made, kinds, definition, definitions}
-use Rattle.case_definitions.specs.Walker.{firstOf, headOf, cursorAt, stepped, stepAt, walked}
+use Rattle.case_definitions.specs.Contracts.{firstOf, headOf, cursorAt, stepped, stepAt, walked}
 use Rattle.case_definitions.specs.declared.Cursor.{Cursor}
 use Rattle.case_definitions.specs.declared.Head.{Head}
 use Rattle.case_definitions.specs.declared.Step.the-variants.{Record, Wrong}

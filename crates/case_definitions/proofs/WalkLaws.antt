@@ -13,8 +13,7 @@ use Rattle.reading.specs.Result.{Result, refused, fine, _>>=_}
 use Rattle.reading.proofs.ResultLaws.{bound}
 use Rattle.case_definitions.specs.Faces.{Definition, polygon, solid, polyhedron, tetrahedron, hexahedron, prism, pyramid, faceCount}
 use Rattle.case_definitions.specs.Definitions.{Taken, numbers, counted, faceLists, made, kinds, definition}
-use Rattle.case_definitions.specs.Walker.{firstOf, headOf, cursorAt, stepped, stepAt}
-use Rattle.case_definitions.specs.Helpers.{listed, listAt, skipped, KindAt, SolidAt}
+use Rattle.case_definitions.specs.Contracts.{firstOf, headOf, cursorAt, stepped, stepAt, listed, listAt, skipped, KindAt, SolidAt}
 use Rattle.case_definitions.specs.declared.Step.the-variants.{Record, Wrong}
 use Rattle.case_definitions.specs.declared.Listed.the-variants.{Count, Bad}
 use Rattle.case_definitions.specs.declared.Skipped.the-variants.{To, Short}

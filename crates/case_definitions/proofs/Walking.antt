@@ -16,7 +16,7 @@ use Rattle.case_file.specs.declared.Counts.{Counts}
 use Rattle.case_file.proofs.ReadLaws.{words-lent}
 use Rattle.case_definitions.specs.Faces.{Definition, polygon, solid, polyhedron, ends, picked, facesOf, faceCount, facesCounted}
 use Rattle.case_definitions.specs.Definitions.{definitions}
-use Rattle.case_definitions.specs.Walker.{headOf, stepAt, walked, readOf, definitionAt, Headed}
+use Rattle.case_definitions.specs.Contracts.{headOf, stepAt, walked, readOf, definitionAt, Headed}
 use Rattle.case_definitions.specs.declared.Cursor.{Cursor}
 use Rattle.case_definitions.specs.declared.Head.{Head}
 use Rattle.case_definitions.specs.declared.Step.the-variants.{Record, Wrong}

@@ -1,4 +1,3 @@
 pub mod Faces
 pub mod Definitions
-pub mod Walker
-pub mod Helpers
+pub mod Contracts

@@ -15,8 +15,8 @@ ghost use lib.ListN.{length, getD, drop};
 ghost use Rattle.arith.specs.Records.{part};
 ghost use Rattle.case_file.specs.Trailer.{wordsFrom, wordsIn};
 ghost use Rattle.case_definitions.specs.Definitions.{definitions, faceLists};
-ghost use Rattle.case_definitions.specs.Walker.{stepAt, walked};
-ghost use Rattle.case_definitions.specs.Helpers as Helpers;
+ghost use Rattle.case_definitions.specs.Contracts.{stepAt, walked};
+ghost use Rattle.case_definitions.specs.Contracts as Contracts;
 
 // The definition words, from a position on.
 struct Walker<'a> {
@@ -51,7 +51,7 @@ fn word_at(words: &[u8], at: usize) -> u32
 
 // A count of at most `limit` at a position, with as many words after it.
 fn list_at(words: &[u8], at: usize, limit: usize) -> Listed
-    ensures { λ r. ⌜ r ≡ Helpers.listAt (wordsIn (now (words .entry))) at limit ⌝ }
+    ensures { λ r. ⌜ r ≡ Contracts.listAt (wordsIn (now (words .entry))) at limit ⌝ }
 {
     let all = total(words);
     if all <= at {
@@ -69,7 +69,7 @@ fn list_at(words: &[u8], at: usize, limit: usize) -> Listed
 
 // A polygon: a count of at most 24, then its numbers.
 fn polygon(words: &[u8], at: usize) -> Step
-    requires { ⌜ Helpers.KindAt (wordsIn (now words)) at 0 ⌝ }
+    requires { ⌜ Contracts.KindAt (wordsIn (now words)) at 0 ⌝ }
     ensures { λ r. ⌜ r ≡ stepAt (wordsIn (now (words .entry))) at ⌝ }
 {
     match list_at(words, at + 1, 24) {
@@ -88,7 +88,7 @@ fn polygon(words: &[u8], at: usize) -> Step
 
 // A solid: its numbers.
 fn solid(words: &[u8], at: usize, kind: u32, numbers: usize, faces: usize) -> Step
-    requires { ⌜ Helpers.SolidAt (wordsIn (now words)) at kind numbers faces ⌝ }
+    requires { ⌜ Contracts.SolidAt (wordsIn (now words)) at kind numbers faces ⌝ }
     ensures { λ r. ⌜ r ≡ stepAt (wordsIn (now (words .entry))) at ⌝ }
 {
     if total(words) - at - 1 < numbers {
@@ -110,7 +110,7 @@ fn solid(words: &[u8], at: usize, kind: u32, numbers: usize, faces: usize) -> St
 // The position after n faces of a polyhedron.
 fn skip_faces(words: &[u8], first: usize, n: usize) -> Skipped
     requires { ⌜ first ≤ length (wordsIn (now words)) ⌝ }
-    ensures { λ r. ⌜ r ≡ Helpers.skipped (wordsIn (now (words .entry)))
+    ensures { λ r. ⌜ r ≡ Contracts.skipped (wordsIn (now (words .entry)))
         (faceLists n (drop first (wordsIn (now (words .entry))))) ⌝ }
 {
     let mut at = first;
@@ -127,7 +127,7 @@ fn skip_faces(words: &[u8], first: usize, n: usize) -> Skipped
 
 // A polyhedron: a face count of at most 24, then its faces.
 fn polyhedron(words: &[u8], at: usize) -> Step
-    requires { ⌜ Helpers.KindAt (wordsIn (now words)) at 5 ⌝ }
+    requires { ⌜ Contracts.KindAt (wordsIn (now words)) at 5 ⌝ }
     ensures { λ r. ⌜ r ≡ stepAt (wordsIn (now (words .entry))) at ⌝ }
 {
     let all = total(words);

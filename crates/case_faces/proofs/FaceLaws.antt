@@ -18,9 +18,8 @@ use Rattle.arith.proofs.RecordLaws.{getD-part}
 use Rattle.reading.specs.Result.{fine}
 use Rattle.case_definitions.specs.Faces.{Definition, polygon, solid, polyhedron, tetrahedron, hexahedron, prism, pyramid, ends, picked, facesOf, faceCount}
 use Rattle.case_definitions.specs.Definitions.{Taken, faceLists}
-use Rattle.case_definitions.specs.Walker.{firstOf, headOf, stepAt, readOf, definitionAt, faceAt, Headed}
-use Rattle.case_faces.specs.Copying.{faceFrom, AtFace, nextFace, FaceCopied}
-use Rattle.case_faces.specs.Copying.{tableOf, placesOf}
+use Rattle.case_definitions.specs.Contracts.{firstOf, headOf, stepAt, readOf, definitionAt, faceAt, Headed}
+use Rattle.case_faces.specs.Contracts.{faceFrom, AtFace, nextFace, FaceCopied, tableOf, placesOf}
 use Rattle.case_definitions.specs.declared.Head.{Head}
 use Rattle.case_faces.specs.declared.Copied.{Copied}
 use Rattle.case_faces.specs.declared.Places.{Places}

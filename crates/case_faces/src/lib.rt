@@ -9,7 +9,7 @@ ghost use Rattle.arith.specs.Lists.{after};
 ghost use Rattle.arith.specs.Records.{puts};
 ghost use Rattle.case_file.specs.Trailer.{wordsIn};
 ghost use Rattle.case_definitions.specs.Faces as Faces;
-ghost use Rattle.case_faces.specs.Copying.{AtFace, FaceCopied, placesOf, tableOf};
+ghost use Rattle.case_faces.specs.Contracts.{AtFace, FaceCopied, placesOf, tableOf};
 
 // A face of a solid: its places among the cell's point numbers.
 enum Places {

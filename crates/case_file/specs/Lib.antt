@@ -1,3 +1,4 @@
 pub mod Trailer
 pub mod Field
 pub mod Same
+pub mod Contracts

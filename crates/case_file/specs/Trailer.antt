@@ -1,7 +1,6 @@
 -- "Case file: points (3 floats each), definition words (u32), velocities (3 floats per cell), pressures (one per cell), then a 32-byte trailer that
 -- points back"
-use Prim.Native.Nat.{ℕ, _+_, _-_, _*_, _/_, _<_}
-use mathlib.Core.Path.{_≡_}
+use Prim.Native.Nat.{ℕ, _+_, _-_, _*_, _/_}
 use mathlib.Core.Bool.{Bool, cond, _&&_, _||_}
 use mathlib.Core.List.{List}
 use lib.Dec.{leb, ltb, eqb}
@@ -77,12 +76,3 @@ wordsIn bytes = readAll (le32 bytes) 4 (length bytes / 4) 0
 -- those of a case
 unfoldable pub wordsOf : List ℕ → Counts → List ℕ
 wordsOf file n = readAll (le32 file) 4 (n .words) (wordsFrom n)
-
--- ---- the words of the contracts of `open`'s helpers
-
--- the counts of a file, each a u32
-pub record Counted (file : List ℕ) (n : Counts) : Type 0 where
-  pub same : n ≡ countsOf file
-  pub points : n .points < 4294967296
-  pub words : n .words < 4294967296
-  pub cells : n .cells < 4294967296

@@ -15,11 +15,11 @@ ghost use Rattle.reading.specs.Result.{fine};
 ghost use Rattle.reading.specs.After.{done, Left};
 ghost use Rattle.case_file.specs.Field.{valuesOf};
 ghost use Rattle.job_requests.specs.Requests.{wordsAt, requestsIn};
-ghost use Rattle.job_room.specs.Stands.{countsIn, roomIn, Stands};
+ghost use Rattle.job_room.specs.Contracts.{countsIn, roomIn, Stands};
 ghost use Rattle.job_promise.specs.List.{isFlat, serveAll};
 ghost use Rattle.job_promise.specs.Job.{numberOf, outcomeOf};
 ghost use Rattle.job_promise.specs.Promise.{Promised};
-ghost use Rattle.job_promise.specs.Serving.{Told, answerTo, laterThan};
+ghost use Rattle.job_promise.specs.Contracts.{Told, answerTo, laterThan};
 
 fn is_flat(place: Place) -> bool
     ensures { λ r. ⌜ ((file words : List ℕ) (floats : List Float) → r ≡ isFlat (roomIn file words floats place)) ⌝ }

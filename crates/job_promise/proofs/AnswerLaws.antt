@@ -9,16 +9,15 @@ use Rattle.reading.specs.Asks.{give, run, reads}
 use Rattle.reading.specs.Marks.{markAll}
 use Rattle.reading.proofs.AsksLaws.{run-bind, reads-bind}
 use Rattle.answers.specs.declared.Answered.{Answered}
-use Rattle.answers.specs.Reply.{Replied}
+use Rattle.answers.specs.Contracts.{Replied, Closed}
 use Rattle.job_room.specs.Room.{Room}
 use Rattle.job_requests.specs.declared.Request.{Request}
 use Rattle.job_requests.specs.Requests.{requestOf}
 use Rattle.job_serve.specs.Serve.{serve}
 use Rattle.answers.specs.Answer.{fitting, answerWords, headerOf}
-use Rattle.answers.specs.Placed.{Closed}
 use Rattle.answers.proofs.BehindLaws.{placed-part}
 use Rattle.job_promise.specs.List.{isFlat, replyTo}
-use Rattle.job_promise.specs.Serving.{Told, answerTo}
+use Rattle.job_promise.specs.Contracts.{Told, answerTo}
 
 -- the reply to a request that was taken apart
 pub reply-is : (room : Room) (f : ℕ → Values) (r : List ℕ) (flat : Bool) (q : Request) (left : List ℕ) (a : Answered) (o o′ m m′ : List ℕ) → flat ≡ isFlat room → q ≡ requestOf flat r

@@ -14,7 +14,7 @@ use Rattle.job_room.specs.Room.{Lent, prepared}
 use Rattle.job_room.specs.declared.Place.{Place}
 use Rattle.job_room.specs.declared.Prepared.{Prepared}
 use Rattle.job_room.specs.declared.Prepared.the-variants as Prepared
-use Rattle.job_room.specs.Stands.{roomIn, countsIn, Stands, Preparing}
+use Rattle.job_room.specs.Contracts.{roomIn, countsIn, Stands, Preparing}
 use Rattle.job_room.proofs.Laws.{prepared-outside, prepared-fits, counts-are, preparing-refused, preparing-ready}
 use Rattle.job_promise.specs.List.{serveAll}
 use Rattle.job_promise.specs.Job.{jobOf, lentTo, outcome}

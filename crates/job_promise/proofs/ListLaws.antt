@@ -15,7 +15,7 @@ use Rattle.reading.proofs.MarksLaws.{markAll-append, length-markAll}
 use Rattle.job_room.specs.Room.{Room}
 use Rattle.answers.specs.Answer.{fitting, answerWords}
 use Rattle.job_promise.specs.List.{replyTo, serveAll}
-use Rattle.job_promise.specs.Serving.{Told, answerTo}
+use Rattle.job_promise.specs.Contracts.{Told, answerTo}
 
 module _ (room : Room) (f : ℕ → Values) where
   -- the first answer and the rest

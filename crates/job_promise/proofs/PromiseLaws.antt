@@ -23,7 +23,7 @@ use Rattle.job_room.specs.Room.{Room, Lent, prepared}
 use Rattle.job_room.specs.declared.Place.{Place}
 use Rattle.job_room.specs.declared.Prepared.{Prepared}
 use Rattle.job_room.specs.declared.Prepared.the-variants as Prepared
-use Rattle.job_room.specs.Stands.{roomIn, countsIn, Preparing}
+use Rattle.job_room.specs.Contracts.{roomIn, countsIn, Preparing}
 use Rattle.job_room.proofs.Laws.{prepared-outside, preparing-refused}
 use Rattle.answers.specs.Answer.{fitting, answerWords}
 use Rattle.job_reads.proofs.Ranges.{Ranged, due, none, among-is, between}
@@ -31,7 +31,7 @@ use Rattle.job_reads.proofs.JobRefusals.{job-refusals}
 use Rattle.job_reads.proofs.RequestRefusals.{request-refusals}
 use Rattle.job_promise.specs.declared.Outcome.the-variants.{Done, Refused}
 use Rattle.job_promise.specs.List.{isFlat, replyTo, serveAll}
-use Rattle.job_promise.specs.Serving.{answerTo}
+use Rattle.job_promise.specs.Contracts.{answerTo}
 use Rattle.job_promise.specs.Job.{jobOf, lentTo, outcome, outcomeOf}
 use Rattle.job_promise.specs.Promise.{Numbered, accepted, rejected, Answers, end, served, denied, Read, Mark, marked, clear, Promised}
 use Rattle.job_promise.proofs.ListLaws.{run-all}

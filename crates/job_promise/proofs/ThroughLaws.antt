@@ -9,7 +9,7 @@ use Rattle.job_requests.specs.Requests.{wordsAt, requestsIn}
 use Rattle.job_requests.proofs.Laws.{requests-count, requests-at}
 use Rattle.job_room.specs.Room.{Room}
 use Rattle.job_promise.specs.List.{serveAll}
-use Rattle.job_promise.specs.Serving.{Told, answerTo}
+use Rattle.job_promise.specs.Contracts.{Told, answerTo}
 use Rattle.job_promise.proofs.ListLaws.{Along, along-start, along-next, along-end}
 
 -- i requests of the bytes are answered, their words end at `at`

@@ -1,4 +1,4 @@
 pub mod List
 pub mod Job
-pub mod Serving
 pub mod Promise
+pub mod Contracts

@@ -31,7 +31,7 @@ use Rattle.lines.specs.declared.Rake.{Rake}
 use Rattle.lines.specs.declared.StreamlineSettings.{StreamlineSettings}
 use Rattle.lines.specs.Line.{signedStep, onward, lineFrom, pointsAfter, line, lineAnswer, integrate}
 use Rattle.lines.specs.Rake.{linesWords, integrateRake}
-use Rattle.answers.specs.Reply.{decided}
+use Rattle.answers.specs.Contracts.{decided}
 use Rattle.job_reads.specs.Within.{Sound}
 
 -- the first that passes is one of the list

@@ -30,7 +30,7 @@ use Rattle.job_requests.specs.declared.Request.{Request}
 use Rattle.job_requests.specs.declared.Request.the-variants as requests
 use Rattle.job_requests.specs.Requests.{number, refuseIf, streamline, rakeOf, rake, planeOf, statistics as fieldStatistics, overPlane, planar, byCode, requestOf}
 use Rattle.job_room.specs.Room.{Room, flat, solid}
-use Rattle.answers.specs.Reply.{decided}
+use Rattle.answers.specs.Contracts.{decided}
 use Rattle.job_serve.specs.Serve.{serveFlat, serveSolid, serve}
 use Rattle.job_reads.proofs.Ranges.{among, Ranged, due, none, bind, barred, either, through}
 

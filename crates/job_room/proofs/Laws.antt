@@ -20,7 +20,7 @@ use Rattle.case_file.proofs.OutsideLaws.{outside-opened, outside-words}
 use Rattle.mesh.specs.Case.{Surveyed-case, surveyOf, meshOf}
 use Rattle.mesh.proofs.Laws.{survey-shut, survey-wrong, survey-right, outside-points}
 use Rattle.job_room.specs.Room.{Room, Lent, roomOf, requestsWrong, shortage, prepared}
-use Rattle.job_room.specs.Stands.{roomIn, Stands, Preparing, standing, barred, Fits}
+use Rattle.job_room.specs.Contracts.{roomIn, Stands, Preparing, standing, barred, Fits}
 use Rattle.job_room.specs.declared.Place.{Place}
 use Rattle.job_room.specs.declared.Prepared.{Prepared}
 use Rattle.job_room.specs.declared.Prepared.the-variants as Prepared

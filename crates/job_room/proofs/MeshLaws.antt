@@ -22,8 +22,8 @@ use Rattle.mesh_cells.specs.Cells.{Draft, Drafts, drafts}
 use Rattle.mesh_centres.specs.Finish.{finished}
 use Rattle.mesh_coordinates.specs.Coordinates.{acceptable}
 use Rattle.mesh.specs.Mesh.{joined, completed, filled, fromCells}
-use Rattle.lines_field.specs.Field.{Few}
-use Rattle.planes_crossings.specs.Work.{Bounded}
+use Rattle.lines_field.specs.Contracts.{Few}
+use Rattle.planes_crossings.specs.Contracts.{Bounded}
 use Rattle.lines_vertices.specs.Shapes.{Limited, Over}
 use Rattle.lines_vertices.proofs.CellLaws.{cells-counted, faces-of-cells, limited-faces, eight-vertices}
 use Rattle.lines_vertices.proofs.CornerLaws.{few-corners}

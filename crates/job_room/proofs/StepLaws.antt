@@ -23,9 +23,9 @@ use Rattle.mesh_area.specs.Tables.{Mesh}
 use Rattle.mesh_area.specs.Layout.{pointsIn, meshIn}
 use Rattle.mesh_area.proofs.LayoutLaws.{length-cellsIn}
 use Rattle.mesh.specs.Mesh.{fromCells}
-use Rattle.mesh.specs.Case.{Surveyed-case, surveyOf, areaShort, meshOf, Building}
+use Rattle.mesh.specs.Case.{Surveyed-case, surveyOf, areaShort, meshOf}
+use Rattle.mesh.specs.Contracts.{Building, Buildable}
 use Rattle.mesh_coordinates.specs.Coordinates.{acceptedAs}
-use Rattle.mesh.specs.Steps.{Buildable}
 use Rattle.mesh.specs.declared.Built.{Built}
 use Rattle.mesh.specs.declared.Built.the-variants as Built
 use Rattle.mesh.proofs.Laws.{Surveys, survey-right, area-long, building-refused, building-mesh}
@@ -34,14 +34,13 @@ use Rattle.lines_field.specs.declared.Built as polygons
 use Rattle.lines_field.specs.declared.Built.the-variants as Traced
 use Rattle.lines_field.specs.Field.{polygonsOf, gridOf, fieldOf, builtGrid}
 use Rattle.lines_locate.specs.Layout.{fieldIn}
-use Rattle.lines_velocity.specs.Ready.{tracerField}
-use Rattle.lines_field.specs.Layout.{Traceable}
+use Rattle.lines_velocity.specs.Contracts.{tracerField}
+use Rattle.lines_field.specs.Contracts.{Traceable}
 use Rattle.lines_field.proofs.BuildLaws.{lent-words, lent-floats}
-use Rattle.planes_cut.specs.Work.{bare}
+use Rattle.planes_cut.specs.Contracts.{bare}
 use Rattle.planes_sections.proofs.PieceLaws.{same-bounds}
 use Rattle.job_room.specs.Room.{Room, flat, solid, Lent, roomFrom, roomOf, requestsWrong, shortage, prepared}
-use Rattle.job_room.specs.Stands.{roomIn, countsIn, Servable, Stands, Preparing, standing, barred}
-use Rattle.job_room.specs.Steps.{Shortage, FieldReady}
+use Rattle.job_room.specs.Contracts.{roomIn, countsIn, Servable, Stands, Preparing, standing, barred, Shortage, FieldReady}
 use Rattle.job_room.specs.declared.Place.the-variants.{Flat, Solid}
 use Rattle.job_room.specs.declared.Prepared.{Prepared}
 use Rattle.job_room.specs.declared.Prepared.the-variants as Prepared

@@ -1,3 +1,2 @@
 pub mod Room
-pub mod Stands
-pub mod Steps
+pub mod Contracts

@@ -13,10 +13,9 @@ ghost use Rattle.case_definitions.specs.Faces.{Definition};
 ghost use Rattle.case_definitions.specs.Definitions.{definitions};
 ghost use Rattle.case_file.specs.Trailer.{wordsOf};
 ghost use Rattle.mesh_area.specs.Layout.{pointsIn, meshIn};
-ghost use Rattle.mesh.specs.Steps.{Buildable};
+ghost use Rattle.mesh.specs.Contracts.{Buildable};
 ghost use Rattle.job_room.specs.Room as Room;
-ghost use Rattle.job_room.specs.Stands.{Preparing};
-ghost use Rattle.job_room.specs.Steps.{Shortage, FieldReady};
+ghost use Rattle.job_room.specs.Contracts.{Preparing, Shortage, FieldReady};
 
 // Where a room stands in the work area.
 pub enum Place {

@@ -28,7 +28,7 @@ use Rattle.lines_velocity.specs.declared.Vector.{Vector}
 use Rattle.lines_velocity.specs.declared.Vector.the-variants.{Here, Nowhere}
 use Rattle.lines_velocity.specs.declared.Tracer.{Tracer}
 use Rattle.lines_velocity.specs.Velocity.{locateIn, velocityAt}
-use Rattle.lines_velocity.specs.Ready.{tracerField, Ready}
+use Rattle.lines_velocity.specs.Contracts.{tracerField, Ready}
 use Rattle.lines.specs.declared.Rake as declared
 use Rattle.lines.specs.declared.StreamlineSettings.{StreamlineSettings}
 use Rattle.lines.specs.Line.{integrate}
@@ -37,23 +37,23 @@ use Rattle.planes.specs.Answers.{sectionOf, statisticsOf, integralsOf, probeOf}
 use Rattle.answers.specs.Words.{vecWords}
 use Rattle.answers.specs.declared.Answered.{Answered}
 use Rattle.answers.specs.declared.Answered.the-variants as Answered
-use Rattle.answers.specs.Reply.{answerOf, lengthOf, decided, replied, Replied}
+use Rattle.answers.specs.Contracts.{answerOf, lengthOf, decided, replied, Replied}
 use Rattle.planes_sums.specs.Words.{sampleWords}
-use Rattle.planes_samples.specs.Stream as Planes
+use Rattle.planes_samples.specs.Contracts as Planes
 use Rattle.planes_samples.specs.Sampling.{taken}
-use Rattle.planes.specs.Reply.{leftBy}
+use Rattle.planes.specs.Contracts.{leftBy}
 use Rattle.job_requests.specs.declared.Request.{Request}
 use Rattle.job_requests.specs.declared.Request.the-variants.{Refused, Locate, Velocity, Streamline, Rake, Section, Statistics, Integrals, Probe}
 use Rattle.job_requests.specs.Bounds.{Allowed}
 use Rattle.job_room.specs.Room.{Room, flat, solid}
 use Rattle.job_room.specs.declared.Place.{Place}
 use Rattle.job_room.specs.declared.Place.the-variants.{Flat, Solid}
-use Rattle.job_room.specs.Stands.{roomIn, countsIn, Servable, Stands}
+use Rattle.job_room.specs.Contracts.{roomIn, countsIn, Servable, Stands}
 use Rattle.job_requests.proofs.Request.{the-type}
 use types.Run.{OneOf}
 use denote.Enum.Declared.{tagOf}
 use Rattle.job_serve.specs.Serve.{foundWords, velocityWords, serveFlat, serveSolid, serve}
-use Rattle.job_serve.specs.Left.{leftUnder}
+use Rattle.job_serve.specs.Contracts.{leftUnder}
 
 -- ---- an answer, or a refusal, that is decided before any value is read
 

@@ -1,2 +1,2 @@
 pub mod Serve
-pub mod Left
+pub mod Contracts

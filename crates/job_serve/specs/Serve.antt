@@ -13,7 +13,7 @@ use Rattle.lines_velocity.specs.Velocity.{locateIn, velocityAt}
 use Rattle.lines.specs.Line.{integrate}
 use Rattle.lines.specs.Rake.{integrateRake}
 use Rattle.answers.specs.Words.{vecWords}
-use Rattle.answers.specs.Reply.{decided}
+use Rattle.answers.specs.Contracts.{decided}
 use Rattle.planes.specs.Answers.{sectionOf, statisticsOf, integralsOf, probeOf}
 use Rattle.job_requests.specs.declared.Request.{Request}
 use Rattle.job_requests.specs.declared.Request.the-variants.{Refused, Locate, Velocity, Streamline, Rake, Section, Statistics, Integrals, Probe}

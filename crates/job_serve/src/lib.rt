@@ -19,17 +19,17 @@ ghost use lib.ListN.{length};
 ghost use lib.Seq.{sets};
 ghost use lib.Ieee.{Float};
 ghost use Rattle.reading.specs.declared.Values.{Values};
-ghost use Rattle.answers.specs.Reply.{Replied};
+ghost use Rattle.answers.specs.Contracts.{Replied};
 ghost use Rattle.mesh_area.specs.Layout.{pointsIn, meshIn};
 ghost use Rattle.case_file.specs.Field.{valuesOf};
-ghost use Rattle.lines_velocity.specs.Ready.{tracerField, Locatable, Ready};
-ghost use Rattle.planes_samples.specs.Stream as Planes;
+ghost use Rattle.lines_velocity.specs.Contracts.{tracerField, Locatable, Ready};
+ghost use Rattle.planes_samples.specs.Contracts as Planes;
 ghost use Rattle.job_requests.specs.declared.Request.the-variants as Code;
 ghost use Rattle.job_requests.specs.Bounds.{Allowed};
 ghost use Rattle.job_room.specs.Room.{solid};
-ghost use Rattle.job_room.specs.Stands.{roomIn, countsIn, Stands};
+ghost use Rattle.job_room.specs.Contracts.{roomIn, countsIn, Stands};
 ghost use Rattle.job_serve.specs.Serve as Serve;
-ghost use Rattle.job_serve.specs.Left.{leftUnder};
+ghost use Rattle.job_serve.specs.Contracts.{leftUnder};
 
 // The cell, or 2^64-1 for none.
 fn put_found(r: Found, out: &mut [u64])

@@ -24,12 +24,12 @@ use Rattle.reading.specs.Result.{Result, fine, refused, refuse}
 use Rattle.lines_locate.specs.Field.{StreamlineField}
 use Rattle.lines_velocity.specs.Velocity.{locateIn}
 use Rattle.answers.specs.declared.Answered.the-variants.{Words, Refused}
-use Rattle.answers.specs.Reply.{answerOf, lengthOf, decided, replied, Replied}
+use Rattle.answers.specs.Contracts.{answerOf, lengthOf, decided, replied, Replied}
 use Rattle.lines.specs.declared.StreamlineSettings.{StreamlineSettings}
 use Rattle.lines.specs.declared.Rake.{Rake}
 use Rattle.lines.specs.Line.{isNowhere, nowhere, lineAnswer}
 use Rattle.lines.specs.Rake.{seedAt, seeds, linesWords}
-use Rattle.lines.specs.Written.{Written}
+use Rattle.lines.specs.Contracts.{Written}
 use Rattle.answers.proofs.WordLaws.{sets-append, sets-set}
 use Rattle.lines.proofs.LineLaws.{give-then}
 

@@ -25,7 +25,7 @@ use Rattle.lines_step.specs.declared.StreamlineOptions.{StreamlineOptions}
 use Rattle.lines_step.specs.Step.{step}
 use Rattle.lines.specs.declared.StreamlineSettings.{StreamlineSettings}
 use Rattle.lines.specs.Line.{sign, signedStep, onward, lineFrom, pointsAfter, line, lineWords, lineAnswer}
-use Rattle.lines.specs.Written.{Drawn, Written}
+use Rattle.lines.specs.Contracts.{Drawn, Written}
 
 pub give-then : {A B : Type 0} (a : A) (k : A → Asks B) → (give a >>= k) ≡ k a
 unfolding _>>=_

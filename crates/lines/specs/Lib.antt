@@ -1,3 +1,3 @@
 pub mod Line
 pub mod Rake
-pub mod Written
+pub mod Contracts

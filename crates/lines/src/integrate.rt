@@ -11,8 +11,8 @@ use lines_velocity::interpolate;
 ghost use mathlib.Core.Path.{_≡_};
 ghost use Prim.Native.Nat.{_≤_};
 ghost use Rattle.case_file.specs.Field.{valuesOf};
-ghost use Rattle.answers.specs.Reply.{decided, Replied};
-ghost use Rattle.lines_velocity.specs.Ready.{tracerField, Locatable, Ready};
+ghost use Rattle.answers.specs.Contracts.{decided, Replied};
+ghost use Rattle.lines_velocity.specs.Contracts.{tracerField, Locatable, Ready};
 ghost use Rattle.lines.specs.Line as Line;
 
 // A finite length above 0.

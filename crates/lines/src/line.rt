@@ -7,9 +7,9 @@ use lines_velocity::Tracer;
 ghost use mathlib.Core.Path.{_≡_};
 ghost use Prim.Native.Nat.{_+_, _*_, _<_, _≤_};
 ghost use Rattle.case_file.specs.Field.{valuesOf};
-ghost use Rattle.lines_velocity.specs.Ready.{tracerField, Ready};
+ghost use Rattle.lines_velocity.specs.Contracts.{tracerField, Ready};
 ghost use Rattle.lines.specs.Line as Line;
-ghost use Rattle.lines.specs.Written.{Drawn, Written};
+ghost use Rattle.lines.specs.Contracts.{Drawn, Written};
 
 // The sign of a direction.
 fn sign(d: StreamlineDirection) -> f64

@@ -10,11 +10,11 @@ ghost use mathlib.Core.Path.{_≡_};
 ghost use Prim.Native.Nat.{_≤_, _<_, _*_, _+_};
 ghost use Rattle.arith.specs.Lists.{anyOf};
 ghost use Rattle.case_file.specs.Field.{valuesOf};
-ghost use Rattle.answers.specs.Reply.{decided, Replied};
-ghost use Rattle.lines_velocity.specs.Ready.{tracerField, Locatable, Ready};
+ghost use Rattle.answers.specs.Contracts.{decided, Replied};
+ghost use Rattle.lines_velocity.specs.Contracts.{tracerField, Locatable, Ready};
 ghost use Rattle.lines.specs.Line.{nowhere};
 ghost use Rattle.lines.specs.Rake as Rakes;
-ghost use Rattle.lines.specs.Written.{Written};
+ghost use Rattle.lines.specs.Contracts.{Written};
 
 // Seed i of a rake.
 fn seed_at(rake: Rake, i: usize) -> Vec3

@@ -12,7 +12,8 @@ use lib.Dec.{eqb, ltb, leb, lit≤}
 use lib.ListN.{length, getD, set}
 use lib.Seq.{getD-set-same, getD-set-other, take-set-le}
 use Rattle.arith.proofs.RecordLaws.{stride-le, lt-or-ge, same-below}
-use Rattle.lines_bins.specs.Index.{slotIn, reaches, inBin, place, poolIn, headIn, Same, PoolSet, FlagSet, Pushed, Chain, none, node, Chains, Ranged, Indexed, passed, within, Grown, Filled, Built}
+use Rattle.lines_bins.specs.Index.{slotIn, reaches, inBin, place, poolIn, headIn, Same, Chain, none, node, passed, within}
+use Rattle.lines_bins.specs.Contracts.{PoolSet, FlagSet, Pushed, Chains, Ranged, Indexed, Grown, Filled, Built}
 
 -- ---- the records
 

@@ -6,7 +6,8 @@ use arith::number::wide;
 ghost use mathlib.Core.Path.{_≡_};
 ghost use Prim.Native.Nat.{_+_, _*_, _≤_, _<_};
 ghost use lib.ListN.{length};
-ghost use Rattle.lines_bins.specs.Index.{slotIn, flagIn, poolIn, PoolSet, FlagSet, Pushed, Chains, Ranged, within, Grown, Filled, Built};
+ghost use Rattle.lines_bins.specs.Index.{slotIn, flagIn, poolIn, within};
+ghost use Rattle.lines_bins.specs.Contracts.{PoolSet, FlagSet, Pushed, Chains, Ranged, Grown, Filled, Built};
 
 // Word k of cell i's record.
 fn slot(words: &[u32], base: usize, i: usize, k: usize) -> usize

@@ -19,10 +19,10 @@ ghost use Rattle.arith.specs.Records.{puts};
 ghost use Rattle.mesh_area.specs.Tables.{cellAt};
 ghost use Rattle.mesh_area.specs.Layout.{floatsEnd, LentWords, LentFloats, pointsIn, meshIn, cellsIn};
 ghost use Rattle.lines_field.specs.Corners.{turnsAbout, cornersOf, polygonOf};
-ghost use Rattle.lines_field.specs.Field.{Few, polygonsOf};
+ghost use Rattle.lines_field.specs.Contracts.{Few, cornerIn, cornersIn, polygonsIn, AnglesAbout, Placed, Stored, Kept, LimitStored, Traceable};
+ghost use Rattle.lines_field.specs.Field.{polygonsOf};
 ghost use Rattle.lines_polygon.specs.Vertices.{pairsFrom};
-ghost use Rattle.lines_locate.specs.Layout.{Limited};
-ghost use Rattle.lines_field.specs.Layout.{cornerIn, cornersIn, polygonsIn, AnglesAbout, Placed, Stored, Kept, LimitStored, Traceable};
+ghost use Rattle.lines_locate.specs.Contracts.{Limited};
 
 // The quarters and slopes of the first n points about a centre.
 fn angles_about(

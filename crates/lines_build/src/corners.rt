@@ -12,7 +12,7 @@ ghost use Rattle.mesh_area.specs.Layout.{LentWords, pointsIn, cellsIn, meshIn};
 ghost use Rattle.lines_field.specs.Corners as Corners;
 ghost use Rattle.lines_locate.specs.Locate.{flat};
 ghost use Rattle.lines_field.specs.Corners.{addCorners, cornersOf};
-ghost use Rattle.lines_field.specs.Layout.{cornersIn, Collected};
+ghost use Rattle.lines_field.specs.Contracts.{cornersIn, Collected};
 ghost use Rattle.mesh_area.specs.Tables.{pointAt};
 
 // p and (x, y) are equal.

@@ -25,9 +25,10 @@ use Rattle.lines_field.specs.declared.Built.the-variants.{Made, Refused}
 use Rattle.lines_field.specs.Corners.{turnsAbout, cornersOf, polygonOf}
 use Rattle.lines_field.specs.Bounds.{boundsOf}
 use Rattle.lines_field.specs.Bins.{binCounts, listedIn}
-use Rattle.lines_field.specs.Field.{Few, polygonsOf, gridFor, gridOf, fieldOf, builtGrid}
-use Rattle.lines_locate.specs.Layout.{wordsAt, floatsAt, countIn, polygonIn, cellPolygonsIn, fieldIn, Searchable}
-use Rattle.lines_field.specs.Layout.{polygonsIn, cornerIn, cornersIn, Placed, Stored, Kept, Traceable}
+use Rattle.lines_field.specs.Contracts.{Few, polygonsIn, cornerIn, cornersIn, Placed, Stored, Kept, Traceable}
+use Rattle.lines_field.specs.Field.{polygonsOf, gridFor, gridOf, fieldOf, builtGrid}
+use Rattle.lines_locate.specs.Layout.{wordsAt, floatsAt, countIn, polygonIn, cellPolygonsIn, fieldIn}
+use Rattle.lines_locate.specs.Contracts.{Searchable}
 use Rattle.lines_polygon.specs.Vertices.{pairFrom, pairsFrom}
 use Rattle.lines_field.proofs.CornerLaws.{cell-corners-any}
 use Rattle.lines_field.proofs.GridLaws.{map-tab}

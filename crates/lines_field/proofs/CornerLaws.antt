@@ -21,7 +21,7 @@ use Rattle.mesh_area.specs.Layout.{facesIn, cellsIn, meshIn, faceIn, cellIn}
 use Rattle.mesh_area.proofs.LayoutLaws.{face-in, face-out, cell-in, cell-out}
 use Rattle.lines_locate.specs.Locate.{flat}
 use Rattle.lines_field.specs.Corners.{alike, addCorner, addCorners, cornersOf}
-use Rattle.lines_field.specs.Layout.{cornersIn, Collected}
+use Rattle.lines_field.specs.Contracts.{cornersIn, Collected}
 
 -- ---- the points collected so far
 

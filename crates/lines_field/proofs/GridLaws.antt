@@ -25,11 +25,12 @@ use Rattle.lines_locate.specs.declared.Grid.{Grid}
 use Rattle.lines_field.specs.declared.Built.{Built}
 use Rattle.lines_field.specs.declared.Built.the-variants.{Made, Refused}
 use Rattle.lines_field.specs.Bounds.{boundless, widened, boundsOf, lowCorner, highCorner}
-use Rattle.lines_locate.specs.Bins.{CellPolygon, Binned, binFor}
+use Rattle.lines_locate.specs.Bins.{CellPolygon, binFor}
+use Rattle.lines_locate.specs.Contracts.{Binned}
 use Rattle.lines_field.specs.Bins.{listedIn, areFlat, areMany}
 use Rattle.lines_field.specs.Field.{gridFor, builtGrid}
 use Rattle.lines_locate.specs.Layout.{wordsAt, floatsAt, countIn, polygonIn, binFrom, cellPolygonIn, cellPolygonsIn}
-use Rattle.lines_field.specs.Layout.{polygonsIn, Listed}
+use Rattle.lines_field.specs.Contracts.{polygonsIn, Listed}
 use Rattle.lines_polygon.specs.Vertices.{pairFrom, pairsFrom}
 use Rattle.lines_polygon.proofs.Laws.{length-pairs, pairs-at}
 

@@ -17,8 +17,9 @@ use Rattle.lines_polygon.specs.declared.Limits.{Limits}
 use Rattle.lines_polygon.specs.Vertices.{pairFrom, pairsFrom}
 use Rattle.lines_polygon.specs.Extent.{Outside, limitsFrom, limitsOf}
 use Rattle.lines_polygon.proofs.LimitLaws.{limits-outside}
-use Rattle.lines_locate.specs.Layout.{wordsAt, floatsAt, countIn, polygonIn, Limited}
-use Rattle.lines_field.specs.Layout.{polygonsIn, Kept, LimitStored}
+use Rattle.lines_locate.specs.Layout.{wordsAt, floatsAt, countIn, polygonIn}
+use Rattle.lines_locate.specs.Contracts.{Limited}
+use Rattle.lines_field.specs.Contracts.{polygonsIn, Kept, LimitStored}
 
 -- ---- a cell
 

@@ -24,7 +24,7 @@ use Rattle.arith.proofs.RecordLaws.{length-tab, tab-next, tab-same}
 use Rattle.arith.proofs.SortLaws.{sort-snoc, length-sort, all-insert, map-sort}
 use Rattle.arith_angles.proofs.PlaceLaws.{place-below}
 use Rattle.lines_field.specs.Corners.{about, turnsAbout}
-use Rattle.lines_field.specs.Layout.{cornerIn, cornersIn, AnglesAbout}
+use Rattle.lines_field.specs.Contracts.{cornerIn, cornersIn, AnglesAbout}
 use Rattle.lines_polygon.specs.Vertices.{pairFrom, pairsFrom}
 use Rattle.lines_field.proofs.GridLaws.{map-tab}
 

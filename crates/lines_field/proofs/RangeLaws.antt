@@ -10,13 +10,15 @@ use lib.Ieee.{Float}
 use Rattle.arith.proofs.RecordLaws.{tab-same, getD-tab}
 use Rattle.mesh_area.specs.declared.Sizes.{Sizes}
 use Rattle.mesh_area.specs.Layout.{wordsEnd, LentWords}
-use Rattle.lines_bins.specs.Index.{slotIn, Ranged, Built}
+use Rattle.lines_bins.specs.Index.{slotIn}
+use Rattle.lines_bins.specs.Contracts.{Ranged, Built}
 use Rattle.lines_bins.proofs.Laws.{bin-low}
 use Rattle.lines_locate.specs.declared.Grid.{Grid}
-use Rattle.lines_locate.specs.Bins.{CellPolygon, Binned, binAlong, binFor}
+use Rattle.lines_locate.specs.Bins.{CellPolygon, binAlong, binFor}
+use Rattle.lines_locate.specs.Contracts.{Binned, Limited, Searchable}
 use Rattle.lines_field.specs.Bins.{listedIn}
-use Rattle.lines_locate.specs.Layout.{binFrom, polygonIn, cellPolygonIn, cellPolygonsIn, Limited, Searchable}
-use Rattle.lines_field.specs.Layout.{polygonsIn}
+use Rattle.lines_locate.specs.Layout.{binFrom, polygonIn, cellPolygonIn, cellPolygonsIn}
+use Rattle.lines_field.specs.Contracts.{polygonsIn}
 use Rattle.lines_field.proofs.LimitLaws.{limited-words}
 use Rattle.lines_field.proofs.GridLaws.{cellPolygon-same, map-tab}
 use Rattle.lines_locate.proofs.IndexLaws.{last-slot}

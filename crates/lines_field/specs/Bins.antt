@@ -1,6 +1,5 @@
 -- How many bins a field has, and which of them list a cell. "19 a bin count above 65,536 (added)"
-use Prim.Native.Nat.{ℕ, _<_, max}
-use mathlib.Core.Path.{_≡_}
+use Prim.Native.Nat.{ℕ, max}
 use mathlib.Core.Bool.{Bool, not, _&&_, _||_}
 use mathlib.Core.List.{List}
 use lib.Dec.{ltb}
@@ -39,9 +38,3 @@ areFlat b =
 -- 19 "a bin count above 65,536"
 unfoldable pub areMany : Bin → Bool
 areMany n = ltb 65536 (n .x) || ltb 65536 (n .y)
-
--- what `bin_counts` promises
-pub record Counted (cells : ℕ) (b : Box) (n : Bin) : Type 0 where
-  pub counts : n ≡ binCounts cells b
-  pub wide : 0 < n .x
-  pub high : 0 < n .y

@@ -1,17 +1,17 @@
 -- `StreamlineField::from_dataset`, with the refusals 18 and 19.
-use Prim.Native.Nat.{ℕ, _≤_}
+use Prim.Native.Nat.{ℕ}
 use mathlib.Core.List.{List, map}
 use lib.ListN.{length}
 use Rattle.arith.specs.Lists.{flatten}
 use Rattle.arith.specs.declared.Vec2.{Vec2}
 use Rattle.reading.specs.Result.{Result, refused, fine, refuse, _>>=_}
-use Rattle.mesh_area.specs.Tables.{Mesh, cellAt}
+use Rattle.mesh_area.specs.Tables.{Mesh}
 use Rattle.lines_locate.specs.declared.Box.{Box}
 use Rattle.lines_locate.specs.declared.Bin.{Bin}
 use Rattle.lines_locate.specs.declared.Grid.{Grid}
 use Rattle.lines_field.specs.declared.Built.{Built}
 use Rattle.lines_field.specs.declared.Built.the-variants.{Made, Refused}
-use Rattle.lines_field.specs.Corners.{cornersOf, polygonOf}
+use Rattle.lines_field.specs.Corners.{polygonOf}
 use Rattle.lines_field.specs.Bounds.{boundsOf}
 use Rattle.lines_locate.specs.Field.{StreamlineField}
 use Rattle.lines_field.specs.Bins.{listedIn, binCounts, areFlat, areMany}
@@ -38,7 +38,3 @@ fieldOf m =
 unfoldable pub builtGrid : Built → Result Grid
 builtGrid (Made g) = fine g
 builtGrid (Refused n) = refused n
-
--- what the mesh promises of a 2D case: "0 has a count (at most 24)"
-pub record Few (m : Mesh) : Type 0 where
-  pub corners : (i : ℕ) → length (cornersOf m (cellAt (m .cells) i)) ≤ 24

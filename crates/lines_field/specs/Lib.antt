@@ -2,4 +2,4 @@ pub mod Corners
 pub mod Bounds
 pub mod Bins
 pub mod Field
-pub mod Layout
+pub mod Contracts

@@ -16,11 +16,11 @@ ghost use lib.ListN.{length, take};
 ghost use Rattle.arith.specs.Records.{puts};
 ghost use Rattle.mesh_area.specs.Layout.{wordsEnd, LentWords, LentFloats};
 ghost use Rattle.lines_field.specs.Bins as Bins;
-ghost use Rattle.lines_locate.specs.Bins.{Binned};
-ghost use Rattle.lines_field.specs.Bins.{listedIn, Counted};
+ghost use Rattle.lines_locate.specs.Contracts.{Binned, Limited, Searchable};
+ghost use Rattle.lines_field.specs.Bins.{listedIn};
+ghost use Rattle.lines_field.specs.Contracts.{Counted, polygonsIn, Listed};
 ghost use Rattle.lines_field.specs.Field.{gridFor, builtGrid};
-ghost use Rattle.lines_locate.specs.Layout.{cellPolygonsIn, Limited, Searchable};
-ghost use Rattle.lines_field.specs.Layout.{polygonsIn, Listed};
+ghost use Rattle.lines_locate.specs.Layout.{cellPolygonsIn};
 
 // At least 1.
 fn at_least_one(n: usize) -> usize

@@ -11,7 +11,7 @@ ghost use Rattle.mesh_area.specs.Layout.{LentWords, LentFloats};
 ghost use Rattle.lines_field.specs.Bounds as Bounds;
 ghost use Rattle.lines_field.specs.Bounds.{boundsOf};
 ghost use Rattle.lines_polygon.specs.Vertices.{pairsFrom};
-ghost use Rattle.lines_field.specs.Layout.{polygonsIn};
+ghost use Rattle.lines_field.specs.Contracts.{polygonsIn};
 
 // The box about no point.
 pub fn boundless() -> Box

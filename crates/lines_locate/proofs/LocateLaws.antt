@@ -20,7 +20,8 @@ use Rattle.lines_polygon.specs.declared.Limits.{Limits}
 use Rattle.lines_polygon.specs.Contains.{contains}
 use Rattle.lines_polygon.specs.Extent.{limitsFrom, misses}
 use Rattle.lines_polygon.proofs.LimitLaws.{missed}
-use Rattle.lines_locate.specs.Layout.{floatsAt, polygonIn, cellPolygonIn, cellPolygonsIn, Limited}
+use Rattle.lines_locate.specs.Layout.{floatsAt, polygonIn, cellPolygonIn, cellPolygonsIn}
+use Rattle.lines_locate.specs.Contracts.{Limited}
 
 pub bin-of : (low high a z : Float) (n k : ℕ) → z ≡ clamp ((a ⊖ low) ⊘ (high ⊖ low)) → k ≡ floorℕ (z ⊗ ofℕ n) → k % n ≡ binAlong low high n a
 unfolding binAlong

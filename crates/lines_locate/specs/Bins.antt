@@ -1,5 +1,5 @@
 -- The bins of a grid, and the bins that a cell is listed in.
-use Prim.Native.Nat.{ℕ, _%_, _<_, _≤_}
+use Prim.Native.Nat.{ℕ, _%_}
 use mathlib.Core.Bool.{Bool, _&&_}
 use mathlib.Core.List.{List}
 use lib.Ieee.{Float}
@@ -30,10 +30,3 @@ pub record CellPolygon : Type 0 where
 -- the cell is listed in bin b
 unfoldable pub isListed : Bin → CellPolygon → Bool
 isListed b c = reaches (c .first .x) (c .last .x) (b .x) && reaches (c .first .y) (c .last .y) (b .y)
-
--- what `bin_for` needs of a grid
-pub record Binned (g : Grid) : Type 0 where
-  pub wide : 0 < g .bins .x
-  pub high : 0 < g .bins .y
-  pub few-wide : g .bins .x ≤ 65536
-  pub few-high : g .bins .y ≤ 65536

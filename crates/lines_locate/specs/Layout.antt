@@ -1,8 +1,7 @@
 -- Where the tracer's part of the work area holds the polygons, and what `locate_cell` needs of it.
 -- Words: cell i from 16F + 8C + 8i on: its first bin x, y, its last bin x, y, its vertex count; from 16F + 16C on the index of the bins, where
 -- it fits. Floats: from 12F + 4C + 60i on the x and y of its vertices, of which at most 24 are read, and from the 49th on its limits.
-use Prim.Native.Nat.{ℕ, _+_, _*_, _<_, min}
-use mathlib.Core.Path.{_≡_}
+use Prim.Native.Nat.{ℕ, _+_, _*_, min}
 use mathlib.Core.List.{List}
 use lib.ListN.{getD}
 use lib.Ieee.{Float}
@@ -10,12 +9,10 @@ use Rattle.arith.specs.Records.{tab}
 use Rattle.arith.specs.declared.Vec2.{Vec2}
 use Rattle.mesh_area.specs.declared.Sizes.{Sizes}
 use Rattle.mesh_area.specs.Layout.{wordsEnd, floatsEnd, cellsIn}
-use Rattle.lines_bins.specs.Index.{flagIn, Indexed}
 use Rattle.lines_polygon.specs.Vertices.{pairsFrom}
-use Rattle.lines_polygon.specs.Extent.{Outside, limitsFrom}
 use Rattle.lines_locate.specs.declared.Bin.{Bin}
 use Rattle.lines_locate.specs.declared.Grid.{Grid}
-use Rattle.lines_locate.specs.Bins.{CellPolygon, Binned}
+use Rattle.lines_locate.specs.Bins.{CellPolygon}
 use Rattle.lines_locate.specs.Field.{StreamlineField}
 
 -- where cell i's words start
@@ -54,15 +51,3 @@ cellPolygonsIn s words floats = tab (cellPolygonIn s words floats) (s .cells)
 -- the field that the area holds, whatever stands there
 unfoldable pub fieldIn : Grid → Sizes → List ℕ → List Float → StreamlineField
 fieldIn g s words floats = record { polygons = cellPolygonsIn s words floats; cells = cellsIn s words floats; grid = g }
-
--- ---- what `locate_cell` needs
-
--- no polygon contains a point outside of the limits that stand with it
-pub record Limited (s : Sizes) (words : List ℕ) (floats : List Float) : Type 0 where
-  pub each : (i : ℕ) → i < s .cells → Outside (polygonIn s words floats i) (limitsFrom floats (floatsAt s i + 48))
-
--- a grid with bins; the index, where it stands, lists the cells of each bin; the polygons have limits
-pub record Searchable (g : Grid) (s : Sizes) (words : List ℕ) (floats : List Float) : Type 0 where
-  pub binned : Binned g
-  pub index : 0 < s .cells → flagIn words (wordsEnd s) (s .cells) ≡ 1 → Indexed words (wordsEnd s) (s .cells) (g .bins .x) (g .bins .y)
-  pub limits : Limited s words floats

@@ -10,7 +10,7 @@ ghost use mathlib.Core.Path.{_≡_};
 ghost use Rattle.reading.specs.Served.{Served};
 ghost use Rattle.case_file.specs.Field.{valuesOf};
 ghost use Rattle.lines_velocity.specs.Velocity.{directionAt};
-ghost use Rattle.lines_velocity.specs.Ready.{tracerField, Ready};
+ghost use Rattle.lines_velocity.specs.Contracts.{tracerField, Ready};
 ghost use Rattle.lines_step.specs.RungeKutta as RungeKutta;
 ghost use Rattle.lines_step.specs.Step as Steps;
 

@@ -26,7 +26,7 @@ use Rattle.lines_velocity.specs.declared.Tracer.{Tracer}
 use Rattle.lines_velocity.specs.declared.Vector.{Vector}
 use Rattle.lines_velocity.specs.declared.Vector.the-variants.{Here, Nowhere}
 use Rattle.lines_velocity.specs.Velocity.{locateIn, centreOf, neighboursOf, distanceSquared, nearerOf, nearestOf, blended, apart, besideIf, beside, besideNearest, toward, velocityIn, velocityWhere, velocityAt, from, unit}
-use Rattle.lines_velocity.specs.Ready.{tracerField}
+use Rattle.lines_velocity.specs.Contracts.{tracerField}
 
 -- ---- what was found, and what was not
 

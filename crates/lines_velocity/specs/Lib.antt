@@ -1,2 +1,2 @@
 pub mod Velocity
-pub mod Ready
+pub mod Contracts

@@ -16,7 +16,7 @@ ghost use Rattle.case_file.specs.Trailer.{opened};
 ghost use Rattle.case_file.specs.Field.{valuesOf};
 ghost use Rattle.mesh_area.specs.Layout.{LentWords, LentFloats, cellsIn};
 ghost use Rattle.lines_velocity.specs.Velocity as Velocity;
-ghost use Rattle.lines_velocity.specs.Ready.{tracerField, Locatable, Ready};
+ghost use Rattle.lines_velocity.specs.Contracts.{tracerField, Locatable, Ready};
 
 // The squared distance of cell i's centre from p.
 fn distance_squared(floats: &[f64], s: Sizes, p: Vec3, i: usize) -> f64

@@ -25,7 +25,7 @@ use Rattle.mesh_points.specs.Collect.{wrongKind}
 use Rattle.mesh_cells.specs.Cells.{Draft, Drafts, drafts}
 use Rattle.lines_locate.specs.Locate.{flat}
 use Rattle.lines_field.specs.Corners.{alike, addCorner, addCorners, cornersOf}
-use Rattle.lines_field.specs.Field.{Few}
+use Rattle.lines_field.specs.Contracts.{Few}
 use Rattle.lines_vertices.specs.Shapes.{keyIn, Naming, Named, Over}
 use Rattle.lines_vertices.proofs.TableLaws.{all-at, AllFaces}
 use Rattle.lines_vertices.proofs.CellLaws.{cells-named, all-two}

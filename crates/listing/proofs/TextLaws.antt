@@ -12,7 +12,7 @@ use lib.Seq.{sets, length-sets, set-out, drop-cons, drop-drop, take-nil, drop-ni
 use lib.Dec.{eqb}
 use borrow.Author.Tests.{eq-eqb, ne-eqb}
 use Rattle.listing.specs.Listing.{decimalText, hexText, wordsText, answerText, answersText, marksFrom, marksText, doneText, refusedText}
-use Rattle.listing.specs.Written.{endIn, Written, Listed}
+use Rattle.listing.specs.Contracts.{endIn, Written, Listed}
 
 pub unwritten : (l : List ℕ) (i b : ℕ) → length l ≤ i → l ≡ set l i b
 unwritten l i b h = sym (set-out l i b h)

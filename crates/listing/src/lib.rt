@@ -3,7 +3,7 @@ ghost use Prim.Native.Nat.{_+_, min};
 ghost use mathlib.Core.Path.{_≡_};
 ghost use lib.ListN.{length, set};
 ghost use Rattle.listing.specs.Listing.{decimalText, hexText, wordsText, answerText, answersText, marksText, doneText, refusedText};
-ghost use Rattle.listing.specs.Written.{endIn, Written, Listed};
+ghost use Rattle.listing.specs.Contracts.{endIn, Written, Listed};
 
 // Byte `at` of the text, where there is one. Where the next one goes: no further than one past the end.
 fn put(text: &mut [u8], at: usize, b: u8) -> usize

@@ -13,8 +13,8 @@ use Rattle.arith.specs.declared.Vec3.{Vec3}
 use Rattle.reading.specs.Result.{Result, refused, fine, _>>=_, refuse, mapAll}
 use Rattle.case_definitions.specs.Faces.{Definition, faceCount, addFaceCount, facesCounted}
 use Rattle.case_definitions.specs.Definitions.{definitions}
-use Rattle.case_file.specs.Trailer.{opened, openedCase, wordsOf}
-use Rattle.case_definitions.specs.Walker.{walked}
+use Rattle.case_file.specs.Trailer.{opened, openedCase, wordsOf, wordsFrom, wordsIn}
+use Rattle.case_definitions.specs.Contracts.{walked}
 use Rattle.case_file.specs.declared.Counts.{Counts}
 use Rattle.case_file.specs.declared.Opened.{Opened}
 use Rattle.case_file.specs.declared.Opened.the-variants as Opened
@@ -25,15 +25,16 @@ use Rattle.mesh_area.specs.Tables.{Face, Cell, Mesh}
 use Rattle.mesh_area.specs.Layout.{facesIn, cellsIn, meshIn, LentWords, LentFloats, pointsIn}
 use Rattle.mesh_area.proofs.LayoutLaws.{length-facesIn, length-cellsIn, mesh-same}
 use Rattle.mesh_orientation.specs.Orientation.{misplaced}
-use Rattle.mesh_neighbours.specs.Neighbours.{linked, Linked}
+use Rattle.mesh_neighbours.specs.Neighbours.{linked}
+use Rattle.mesh_neighbours.specs.Contracts.{Linked, Laid}
 use Rattle.mesh_connection.specs.Connection.{connectedCells}
-use Rattle.mesh_connection.specs.Search.{Connected}
+use Rattle.mesh_connection.specs.Contracts.{Connected}
 use Rattle.mesh.specs.Mesh.{joined}
-use Rattle.mesh.specs.Case.{surveyOf, areaShort, meshOf, caseFaces, meshFrom, Surveying, surveyed, refusing, builtAs, sizesFor, LaidOut, Building}
+use Rattle.mesh.specs.Case.{surveyOf, areaShort, meshOf, caseFaces, meshFrom}
+use Rattle.mesh.specs.Contracts.{Surveying, surveyed, refusing, builtAs, sizesFor, LaidOut, Building, draftsHeld}
 use Rattle.arith.specs.Bytes.{le32}
 use Rattle.arith.specs.F64.{within}
 use Rattle.reading.proofs.ResultLaws.{bound}
-use Rattle.case_file.specs.Trailer.{wordsFrom, wordsIn}
 use Rattle.arith.specs.Records.{part}
 use Rattle.arith.proofs.RecordLaws.{tab-same}
 use Rattle.case_file.specs.Field.{outside}
@@ -42,11 +43,11 @@ use Rattle.case_definitions.proofs.Walking.{words-part}
 use Rattle.case_definitions.proofs.RecordLaws.{definition-read}
 use Rattle.case_file.proofs.ReadLaws.{length-readAll}
 use Rattle.case_file.proofs.TrailerLaws.{opens}
-use Rattle.mesh_neighbours.specs.Neighbours.{Laid}
-use Rattle.mesh_faces.specs.Using.{sized}
+use Rattle.mesh_faces.specs.Contracts.{sized}
 use Rattle.mesh_cells.specs.Cells.{Draft, Drafts, drafts}
-use Rattle.mesh_cells.specs.Drafting as cells
-use Rattle.mesh_cells.specs.Drafting.{draftIn, draftsIn, Lists, Held, Adding, added}
+use Rattle.mesh_cells.specs.Contracts as cells
+use Rattle.mesh_cells.specs.Partial.{draftIn, draftsIn}
+use Rattle.mesh_cells.specs.Contracts.{Lists, Held, Adding, added}
 use Rattle.mesh_cells.specs.declared.Drafted.{Drafted}
 use Rattle.mesh_cells.specs.declared.Drafted.the-variants as Drafted
 use Rattle.mesh_centres.specs.Finish.{finished, finishedAs}
@@ -54,7 +55,6 @@ use Rattle.mesh_centres.specs.declared.Finished.{Finished}
 use Rattle.mesh_centres.specs.declared.Finished.the-variants as Finished
 use Rattle.mesh_coordinates.specs.Coordinates.{acceptable, acceptedAs}
 use Rattle.mesh.specs.Mesh.{completed, filled, fromCells}
-use Rattle.mesh.specs.Steps.{draftsHeld}
 use Rattle.mesh.specs.declared.Surveyed.{Surveyed}
 use Rattle.mesh.specs.declared.Surveyed.the-variants as Surveyed
 use Rattle.mesh.specs.declared.Built.{Built}

@@ -1,3 +1,3 @@
 pub mod Mesh
 pub mod Case
-pub mod Steps
+pub mod Contracts

@@ -11,18 +11,17 @@ ghost use mathlib.Core.Path.{_≡_};
 ghost use Prim.Native.Nat.{_+_, _*_, _<_};
 ghost use lib.ListN.{length};
 ghost use Rattle.mesh_area.specs.Layout.{pointsIn};
-ghost use Rattle.case_file.specs.Trailer.{wordsIn};
+ghost use Rattle.case_file.specs.Trailer.{wordsIn, countsOf, wordsOf};
 ghost use mathlib.Core.List.{List};
 ghost use Rattle.arith.specs.declared.Vec3.{Vec3};
 ghost use Rattle.mesh_area.specs.Layout.{facesIn, cellsIn};
 ghost use Rattle.reading.specs.Result.{fine};
 ghost use Rattle.case_definitions.specs.Faces.{Definition, facesCounted};
 ghost use Rattle.case_definitions.specs.Definitions.{definitions};
-ghost use Rattle.case_file.specs.Trailer.{countsOf, wordsOf};
-ghost use Rattle.mesh_cells.specs.Steps.{Addable};
+ghost use Rattle.mesh_cells.specs.Contracts.{Addable};
 ghost use Rattle.mesh.specs.Mesh.{joined, completed, filled, fromCells};
-ghost use Rattle.mesh.specs.Case.{Surveying, Building, surveyOf, areaShort, caseFaces, meshFrom};
-ghost use Rattle.mesh.specs.Steps.{Joinable, Completable, Buildable, draftsHeld};
+ghost use Rattle.mesh.specs.Contracts.{Surveying, Building, Joinable, Completable, Buildable, draftsHeld};
+ghost use Rattle.mesh.specs.Case.{surveyOf, areaShort, caseFaces, meshFrom};
 
 // The counts of a case and the number of faces of all its definitions, or refusal 1, 2 or 3.
 pub enum Surveyed {

@@ -11,17 +11,18 @@ use Rattle.mesh_area.specs.declared.Sizes.{Sizes}
 use Rattle.mesh_area.specs.Layout.{facesIn}
 use Rattle.mesh_area.proofs.LayoutLaws.{length-facesIn}
 use Rattle.mesh_geometry.specs.Faces.{orientedFace}
-use Rattle.mesh_geometry.specs.Answers.{faceOf, Turning}
+use Rattle.mesh_geometry.specs.Contracts.{faceOf, Turning}
 use Rattle.mesh_geometry.specs.declared.FaceGeometry.{FaceGeometry}
 use Rattle.mesh_geometry.specs.declared.TurnedFace.{TurnedFace}
 use Rattle.mesh_geometry.specs.declared.TurnedFace.the-variants as Turned
 use Rattle.mesh_faces.specs.Table.{Placed, placed, addFace}
-use Rattle.mesh_faces.specs.Using.{sized, after, Usable, Used}
+use Rattle.mesh_faces.specs.Contracts.{sized, after, Usable, Used}
 use Rattle.mesh_faces.specs.declared.Added.{Added}
 use Rattle.mesh_faces.specs.declared.Added.the-variants.{New, Second, Third}
 use Rattle.mesh_faces.proofs.AnswerLaws.{new-number, second-number}
-use Rattle.mesh_cell_parts.specs.Parts as Parts
-use Rattle.mesh_cell_parts.specs.Parts.{measuredFrom, Growing, addFaceOf, Placing}
+use Rattle.mesh_cell_parts.specs.Contracts as Contracts
+use Rattle.mesh_cell_parts.specs.Parts.{measuredFrom, Growing, addFaceOf}
+use Rattle.mesh_cell_parts.specs.Contracts.{Placing}
 use Rattle.mesh_cell_parts.specs.declared.NewCell.{NewCell}
 use Rattle.mesh_cell_parts.specs.declared.FacePlaced.the-variants as FacePlaced
 
@@ -31,7 +32,7 @@ module _ (d : ℕ) (ps : List Vec3) (cell : NewCell) (s : Sizes) (words : List �
   unfolding addFaceOf faceOf _>>=_
   place-degenerate e =
       let o : orientedFace d ps (cell .reference) vertices ≡ refused 13 = sym (t .face) ∙ ap (faceOf vertices′) e in
-      Parts.Placing.refusing 13 (λ g eg. rw o)
+      Contracts.Placing.refusing 13 (λ g eg. rw o)
 
   module _ (g : FaceGeometry) (e : r ≡ Turned.Face g) (words′ : List ℕ) (floats′ : List Float) (a : Added) (u : Used s words words′ floats floats′ vertices′ g (cell .number) a) where
     abbrev own : Growing → Placed → Result Growing
@@ -48,7 +49,7 @@ module _ (d : ℕ) (ps : List Vec3) (cell : NewCell) (s : Sizes) (words : List �
     unfolding placed _>>=_
     place-new f ea =
         let n = new-number (cell .number) (facesIn s words floats) f vertices′ g (sym ea ∙ u .answer) in
-        Parts.Placing.placed f _ (λ l. rw ea at (whole (record { faces = facesIn s words floats; own = l }) refl))
+        Contracts.Placing.placed f _ (λ l. rw ea at (whole (record { faces = facesIn s words floats; own = l }) refl))
         (record {
           chained = rw ea at (u .chained);
           more = omega arith;
@@ -61,7 +62,7 @@ module _ (d : ℕ) (ps : List Vec3) (cell : NewCell) (s : Sizes) (words : List �
     unfolding placed _>>=_
     place-second f ea =
         let n = second-number (cell .number) (facesIn s words floats) f vertices′ g (sym ea ∙ u .answer) in
-        Parts.Placing.placed f _ (λ l. rw ea at (whole (record { faces = facesIn s words floats; own = l }) refl))
+        Contracts.Placing.placed f _ (λ l. rw ea at (whole (record { faces = facesIn s words floats; own = l }) refl))
         (record {
           chained = rw ea at (u .chained);
           more = omega arith;
@@ -72,7 +73,7 @@ module _ (d : ℕ) (ps : List Vec3) (cell : NewCell) (s : Sizes) (words : List �
 
     pub place-third : a ≡ Third → Placing d ps cell s words words′ floats floats′ vertices (FacePlaced.Refused 14)
     unfolding placed _>>=_
-    place-third ea = Parts.Placing.refusing 14 (λ w ew. rw ea at (whole w ew))
+    place-third ea = Contracts.Placing.refusing 14 (λ w ew. rw ea at (whole w ew))
 
 -- what the table asks of a face that is turned
 pub usable : (s : Sizes) (words : List ℕ) (floats : List Float) (vertices vertices′ : List ℕ) (cell : ℕ) → Usable s words floats vertices cell

@@ -7,8 +7,8 @@ use mesh_geometry::TurnedFace;
 ghost use Prim.Native.Nat.{_+_, _*_, _≤_, _<_};
 ghost use lib.ListN.{length};
 ghost use Rattle.mesh_area.specs.Layout.{pointsIn};
-ghost use Rattle.mesh_faces.specs.Using.{Usable};
-ghost use Rattle.mesh_cell_parts.specs.Parts.{Placing, CellPut};
+ghost use Rattle.mesh_faces.specs.Contracts.{Usable};
+ghost use Rattle.mesh_cell_parts.specs.Contracts.{Placing, CellPut};
 
 // A face's number and the number of faces in the table, or the refusal.
 pub enum FacePlaced {

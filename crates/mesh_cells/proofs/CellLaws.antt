@@ -19,7 +19,7 @@ use Rattle.reading.specs.Result.{refused, fine, _>>=_, refuse, steps}
 use Rattle.reading.proofs.ResultLaws.{steps-next, steps-refused}
 use Rattle.case_definitions.specs.Faces.{Definition, polygon, facesOf, faceCount, addFaceCount, facesCounted}
 use Rattle.case_definitions.specs.Definitions.{definition, definitions}
-use Rattle.case_definitions.specs.Walker.{readOf, definitionAt, headOf, stepAt}
+use Rattle.case_definitions.specs.Contracts.{readOf, definitionAt, headOf, stepAt}
 use Rattle.case_definitions.specs.declared.Head.{Head}
 use Rattle.case_definitions.specs.declared.Cursor.{Cursor}
 use Rattle.case_definitions.specs.declared.Step.the-variants.{Record, Wrong}
@@ -30,18 +30,19 @@ use Rattle.mesh_area.specs.declared.Sizes.{Sizes}
 use Rattle.mesh_area.specs.Layout.{listAt, vecFrom, facesIn, meshWords}
 use Rattle.mesh_face_table.specs.Chains.{Chained}
 use Rattle.mesh_face_table.proofs.RecordParts.{read-count}
-use Rattle.mesh_faces.specs.Using.{sized}
+use Rattle.mesh_faces.specs.Contracts.{sized}
 use Rattle.mesh_faces.proofs.AreaLaws.{chained-kept, faces-kept}
 use Rattle.mesh_points.specs.Collect.{wrongKind, missing, checked, referenceCase}
 use Rattle.mesh_points.specs.declared.Reference.{Reference}
 use Rattle.mesh_points.specs.declared.Reference.the-variants as Reference
-use Rattle.mesh_cell_parts.specs.Parts.{addFaceOf, CellPut}
+use Rattle.mesh_cell_parts.specs.Parts.{addFaceOf}
+use Rattle.mesh_cell_parts.specs.Contracts.{CellPut}
 use Rattle.mesh_cell_parts.specs.declared.NewCell.{NewCell}
 use Rattle.mesh_cells.specs.Cells.{Draft, Drafts, addCell, drafts}
-use Rattle.mesh_cells.specs.Drafting as Drafting
-use Rattle.mesh_cells.specs.Drafting.{cellWord, draftIn, draftsIn, Lists, Adding}
-use Rattle.mesh_cells.specs.Steps as Steps
-use Rattle.mesh_cells.specs.Steps.{growingIn, addFaces, Listed, FacesReady, FacesAdding, CellReady, CellStored, CellFilling, CellFinding, Filled, read, definedIn, Addable, CellTurn, CellAdding}
+use Rattle.mesh_cells.specs.Contracts as Contracts
+use Rattle.mesh_cells.specs.Partial.{cellWord, draftIn, draftsIn}
+use Rattle.mesh_cells.specs.Contracts.{Lists, Adding, growingIn, addFaces, Listed, FacesReady, FacesAdding, CellReady, CellStored, CellFilling, CellFinding, Filled, read, definedIn, Addable, CellTurn, CellAdding}
+use Rattle.mesh_cells.specs.Contracts as Contracts
 use Rattle.mesh_cells.specs.declared.Drafted.{Drafted}
 use Rattle.mesh_cells.specs.declared.Drafted.the-variants as Drafted
 use Rattle.mesh_cells.specs.declared.Progress.{Progress}
@@ -140,12 +141,12 @@ module _ (ws : List ℕ) (s : Sizes) (words : List ℕ) (floats : List Float) (c
 
   pub cell-filled : (d : ℕ) (ps : List Vec3) (words′ : List ℕ) (floats′ : List Float) (r : Drafted) → at ≡ cell .head .at → f ≡ cell .first → k ≡ cell .head .faces
       → FacesAdding d ps ws cell s words₁ words′ floats₁ floats′ r → CellFilling d ps ws cell s words words′ floats floats′ r
-  cell-filled d ps words′ floats′ r ea ef ek (Steps.FacesAdding.added n e l) =
+  cell-filled d ps words′ floats′ r ea ef ek (Contracts.FacesAdding.added n e l) =
       let same = faces-kept s words words₁ (rd .lent-words) long-words (rd .chained) front-words floats floats₁ front-floats in
-      Steps.CellFilling.filled n (rw same at e) (stored words′ floats′ n l ea ef ek)
-  cell-filled d ps words′ floats′ r ea ef ek (Steps.FacesAdding.refusing j e) =
+      Contracts.CellFilling.filled n (rw same at e) (stored words′ floats′ n l ea ef ek)
+  cell-filled d ps words′ floats′ r ea ef ek (Contracts.FacesAdding.refusing j e) =
       let same = faces-kept s words words₁ (rd .lent-words) long-words (rd .chained) front-words floats floats₁ front-floats in
-      Steps.CellFilling.refusing j (rw same at e)
+      Contracts.CellFilling.refusing j (rw same at e)
 
 -- ---- the drafts in the area, one more
 
@@ -253,16 +254,16 @@ defined case points ws words floats s a = a .right ∙ ap fine (sym (ap read (a 
 
 module _ (d : ℕ) (ps : List Vec3) (ws : List ℕ) (i : ℕ) (p : Progress) where
   pub found-wrong : (k : ℕ) → Wrong k ≡ stepAt ws (p .at) → CellFinding d ps ws i p (CellFound.Refused k)
-  found-wrong k e = Steps.CellFinding.wrong k e
+  found-wrong k e = Contracts.CellFinding.wrong k e
 
   module _ (h : Head) (c : Cursor) (e : Record h c ≡ stepAt ws (p .at)) (r : Reference) (er : referenceCase r ≡ checked d ps (definitionAt ws (h .at))) where
     pub found-refused : (k : ℕ) → r ≡ Reference.Refused k → CellFinding d ps ws i p (CellFound.Refused k)
     unfolding referenceCase
-    found-refused k q = Steps.CellFinding.refusing h c k e (sym er ∙ ap referenceCase q)
+    found-refused k q = Contracts.CellFinding.refusing h c k e (sym er ∙ ap referenceCase q)
 
     pub found-cell : (v : Vec3) → r ≡ Reference.Point v → CellFinding d ps ws i p (CellFound.Cell (record { number = i; reference = v; head = h; first = p .first }) c)
     unfolding referenceCase
-    found-cell v q = Steps.CellFinding.cell h c v e (sym er ∙ ap referenceCase q)
+    found-cell v q = Contracts.CellFinding.cell h c v e (sym er ∙ ap referenceCase q)
 
 module _ (d : ℕ) (ps : List Vec3) (case : List ℕ) (points : ℕ) (ws words : List ℕ) (floats : List Float) (s : Sizes) (i : ℕ) (p : Progress)
     (t : CellTurn d ps case points ws words floats s i p) where
@@ -347,8 +348,8 @@ module _ (d : ℕ) (ps : List Vec3) (case : List ℕ) (points : ℕ) (ws words :
         not-filled : (a : Drafted) (k : ℕ) → CellFilling d ps ws new (sized s (p .faces)) words words′ floats floats′ a → a ≡ Drafted.Refused k
             → CellAdding d ps ws s words′ floats′ i (CellAdded.Refused k)
         unfolding _>>=_
-        not-filled a k (Steps.CellFilling.filled n q st) ea = absurd (let z : _≡_ {A = ℕ} 0 1 = cc in omega arith)
-        not-filled a k (Steps.CellFilling.refusing j q) ea = let z : j ≡ k = cc in Steps.CellAdding.refusing k (refusing k (with-faces ∙ rw (q, z)))
+        not-filled a k (Contracts.CellFilling.filled n q st) ea = absurd (let z : _≡_ {A = ℕ} 0 1 = cc in omega arith)
+        not-filled a k (Contracts.CellFilling.refusing j q) ea = let z : j ≡ k = cc in Contracts.CellAdding.refusing k (refusing k (with-faces ∙ rw (q, z)))
 
         filled-next : (n : ℕ) → addFaces d ps ws new (facesIn (sized s (p .faces)) words floats) ≡ fine (growingIn (sized s n) words′ floats′ (p .first) (h .faces))
             → CellStored (sized s (p .faces)) words words′ floats floats′ new n
@@ -371,35 +372,35 @@ module _ (d : ℕ) (ps : List Vec3) (case : List ℕ) (points : ℕ) (ws words :
 
         added : (a : Drafted) (n : ℕ) → CellFilling d ps ws new (sized s (p .faces)) words words′ floats floats′ a → a ≡ Drafted.Faces n
             → CellAdding d ps ws s words′ floats′ i (CellAdded.Next (record { at = c .at; first = p .first + h .faces; faces = n }))
-        added a n (Steps.CellFilling.refusing j q) ea = absurd (let z : _≡_ {A = ℕ} 0 1 = cc in omega arith)
-        added a n (Steps.CellFilling.filled m q st) ea = let z : m ≡ n = cc in Steps.CellAdding.next _ (filled-next n (rw z at q) (rw z at st))
+        added a n (Contracts.CellFilling.refusing j q) ea = absurd (let z : _≡_ {A = ℕ} 0 1 = cc in omega arith)
+        added a n (Contracts.CellFilling.filled m q st) ea = let z : m ≡ n = cc in Contracts.CellAdding.next _ (filled-next n (rw z at q) (rw z at st))
 
   pub cell-refused : (r : CellFound) (k : ℕ) (words′ : List ℕ) (floats′ : List Float) → CellFinding d ps ws i p r → r ≡ CellFound.Refused k → CellAdding d ps ws s words′ floats′ i (CellAdded.Refused k)
-  cell-refused r k words′ floats′ (Steps.CellFinding.cell h c v e x) q = absurd (let z : _≡_ {A = ℕ} 0 1 = cc in omega arith)
-  cell-refused r k words′ floats′ (Steps.CellFinding.refusing h c j e x) q = let z : j ≡ k = cc in Steps.CellAdding.refusing k (rw z at (not-checked h c e j x))
-  cell-refused r k words′ floats′ (Steps.CellFinding.wrong j e) q = absurd (never j e)
+  cell-refused r k words′ floats′ (Contracts.CellFinding.cell h c v e x) q = absurd (let z : _≡_ {A = ℕ} 0 1 = cc in omega arith)
+  cell-refused r k words′ floats′ (Contracts.CellFinding.refusing h c j e x) q = let z : j ≡ k = cc in Contracts.CellAdding.refusing k (rw z at (not-checked h c e j x))
+  cell-refused r k words′ floats′ (Contracts.CellFinding.wrong j e) q = absurd (never j e)
 
   pub cell-ready : (r : CellFound) (y : NewCell) (c : Cursor) → CellFinding d ps ws i p r → r ≡ CellFound.Cell y c → CellReady ws (sized s (p .faces)) words floats y
-  cell-ready r y c (Steps.CellFinding.refusing h c′ j e x) q = absurd (let z : _≡_ {A = ℕ} 0 1 = cc in omega arith)
-  cell-ready r y c (Steps.CellFinding.wrong j e) q = absurd (never j e)
-  cell-ready r y c (Steps.CellFinding.cell h c′ v e x) q =
+  cell-ready r y c (Contracts.CellFinding.refusing h c′ j e x) q = absurd (let z : _≡_ {A = ℕ} 0 1 = cc in omega arith)
+  cell-ready r y c (Contracts.CellFinding.wrong j e) q = absurd (never j e)
+  cell-ready r y c (Contracts.CellFinding.cell h c′ v e x) q =
       let z : record { number = i; reference = v; head = h; first = p .first } ≡ y = cc in
       rw z at (ready h c′ e v x)
 
   pub cell-not-filled : (r : CellFound) (y : NewCell) (c : Cursor) (words′ : List ℕ) (floats′ : List Float) (a : Drafted) (k : ℕ) → CellFinding d ps ws i p r → r ≡ CellFound.Cell y c
       → CellFilling d ps ws y (sized s (p .faces)) words words′ floats floats′ a → a ≡ Drafted.Refused k → CellAdding d ps ws s words′ floats′ i (CellAdded.Refused k)
-  cell-not-filled r y c words′ floats′ a k (Steps.CellFinding.refusing h c′ j e x) q f ea = absurd (let z : _≡_ {A = ℕ} 0 1 = cc in omega arith)
-  cell-not-filled r y c words′ floats′ a k (Steps.CellFinding.wrong j e) q f ea = absurd (never j e)
-  cell-not-filled r y c words′ floats′ a k (Steps.CellFinding.cell h c′ v e x) q f ea =
+  cell-not-filled r y c words′ floats′ a k (Contracts.CellFinding.refusing h c′ j e x) q f ea = absurd (let z : _≡_ {A = ℕ} 0 1 = cc in omega arith)
+  cell-not-filled r y c words′ floats′ a k (Contracts.CellFinding.wrong j e) q f ea = absurd (never j e)
+  cell-not-filled r y c words′ floats′ a k (Contracts.CellFinding.cell h c′ v e x) q f ea =
       let z : record { number = i; reference = v; head = h; first = p .first } ≡ y = cc in
       not-filled h c′ e v x words′ floats′ a k (rw (← z) at f) ea
 
   pub cell-next : (r : CellFound) (y : NewCell) (c : Cursor) (words′ : List ℕ) (floats′ : List Float) (a : Drafted) (n : ℕ) → CellFinding d ps ws i p r → r ≡ CellFound.Cell y c
       → CellFilling d ps ws y (sized s (p .faces)) words words′ floats floats′ a → a ≡ Drafted.Faces n
       → CellAdding d ps ws s words′ floats′ i (CellAdded.Next (record { at = c .at; first = y .first + y .head .faces; faces = n }))
-  cell-next r y c words′ floats′ a n (Steps.CellFinding.refusing h c′ j e x) q f ea = absurd (let z : _≡_ {A = ℕ} 0 1 = cc in omega arith)
-  cell-next r y c words′ floats′ a n (Steps.CellFinding.wrong j e) q f ea = absurd (never j e)
-  cell-next r y c words′ floats′ a n (Steps.CellFinding.cell h c′ v e x) q f ea =
+  cell-next r y c words′ floats′ a n (Contracts.CellFinding.refusing h c′ j e x) q f ea = absurd (let z : _≡_ {A = ℕ} 0 1 = cc in omega arith)
+  cell-next r y c words′ floats′ a n (Contracts.CellFinding.wrong j e) q f ea = absurd (never j e)
+  cell-next r y c words′ floats′ a n (Contracts.CellFinding.cell h c′ v e x) q f ea =
       let z : record { number = i; reference = v; head = h; first = p .first } ≡ y = cc in
       let zc : c′ ≡ c = cc in
       rw (← zc, ← z) (added h c′ e v x words′ floats′ a n (rw (← z) at f) ea)
@@ -424,12 +425,12 @@ addable-kept case points ws words₀ words floats₀ floats s a lw lf =
 
 module _ (d : ℕ) (ps : List Vec3) (ws : List ℕ) (s : Sizes) (words : List ℕ) (floats : List Float) (i : ℕ) where
   pub added-refused : (r : CellAdded) (k : ℕ) → CellAdding d ps ws s words floats i r → r ≡ CellAdded.Refused k → drafts d ps (definedIn s ws) ≡ refused k
-  added-refused r k (Steps.CellAdding.next q g) e = absurd (let z : _≡_ {A = ℕ} 0 1 = cc in omega arith)
-  added-refused r k (Steps.CellAdding.refusing j g) e = let z : j ≡ k = cc in rw z at g
+  added-refused r k (Contracts.CellAdding.next q g) e = absurd (let z : _≡_ {A = ℕ} 0 1 = cc in omega arith)
+  added-refused r k (Contracts.CellAdding.refusing j g) e = let z : j ≡ k = cc in rw z at g
 
   pub added-next : (r : CellAdded) (q : Progress) → CellAdding d ps ws s words floats i r → r ≡ CellAdded.Next q → Filled d ps ws (definedIn s ws) s words floats (i + 1) q
-  added-next r q (Steps.CellAdding.refusing j g) e = absurd (let z : _≡_ {A = ℕ} 0 1 = cc in omega arith)
-  added-next r q (Steps.CellAdding.next x g) e = let z : x ≡ q = cc in rw z at g
+  added-next r q (Contracts.CellAdding.refusing j g) e = absurd (let z : _≡_ {A = ℕ} 0 1 = cc in omega arith)
+  added-next r q (Contracts.CellAdding.next x g) e = let z : x ≡ q = cc in rw z at g
 
 module _ (d : ℕ) (ps : List Vec3) (case : List ℕ) (points : ℕ) (ws words₀ : List ℕ) (floats₀ : List Float) (s : Sizes) (a : Addable case points ws words₀ floats₀ s) where
   pub filled-start : Chained (sized s 0) words₀ → Filled d ps ws (definedIn s ws) s words₀ floats₀ 0 (record { at = 0; first = 0; faces = 0 })
@@ -459,7 +460,7 @@ module _ (d : ℕ) (ps : List Vec3) (case : List ℕ) (points : ℕ) (ws words�
     same = ap read e
 
     pub drafts-refused : (words : List ℕ) (floats : List Float) (k : ℕ) → drafts d ps (definedIn s ws) ≡ refused k → Adding d ps ws defs s words floats (Drafted.Refused k)
-    drafts-refused words floats k q = Drafting.Adding.refusing (rw same at q)
+    drafts-refused words floats k q = Contracts.Adding.refusing (rw same at q)
 
     module _ (words : List ℕ) (floats : List Float) (i : ℕ) (p : Progress) (lw : length words ≡ length words₀) (g : Filled d ps ws (definedIn s ws) s words floats i p)
         (low : i ≤ s .cells) (end : s .cells ≤ i) where
@@ -485,7 +486,7 @@ module _ (d : ℕ) (ps : List Vec3) (case : List ℕ) (points : ℕ) (ws words�
       unfolding steps
       drafts-done =
           let w : fine (record { faces = facesIn (sized s (p .faces)) words floats; cells = draftsIn ws s words floats i }) ≡ drafts d ps (definedIn s ws) = rw (none-left, steps) at (g .rest) in
-          Drafting.Adding.added (rw (same, all-cells) at (sym w))
+          Contracts.Adding.added (rw (same, all-cells) at (sym w))
           (record {
             table = refl;
             few = g .chained .few;

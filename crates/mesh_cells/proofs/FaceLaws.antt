@@ -12,8 +12,8 @@ use Rattle.arith.proofs.RecordLaws.{tab-next, tab-same}
 use Rattle.reading.specs.Result.{refused, fine, steps}
 use Rattle.reading.proofs.ResultLaws.{steps-next, steps-refused}
 use Rattle.case_definitions.specs.Faces.{facesOf}
-use Rattle.case_definitions.specs.Walker.{definitionAt, faceAt}
-use Rattle.case_faces.specs.Copying.{AtFace, FaceCopied}
+use Rattle.case_definitions.specs.Contracts.{definitionAt, faceAt}
+use Rattle.case_faces.specs.Contracts.{AtFace, FaceCopied}
 use Rattle.case_definitions.specs.declared.Head.{Head}
 use Rattle.case_faces.specs.declared.FaceCursor.{FaceCursor}
 use Rattle.case_faces.proofs.FaceLaws.{at-first}
@@ -21,15 +21,16 @@ use Rattle.case_definitions.proofs.Walking.{head-faces}
 use Rattle.mesh_area.specs.declared.Sizes.{Sizes}
 use Rattle.mesh_area.specs.Layout.{LentWords, LentFloats, listAt, facesIn}
 use Rattle.mesh_points.proofs.CollectLaws.{copied-next}
-use Rattle.mesh_faces.specs.Using.{sized, Usable}
+use Rattle.mesh_faces.specs.Contracts.{sized, Usable}
 use Rattle.mesh_faces.proofs.AreaLaws.{chained-kept, faces-kept}
-use Rattle.mesh_cell_parts.specs.Parts as Parts
-use Rattle.mesh_cell_parts.specs.Parts.{addFaceOf, Grew, Placing}
+use Rattle.mesh_cell_parts.specs.Contracts as Contracts
+use Rattle.mesh_cell_parts.specs.Parts.{addFaceOf}
+use Rattle.mesh_cell_parts.specs.Contracts.{Grew, Placing}
 use Rattle.mesh_cell_parts.specs.declared.NewCell.{NewCell}
 use Rattle.mesh_cell_parts.specs.declared.FacePlaced.{FacePlaced}
 use Rattle.mesh_cell_parts.specs.declared.FacePlaced.the-variants as FacePlaced
-use Rattle.mesh_cells.specs.Steps as Steps
-use Rattle.mesh_cells.specs.Steps.{growingIn, FaceReady, Listed, FaceAdding, FacesReady, addFaces, FacesAdding}
+use Rattle.mesh_cells.specs.Contracts as Contracts
+use Rattle.mesh_cells.specs.Contracts.{growingIn, FaceReady, Listed, FaceAdding, FacesReady, addFaces, FacesAdding}
 use Rattle.mesh_cells.specs.declared.FaceAdded.{FaceAdded}
 use Rattle.mesh_cells.specs.declared.FaceAdded.the-variants as FaceAdded
 use Rattle.mesh_cells.specs.declared.Drafted.the-variants as Drafted
@@ -66,10 +67,10 @@ module _ (ws : List ℕ) (s : Sizes) (words : List ℕ) (floats : List Float) (c
   module _ (d : ℕ) (ps : List Vec3) (words₁ : List ℕ) (floats′ : List Float) where
     pub face-refused : (r : FacePlaced) (k : ℕ) → Placing d ps cell s words words₁ floats floats′ (take count vs) r → r ≡ FacePlaced.Refused k
         → FaceAdding d ps ws cell s words words₁ floats floats′ c (FaceAdded.Refused k)
-    face-refused r k (Parts.Placing.placed j m e g) q = absurd (let z : _≡_ {A = ℕ} 0 1 = cc in omega arith)
-    face-refused r k (Parts.Placing.refusing j e) q =
+    face-refused r k (Contracts.Placing.placed j m e g) q = absurd (let z : _≡_ {A = ℕ} 0 1 = cc in omega arith)
+    face-refused r k (Contracts.Placing.refusing j e) q =
         let z : j ≡ k = cc in
-        Steps.FaceAdding.refusing k (rw (← z, ← f .front) (e (growingIn s words floats (cell .first) (c .face)) refl))
+        Contracts.FaceAdding.refusing k (rw (← z, ← f .front) (e (growingIn s words floats (cell .first) (c .face)) refl))
 
     module _ (i n x : ℕ) (ex : x ≡ i) (e : (own : List ℕ) → addFaceOf d ps (cell .number) (cell .reference) (record { faces = facesIn s words floats; own = own }) (take count vs)
         ≡ fine (record { faces = facesIn (sized s n) words₁ floats′; own = own ++ i ∷ [] })) (g : Grew s words words₁ floats floats′ i n)
@@ -102,7 +103,7 @@ module _ (ws : List ℕ) (s : Sizes) (words : List ℕ) (floats : List Float) (c
       face-next =
           let lent = lent-sized s words words₁ n (rd .lent-words) long many in
           let same = faces-kept (sized s n) words₁ (set words₁ (13 * s .slots + cell .first + c .face) x) lent (length-set words₁ _ x) (g .chained) front floats′ floats′ refl in
-          Steps.FaceAdding.next next n (rw (← f .front, same, listed) (e (listAt words (13 * s .slots + cell .first) (c .face)))) (copied-next ws (cell .head) c vs₀ vs count next f) (f .goes)
+          Contracts.FaceAdding.next next n (rw (← f .front, same, listed) (e (listAt words (13 * s .slots + cell .first) (c .face)))) (copied-next ws (cell .head) c vs₀ vs count next f) (f .goes)
           (record {
             chained = chained-kept (sized s n) words₁ (set words₁ (13 * s .slots + cell .first + c .face) x) lent (length-set words₁ _ x) (g .chained) front;
             behind = omega (arith, g .more, rd .behind);
@@ -116,18 +117,18 @@ module _ (ws : List ℕ) (s : Sizes) (words : List ℕ) (floats : List Float) (c
     pub face-added : (r : FacePlaced) (i n x : ℕ) → Placing d ps cell s words words₁ floats floats′ (take count vs) r → r ≡ FacePlaced.Face i n → x ≡ i
         → length words₁ ≡ length words → length floats′ ≡ length floats
         → FaceAdding d ps ws cell s words (set words₁ (13 * s .slots + cell .first + c .face) x) floats floats′ c (FaceAdded.Next next n)
-    face-added r i n x (Parts.Placing.placed j m e g) q ex lw lf =
+    face-added r i n x (Contracts.Placing.placed j m e g) q ex lw lf =
         let a : j ≡ i = cc in
         let b : m ≡ n = cc in
         face-next i n x ex (rw (a, b) at e) (rw (a, b) at g) lw lf
-    face-added r i n x (Parts.Placing.refusing j e) q ex lw lf = absurd (let z : _≡_ {A = ℕ} 0 1 = cc in omega arith)
+    face-added r i n x (Contracts.Placing.refusing j e) q ex lw lf = absurd (let z : _≡_ {A = ℕ} 0 1 = cc in omega arith)
 
 -- the number of a face is a word
 pub face-number : (d : ℕ) (ps : List Vec3) (cell : NewCell) (s : Sizes) (words words₁ : List ℕ) (floats floats′ : List Float) (vertices : List ℕ) (r : FacePlaced) (i n : ℕ)
     → Placing d ps cell s words words₁ floats floats′ vertices r → r ≡ FacePlaced.Face i n → s .faces < s .slots → s .slots ≤ 1048576 → i < 4294967296
-face-number d ps cell s words words₁ floats floats′ vertices r i n (Parts.Placing.placed j m e g) q few slots =
+face-number d ps cell s words words₁ floats floats′ vertices r i n (Contracts.Placing.placed j m e g) q few slots =
     let a : j ≡ i = cc in omega (arith, g .number, g .more)
-face-number d ps cell s words words₁ floats floats′ vertices r i n (Parts.Placing.refusing j e) q few slots = absurd (let z : _≡_ {A = ℕ} 0 1 = cc in omega arith)
+face-number d ps cell s words words₁ floats floats′ vertices r i n (Contracts.Placing.refusing j e) q few slots = absurd (let z : _≡_ {A = ℕ} 0 1 = cc in omega arith)
 
 -- ---- `add_faces`
 
@@ -186,10 +187,10 @@ module _ (d : ℕ) (ps : List Vec3) (ws : List ℕ) (cell : NewCell) (s : Sizes)
         where
           by : (r : FaceAdded) → FaceAdding d ps ws cell (sized s n) words words′ floats floats′ c r → r ≡ FaceAdded.Refused k
               → FacesAdding d ps ws cell s words₀ words′ floats₀ floats′ (Drafted.Refused k)
-          by r (Steps.FaceAdding.next q′ m′ e f p l) q = absurd (let z : _≡_ {A = ℕ} 0 1 = cc in omega arith)
-          by r (Steps.FaceAdding.refusing j e) q =
+          by r (Contracts.FaceAdding.next q′ m′ e f p l) q = absurd (let z : _≡_ {A = ℕ} 0 1 = cc in omega arith)
+          by r (Contracts.FaceAdding.refusing j e) q =
               let z : j ≡ k = cc in
-              Steps.FacesAdding.refusing k (sym (g .rest) ∙ steps-refused (facesOf (definitionAt ws (cell .head .at))) (c .face) [] there (addFaceOf d ps (cell .number) (cell .reference)) _ k (rw z at e))
+              Contracts.FacesAdding.refusing k (sym (g .rest) ∙ steps-refused (facesOf (definitionAt ws (cell .head .at))) (c .face) [] there (addFaceOf d ps (cell .number) (cell .reference)) _ k (rw z at e))
 
       pub going-next : (q : FaceCursor) (m : ℕ) → r ≡ FaceAdded.Next q m → Going d ps ws cell s words₀ words′ floats₀ floats′ m q
       unfolding faceAt
@@ -197,8 +198,8 @@ module _ (d : ℕ) (ps : List Vec3) (ws : List ℕ) (cell : NewCell) (s : Sizes)
         where
           by : (r : FaceAdded) → FaceAdding d ps ws cell (sized s n) words words′ floats floats′ c r → r ≡ FaceAdded.Next q m
               → Going d ps ws cell s words₀ words′ floats₀ floats′ m q
-          by r (Steps.FaceAdding.refusing j e) er = absurd (let z : _≡_ {A = ℕ} 0 1 = cc in omega arith)
-          by r (Steps.FaceAdding.next q′ m′ e f p l) er =
+          by r (Contracts.FaceAdding.refusing j e) er = absurd (let z : _≡_ {A = ℕ} 0 1 = cc in omega arith)
+          by r (Contracts.FaceAdding.next q′ m′ e f p l) er =
               let zq : q′ ≡ q = cc in
               let zm : m′ ≡ m = cc in
               let f′ : q .face ≡ c .face + 1 = rw zq at f in
@@ -224,12 +225,12 @@ module _ (d : ℕ) (ps : List Vec3) (ws : List ℕ) (cell : NewCell) (s : Sizes)
       going-less q m er = by r a er
         where
           by : (r : FaceAdded) → FaceAdding d ps ws cell (sized s n) words words′ floats floats′ c r → r ≡ FaceAdded.Next q m → cell .head .faces - q .face < cell .head .faces - c .face
-          by r (Steps.FaceAdding.refusing j e) er = absurd (let z : _≡_ {A = ℕ} 0 1 = cc in omega arith)
-          by r (Steps.FaceAdding.next q′ m′ e f p l) er = let zq : q′ ≡ q = cc in let f′ : q .face ≡ c .face + 1 = rw zq at f in omega arith
+          by r (Contracts.FaceAdding.refusing j e) er = absurd (let z : _≡_ {A = ℕ} 0 1 = cc in omega arith)
+          by r (Contracts.FaceAdding.next q′ m′ e f p l) er = let zq : q′ ≡ q = cc in let f′ : q .face ≡ c .face + 1 = rw zq at f in omega arith
 
     pub going-done : cell .head .faces ≤ c .face → FacesAdding d ps ws cell s words₀ words floats₀ floats (Drafted.Faces n)
     unfolding steps
     going-done end =
         let z : c .face ≡ cell .head .faces = omega (arith, g .face) in
         let w = rw (drop-of-length-le (facesOf (definitionAt ws (cell .head .at))) {i = c .face} (omega (arith, head-faces ws (cell .head) (rd .headed) .all)), steps) at (g .rest) in
-        Steps.FacesAdding.added n (rw z at (sym w)) (rw z at (g .listed))
+        Contracts.FacesAdding.added n (rw z at (sym w)) (rw z at (g .listed))

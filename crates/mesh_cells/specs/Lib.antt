@@ -1,3 +1,3 @@
 pub mod Cells
-pub mod Drafting
-pub mod Steps
+pub mod Partial
+pub mod Contracts

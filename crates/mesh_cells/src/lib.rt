@@ -19,9 +19,8 @@ ghost use Rattle.case_definitions.specs.Faces.{Definition};
 ghost use Rattle.case_definitions.specs.Definitions.{definitions};
 ghost use Rattle.mesh_area.specs.Layout.{pointsIn};
 ghost use Rattle.mesh_face_table.specs.Chains.{Chained};
-ghost use Rattle.mesh_faces.specs.Using.{sized};
-ghost use Rattle.mesh_cells.specs.Drafting.{Adding};
-ghost use Rattle.mesh_cells.specs.Steps.{FaceReady, FaceAdding, FacesReady, FacesAdding, CellReady, CellFilling, CellFinding, Addable, CellTurn, CellAdding};
+ghost use Rattle.mesh_faces.specs.Contracts.{sized};
+ghost use Rattle.mesh_cells.specs.Contracts.{Adding, FaceReady, FaceAdding, FacesReady, FacesAdding, CellReady, CellFilling, CellFinding, Addable, CellTurn, CellAdding};
 
 // The number of faces in the table, or the refusal.
 pub enum Drafted {

@@ -13,8 +13,9 @@ use Rattle.arith.proofs.RecordLaws.{tab-same, lt-or-ge, getD-puts-out, getD-put
 use Rattle.mesh_area.specs.declared.Sizes.{Sizes}
 use Rattle.mesh_area.specs.Layout.{listAt, vecFrom, cellIn, meshWords, meshFloats, wordsEnd, floatsEnd}
 use Rattle.mesh_volumes.specs.declared.CellGeometry.{CellGeometry}
-use Rattle.mesh_cells.specs.Drafting.{cellWord, draftIn, Lists}
-use Rattle.mesh_centres.specs.Steps.{cellFrom, floatsOf, firstCells}
+use Rattle.mesh_cells.specs.Partial.{cellWord, draftIn}
+use Rattle.mesh_cells.specs.Contracts.{Lists}
+use Rattle.mesh_centres.specs.Contracts.{cellFrom, floatsOf, firstCells}
 
 -- ---- the words of a cell, which stay
 

@@ -15,8 +15,9 @@ use Rattle.mesh_area.specs.declared.Sizes.{Sizes}
 use Rattle.mesh_area.specs.Layout.{vecFrom, faceIn, facesIn, meshWords, meshFloats, floatsEnd, LentWords, LentFloats}
 use Rattle.mesh_coordinates.specs.Coordinates.{Points}
 use Rattle.mesh_cells.specs.Cells.{Drafts, drafts}
-use Rattle.mesh_cells.specs.Drafting.{Held}
-use Rattle.mesh_centres.specs.Finish.{definitionsOf, Finishable}
+use Rattle.mesh_cells.specs.Contracts.{Held}
+use Rattle.mesh_centres.specs.Finish.{definitionsOf}
+use Rattle.mesh_centres.specs.Contracts.{Finishable}
 use Rattle.mesh_centres.proofs.DraftLaws.{drafts-defined}
 
 module _ (d : ℕ) (ps : List Vec3) (ws words : List ℕ) (floats : List Float) (s : Sizes) (n : ℕ) (t : Drafts) (held : Held ws s words floats n t) where

@@ -15,7 +15,7 @@ use Rattle.reading.specs.Result.{Result, refused, fine, _>>=_, mapAll}
 use Rattle.reading.proofs.ResultLaws.{bound, mapAll-next, mapAll-refused}
 use Rattle.case_definitions.specs.Faces.{Definition, facesOf}
 use Rattle.case_definitions.specs.Definitions.{Taken, definition, definitions}
-use Rattle.case_definitions.specs.Walker.{readOf, definitionAt, Headed, headOf, stepAt}
+use Rattle.case_definitions.specs.Contracts.{readOf, definitionAt, Headed, headOf, stepAt}
 use Rattle.case_definitions.specs.declared.Cursor.{Cursor}
 use Rattle.case_definitions.specs.declared.Head.{Head}
 use Rattle.case_definitions.specs.declared.Step.{Step}
@@ -28,16 +28,16 @@ use Rattle.mesh_volumes.specs.declared.CellGeometry.{CellGeometry}
 use Rattle.mesh_volumes.specs.declared.CellMeasure.{CellMeasure}
 use Rattle.mesh_volumes.specs.declared.CellMeasure.the-variants as Measure
 use Rattle.mesh_volumes.specs.Geometry.{cellGeometry, cellOf}
-use Rattle.mesh_measure.specs.Records.{facesAt}
+use Rattle.mesh_measure.specs.Contracts.{facesAt}
 use Rattle.mesh_cells.specs.Cells.{Draft}
-use Rattle.mesh_cells.specs.Drafting.{draftIn, draftsIn}
+use Rattle.mesh_cells.specs.Partial.{draftIn, draftsIn}
 use Rattle.mesh_centres.specs.declared.Finished.{Finished}
 use Rattle.mesh_centres.specs.declared.Finished.the-variants as Finished
 use Rattle.mesh_centres.specs.declared.CellFinished.{CellFinished}
 use Rattle.mesh_centres.specs.declared.CellFinished.the-variants as CellFinished
-use Rattle.mesh_centres.specs.Finish.{finished, finishedAs, definitionsOf, Finishable, Finishing}
-use Rattle.mesh_centres.specs.Steps.{cellFrom, floatsOf, geometryAt, RecordFinishing, stored, CellReady, CellFinishing, next, firstCells, Going}
-use Rattle.mesh_centres.specs.Steps as Steps
+use Rattle.mesh_centres.specs.Finish.{finished, finishedAs, definitionsOf}
+use Rattle.mesh_centres.specs.Contracts.{Finishable, Finishing, cellFrom, floatsOf, geometryAt, RecordFinishing, stored, CellReady, CellFinishing, next, firstCells, Going}
+use Rattle.mesh_centres.specs.Contracts as Contracts
 use Rattle.mesh_centres.proofs.CellLaws.{later-kept, cells-kept, cell-finished}
 
 -- ---- the record of one cell
@@ -50,7 +50,7 @@ module _ (d : ℕ) (ps : List Vec3) (ws : List ℕ) (s : Sizes) (floats : List F
 
   pub record-zero : r ≡ Measure.ZeroVolume → RecordFinishing d ps ws s floats floats i (h .at) Finished.ZeroVolume
   unfolding cellOf
-  record-zero e = Steps.zero (sym same-geometry ∙ ap cellOf e) refl
+  record-zero e = Contracts.zero (sym same-geometry ∙ ap cellOf e) refl
 
   pub record-stored : (g : CellGeometry) (floats′ : List Float) → r ≡ Measure.Cell g → floats′ ≡ puts floats at (floatsOf g)
       → RecordFinishing d ps ws s floats floats′ i (h .at) Finished.Done
@@ -74,13 +74,13 @@ module _ (ws : List ℕ) (c : Cursor) (t : Step) (met : t ≡ stepAt ws (c .at))
   module _ (d : ℕ) (ps : List Vec3) (s : Sizes) (floats floats′ : List Float) (i : ℕ) where
     pub cell-zero : {r : Finished} → RecordFinishing d ps ws s floats floats′ i (h .at) r → r ≡ Finished.ZeroVolume
         → CellFinishing d ps ws s floats floats′ i (c .at) CellFinished.ZeroVolume
-    cell-zero (Steps.zero m k) g = Steps.zero (rw head-at at m) k
+    cell-zero (Contracts.zero m k) g = Contracts.zero (rw head-at at m) k
     cell-zero (stored a m k) g = absurd (let z : _≡_ {A = ℕ} 0 1 = cc in omega arith)
 
     pub cell-next : {r : Finished} → RecordFinishing d ps ws s floats floats′ i (h .at) r → r ≡ Finished.Done
         → CellFinishing d ps ws s floats floats′ i (c .at) (CellFinished.Next q)
     unfolding definitionAt readOf
-    cell-next (Steps.zero m k) g = absurd (let z : _≡_ {A = ℕ} 0 1 = cc in omega arith)
+    cell-next (Contracts.zero m k) g = absurd (let z : _≡_ {A = ℕ} 0 1 = cc in omega arith)
     cell-next (stored a m k) g = next q a (rw head-at at m) k (rw (to .read, readOf))
 
 -- a right record is there
@@ -203,7 +203,7 @@ module _ (d : ℕ) (case : List ℕ) (points : ℕ) (ps : List Vec3) (ws words :
     module _ (floats′ : List Float) where
       pub go-next : {r : CellFinished} (q : Cursor) → CellFinishing d ps ws s floats floats′ i (c .at) r → r ≡ CellFinished.Next q
           → Going d ps ws s words floats₀ floats′ (i + 1) (q .at)
-      go-next q (Steps.zero m k) e = absurd (let z : _≡_ {A = ℕ} 0 1 = cc in omega arith)
+      go-next q (Contracts.zero m k) e = absurd (let z : _≡_ {A = ℕ} 0 1 = cc in omega arith)
       go-next q (next p g m put right) e =
           let w : p ≡ q = cc in
           let h = definition-here in
@@ -223,7 +223,7 @@ module _ (d : ℕ) (case : List ℕ) (points : ℕ) (ps : List Vec3) (ws words :
           → Finishing d ps ws s words floats₀ floats′ Finished.ZeroVolume
       unfolding finishedAs
       go-stop (next p g m put right) e = absurd (let z : _≡_ {A = ℕ} 0 1 = cc in omega arith)
-      go-stop (Steps.zero m k) e =
+      go-stop (Contracts.zero m k) e =
           rw k
           (record {
             cells = sym (go .rest) ∙ mapAll-refused cells i draft inside (finished d ps) (firstCells s words floats i) 15 (refused-here m);

@@ -13,8 +13,7 @@ ghost use lib.ListN.{length};
 ghost use Rattle.arith.specs.Records.{puts};
 ghost use Rattle.case_file.specs.Trailer.{wordsIn};
 ghost use Rattle.mesh_area.specs.Layout.{pointsIn, vecFrom};
-ghost use Rattle.mesh_centres.specs.Finish.{Finishable, Finishing};
-ghost use Rattle.mesh_centres.specs.Steps.{floatsOf, RecordReady, RecordFinishing, CellReady, CellFinishing};
+ghost use Rattle.mesh_centres.specs.Contracts.{Finishable, Finishing, floatsOf, RecordReady, RecordFinishing, CellReady, CellFinishing};
 
 // The cells are finished, or one of them has no volume.
 pub enum Finished {

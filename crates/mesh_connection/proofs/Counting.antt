@@ -9,7 +9,7 @@ use native.Mathlib.Omega.{arith}
 use borrow.Author.Tests.{eq-eqb, ne-eqb}
 use lib.Dec.{eqb, lit≤}
 use Rattle.mesh_connection.specs.Connection.{someBelow, everyBelow}
-use Rattle.mesh_connection.specs.Search.{countBelow}
+use Rattle.mesh_connection.specs.Contracts.{countBelow}
 
 pub below-suc : {k n : ℕ} → k < suc n → (k ≡ n) ⊎ (k < n)
 below-suc h = eq-or-lt-of-le (le-of-suc-le-suc h)

@@ -20,7 +20,7 @@ use Rattle.mesh_area.specs.Layout.{cellIn, cellsIn, meshWords, wordsEnd, LentWo
 use Rattle.mesh_area.proofs.LayoutLaws.{cell-in, cell-out, length-cellsIn}
 use Rattle.arith.proofs.RecordLaws.{lt-or-ge}
 use Rattle.mesh_connection.specs.Connection.{connectedBy, meets, connectedCells}
-use Rattle.mesh_connection.specs.Search.{visitedIn, queueIn, neighboursAt, countBelow, Cleared, Marked, Met, out, was, new, Placed, Queued, Searching, Connected}
+use Rattle.mesh_connection.specs.Contracts.{visitedIn, queueIn, neighboursAt, countBelow, Cleared, Marked, Met, out, was, new, Placed, Queued, Searching, Connected}
 use Rattle.mesh_connection.proofs.Counting.{count-none, count-less, count-more, every-count, clash, below-suc}
 use Rattle.mesh_connection.proofs.Rounds.{reached, reached-start, reached-step, reached-le, all-reached, connected-same, connected-few, any-at, any-some}
 

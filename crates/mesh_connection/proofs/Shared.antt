@@ -18,9 +18,10 @@ use Rattle.mesh_area.specs.Tables.{Face, Cell, faceAt, cellAt, noFace, noCell}
 use Rattle.mesh_area.specs.declared.Sizes.{Sizes}
 use Rattle.mesh_area.specs.Layout.{facesIn, cellsIn}
 use Rattle.mesh_area.proofs.LayoutLaws.{length-cellsIn}
-use Rattle.mesh_neighbours.specs.Neighbours.{otherOf, beyond, addFound, addNeighbour, neighboursOf, linkedAt, linked, Linked}
+use Rattle.mesh_neighbours.specs.Neighbours.{otherOf, beyond, addFound, addNeighbour, neighboursOf, linkedAt, linked}
+use Rattle.mesh_neighbours.specs.Contracts.{Linked}
 use Rattle.mesh_connection.specs.Connection.{sidesAre, joins, share, connected, meets, connectedCells}
-use Rattle.mesh_connection.specs.Search.{Connected}
+use Rattle.mesh_connection.specs.Contracts.{Connected}
 use Rattle.mesh_connection.proofs.Counting.{clash, true-or, true-and, or-left, or-right, same-test}
 use Rattle.mesh_connection.proofs.Rounds.{any-at, any-some, connected-same}
 

@@ -1,2 +1,2 @@
 pub mod Connection
-pub mod Search
+pub mod Contracts

@@ -7,7 +7,7 @@ ghost use mathlib.Core.Bool.{false};
 ghost use Prim.Native.Nat.{_+_, _*_, _≤_, _<_};
 ghost use lib.ListN.{length};
 ghost use Rattle.mesh_area.specs.Layout.{wordsEnd, LentWords};
-ghost use Rattle.mesh_connection.specs.Search.{visitedIn, queueIn, Cleared, Marked, Met, Searching, Connected};
+ghost use Rattle.mesh_connection.specs.Contracts.{visitedIn, queueIn, Cleared, Marked, Met, Searching, Connected};
 
 fn visited(words: &[u32], base: usize, i: usize) -> bool
     requires { ⌜ base + 2 * i < length (now words) ⌝ }

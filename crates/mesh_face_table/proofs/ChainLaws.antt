@@ -14,7 +14,8 @@ use Rattle.mesh_keys.specs.Keys.{total}
 use Rattle.mesh_keys.proofs.KeyLaws.{same-true, sorted-front}
 use Rattle.mesh_keys.proofs.OrderLaws.{total-sorted}
 use Rattle.mesh_face_table.specs.Records.{Body, bodyOf, bodyIn, headIn}
-use Rattle.mesh_face_table.specs.Chains.{last, bucketOf, inBucket, keyAt, Chains, Searchable}
+use Rattle.mesh_face_table.specs.Chains.{last, bucketOf, inBucket, keyAt, Chains}
+use Rattle.mesh_face_table.specs.Contracts.{Searchable}
 use Rattle.mesh_face_table.proofs.Last.{last-hit, last-miss, last-le, last-same, last-passes, last-skip}
 
 -- ---- the walk along a chain

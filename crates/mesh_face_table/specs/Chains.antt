@@ -4,7 +4,6 @@
 -- `last`: the last number that passes.
 -- `bucketOf`, `inBucket`, `keyAt`: which bucket and which key a face has.
 -- `Chains`, `Chained`: the invariant, of words and of the area.
--- `Searchable`: what a search needs.
 use Prim.Native.Nat.{ℕ, zero, suc, _*_, _%_, _<_, _≤_}
 use mathlib.Core.Path.{_≡_}
 use mathlib.Core.Bool.{Bool, true, false}
@@ -46,9 +45,3 @@ pub record Chains (w : List ℕ) (slots n : ℕ) : Type 0 where
 -- the same of the area
 abbrev pub Chained : Sizes → List ℕ → Type 0
 Chained s words = Chains (meshWords s words) (s .slots) (s .faces)
-
--- what a search needs
-pub record Searchable (w : List ℕ) (slots n : ℕ) (key : List ℕ) : Type 0 where
-  pub chains : Chains w slots n
-  pub some : 0 < slots
-  pub short : length key ≤ 8

@@ -9,7 +9,8 @@ ghost use lib.Seq.{sets};
 ghost use Rattle.arith.specs.Lists as Lists;
 ghost use Rattle.arith.specs.Lists.{sorted};
 ghost use Rattle.mesh_face_table.specs.Records.{bodyOf, bodyIn, headIn, freshAt, floatsOf};
-ghost use Rattle.mesh_face_table.specs.Chains.{last, keyAt, Searchable};
+ghost use Rattle.mesh_face_table.specs.Chains.{last, keyAt};
+ghost use Rattle.mesh_face_table.specs.Contracts.{Searchable};
 
 // ---- one record of 12 words, of 12 floats
 

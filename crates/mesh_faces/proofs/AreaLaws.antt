@@ -19,7 +19,7 @@ use Rattle.mesh_face_table.proofs.RecordParts.{face-parts, fresh-take, fresh-dr
 use Rattle.mesh_face_table.proofs.ChainLaws.{chains-same}
 use Rattle.mesh_faces.specs.declared.Added.{Added}
 use Rattle.mesh_faces.specs.declared.Added.the-variants.{New, Second, Third}
-use Rattle.mesh_faces.specs.Using.{Ready, wordsAfter, floatsAfter, Settled, after, storedAt, sized, Usable, Used}
+use Rattle.mesh_faces.specs.Contracts.{Ready, wordsAfter, floatsAfter, Settled, after, storedAt, sized, Usable, Used}
 
 -- ---- area's faces are the table's
 

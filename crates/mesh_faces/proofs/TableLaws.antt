@@ -29,7 +29,7 @@ use Rattle.mesh_face_table.proofs.RecordParts.{FaceStored, MeasuredStored, face
 use Rattle.mesh_face_table.proofs.ChainLaws.{Linked, chains-same}
 use Rattle.mesh_faces.specs.Table.{hasKey, faceWithKey, newFace, withNeighbour, joining, settled, adding}
 use Rattle.mesh_faces.specs.declared.Added.the-variants.{New, Second, Third}
-use Rattle.mesh_faces.specs.Using.{Ready, wordsAfter, floatsAfter, Extended, Settled}
+use Rattle.mesh_faces.specs.Contracts.{Ready, wordsAfter, floatsAfter, Extended, Settled}
 
 -- ---- what a store leaves
 

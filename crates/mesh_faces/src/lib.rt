@@ -7,7 +7,7 @@ ghost use Prim.Native.Nat.{_*_};
 ghost use lib.ListN.{replicate};
 ghost use lib.Seq.{sets};
 ghost use Rattle.mesh_area.specs.Layout.{LentWords};
-ghost use Rattle.mesh_faces.specs.Using.{Ready, Extended, Settled, Usable, Used};
+ghost use Rattle.mesh_faces.specs.Contracts.{Ready, Extended, Settled, Usable, Used};
 
 pub enum Added {
     // the face is new, and has this number

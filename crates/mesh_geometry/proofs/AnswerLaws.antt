@@ -15,7 +15,7 @@ use Rattle.mesh_geometry.specs.declared.TurnedFace.{TurnedFace}
 use Rattle.mesh_geometry.specs.declared.TurnedFace.the-variants as Turned
 use Rattle.mesh_averages.specs.Averages.{average}
 use Rattle.mesh_geometry.specs.Faces.{faceAreaVector, faceWith, measured, inward, turnedIf, orientedFace, leftOrder}
-use Rattle.mesh_geometry.specs.Answers.{vectorOf, faceOf, Turning}
+use Rattle.mesh_geometry.specs.Contracts.{vectorOf, faceOf, Turning}
 
 -- what `face_of` answers
 abbrev geometryOf : Vec3 → Vec3 → FaceGeometry

@@ -11,7 +11,7 @@ use Rattle.arith.proofs.ListLaws.{foldl-next, length-sides}
 use Rattle.reading.specs.Result.{Result, refused, fine, _>>=_, steps}
 use Rattle.reading.proofs.ResultLaws.{steps-next, steps-refused}
 use Rattle.case_definitions.specs.Faces.{Definition, polygon, solid, polyhedron, facesOf, faceCount}
-use Rattle.case_definitions.specs.Walker.{definitionAt, readOf, faceAt, Headed, headOf}
+use Rattle.case_definitions.specs.Contracts.{definitionAt, readOf, faceAt, Headed, headOf}
 use Rattle.case_definitions.specs.declared.Head.{Head}
 use Rattle.case_faces.specs.declared.FaceCursor.{FaceCursor}
 use Rattle.case_definitions.proofs.RecordLaws.{steps-to}
@@ -20,7 +20,7 @@ use Rattle.mesh_volumes.specs.Geometry.{addTriangle, addFace3D, weightless, cen
 use Rattle.mesh_measure.specs.declared.Weighed.{Weighed}
 use Rattle.mesh_measure.specs.declared.Fanned.{Fanned}
 use Rattle.mesh_measure.specs.declared.Fanned.the-variants as Fan
-use Rattle.mesh_measure.specs.Records.{facesAt, NextFace, FanAdded, added, degenerate}
+use Rattle.mesh_measure.specs.Contracts.{facesAt, NextFace, FanAdded, added, degenerate}
 
 -- ---- faces of a record
 

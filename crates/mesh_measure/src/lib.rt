@@ -11,11 +11,11 @@ ghost use lib.ListN.{length, getD};
 ghost use Rattle.arith.specs.Lists.{fold};
 ghost use Rattle.reading.specs.Result.{steps};
 ghost use Rattle.case_file.specs.Trailer.{wordsIn};
-ghost use Rattle.case_definitions.specs.Walker.{Headed};
+ghost use Rattle.case_definitions.specs.Contracts.{Headed};
 ghost use Rattle.mesh_area.specs.Layout.{pointsIn};
 ghost use Rattle.mesh_volumes.specs.Geometry.{weightless, addTriangle, addFace3D, cellGeometry, cellOf};
 ghost use Rattle.mesh_coordinates.specs.Coordinates.{Points};
-ghost use Rattle.mesh_measure.specs.Records.{facesAt, FaceTaken, EdgeAdded, FanAdded, fansOf};
+ghost use Rattle.mesh_measure.specs.Contracts.{facesAt, FaceTaken, EdgeAdded, FanAdded, fansOf};
 
 // A sum with a face more, and the next face.
 struct Weighed {

@@ -24,8 +24,8 @@ use Rattle.mesh_area.specs.declared.Sizes.{Sizes}
 use Rattle.mesh_area.specs.Tables.{Face, Cell, faceAt, cellAt}
 use Rattle.mesh_area.specs.Layout.{listAt, found, faceIn, cellIn, facesIn, cellsIn, meshWords, meshFloats, wordsEnd, LentWords}
 use Rattle.mesh_area.proofs.LayoutLaws.{face-in, face-out, cell-in, length-cellsIn, length-listAt, listAt-in}
-use Rattle.mesh_neighbours.specs.Neighbours.{otherOf, beyond, addFound, addNeighbour, neighboursOf, linkedAt, linked, firstIn, countIn, Laid, Outside, Linked}
-use Rattle.mesh_neighbours.specs.Lists.{Beyond, Added, Crossed, neighboursIn, Written, Listed}
+use Rattle.mesh_neighbours.specs.Neighbours.{otherOf, beyond, addFound, addNeighbour, neighboursOf, linkedAt, linked, firstIn, countIn}
+use Rattle.mesh_neighbours.specs.Contracts.{Laid, Outside, Linked, Beyond, Added, Crossed, neighboursIn, Written, Listed}
 
 -- ---- is it listed
 

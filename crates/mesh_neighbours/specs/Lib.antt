@@ -1,2 +1,2 @@
 pub mod Neighbours
-pub mod Lists
+pub mod Contracts

@@ -9,8 +9,8 @@ ghost use lib.Dec.{eqb};
 ghost use lib.ListN.{length};
 ghost use Rattle.arith.specs.Lists.{anyOf};
 ghost use Rattle.mesh_area.specs.Layout.{listAt, LentWords};
-ghost use Rattle.mesh_neighbours.specs.Neighbours.{firstIn, Laid, Linked};
-ghost use Rattle.mesh_neighbours.specs.Lists.{Beyond, Added, Crossed, Written, Listed};
+ghost use Rattle.mesh_neighbours.specs.Neighbours.{firstIn};
+ghost use Rattle.mesh_neighbours.specs.Contracts.{Laid, Linked, Beyond, Added, Crossed, Written, Listed};
 
 // The cell on the other side of face f, seen from one of its cells.
 fn beyond(words: &[u32], s: Sizes, cell: usize, f: usize) -> Found

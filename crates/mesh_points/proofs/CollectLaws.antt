@@ -13,14 +13,15 @@ use Rattle.arith.specs.declared.Vec3.{Vec3}
 use Rattle.arith.proofs.ListLaws.{left-at}
 use Rattle.reading.specs.Result.{Result, refused, fine, _>>=_, refuse, steps}
 use Rattle.case_definitions.specs.Faces.{Definition, facesOf}
-use Rattle.case_definitions.specs.Walker.{definitionAt, faceAt, Headed}
-use Rattle.case_faces.specs.Copying.{AtFace, nextFace, FaceCopied}
+use Rattle.case_definitions.specs.Contracts.{definitionAt, faceAt, Headed}
+use Rattle.case_faces.specs.Contracts.{AtFace, nextFace, FaceCopied}
 use Rattle.case_definitions.specs.declared.Head.{Head}
 use Rattle.case_faces.specs.declared.FaceCursor.{FaceCursor}
 use Rattle.case_faces.proofs.FaceLaws.{PolygonHead, HeadCase, polygon-head, solid-head, polyhedron-head, head-case, at-first}
 use Rattle.case_definitions.proofs.Walking.{head-faces}
 use Rattle.mesh_averages.specs.Averages.{average}
-use Rattle.mesh_numbers.specs.Numbers.{insertNew, rising, insertBelow, numbersIn, Collecting}
+use Rattle.mesh_numbers.specs.Numbers.{insertNew, rising, insertBelow, numbersIn}
+use Rattle.mesh_numbers.specs.Contracts.{Collecting}
 use Rattle.mesh_numbers.specs.declared.Collected.{Collected}
 use Rattle.mesh_numbers.specs.declared.Collected.the-variants.{Numbers, Missing}
 use Rattle.mesh_points.specs.Collect.{wrongKind, missing, referenceOf, checked, referenceCase}

@@ -13,7 +13,7 @@ use Rattle.mesh_geometry.specs.declared.FaceGeometry.{FaceGeometry}
 use Rattle.mesh_geometry.specs.declared.TurnedFace.{TurnedFace}
 use Rattle.mesh_geometry.specs.declared.TurnedFace.the-variants as Turned
 use Rattle.mesh_geometry.specs.Faces.{orientedFace}
-use Rattle.mesh_geometry.specs.Answers.{faceOf, Turning}
+use Rattle.mesh_geometry.specs.Contracts.{faceOf, Turning}
 use Rattle.mesh_volumes.specs.declared.Weight.{Weight}
 use Rattle.mesh_volumes.specs.Geometry.{addTetrahedron, addFan, fanOf, addFace3D}
 

@@ -10,7 +10,7 @@ use Rattle.arith.specs.declared.Vec2.{Vec2}
 use Rattle.reading.specs.Result.{Result, refused, fine, _>>=_}
 use Rattle.answers.specs.declared.Answered.{Answered}
 use Rattle.answers.specs.declared.Answered.the-variants.{Words, Refused}
-use Rattle.answers.specs.Reply.{answerOf, lengthOf, wordsOf}
+use Rattle.answers.specs.Contracts.{answerOf, lengthOf, wordsOf}
 use Rattle.planes_sums.specs.declared.Sums.{Sums}
 use Rattle.planes_sums.specs.declared.Integral.{Integral}
 use Rattle.planes_sums.specs.declared.Summed.{Summed}
@@ -25,9 +25,9 @@ use Rattle.planes_samples.specs.declared.Tallied.the-variants.{Done, Bad}
 use Rattle.planes_sums.specs.Statistics.{empty, statisticsWords, statisticsFrom, fractionWords}
 use Rattle.planes_sums.specs.Integrals.{vacant, integralWords, integralsFrom}
 use Rattle.planes_sums.specs.Kept.{keptOf, sumsOf, integralOf}
-use Rattle.planes_samples.specs.Stream.{talliedOf}
+use Rattle.planes_samples.specs.Contracts.{talliedOf}
 use Rattle.planes.specs.Answers.{probeWords}
-use Rattle.planes.specs.Reply.{statisticsEnd, integralsEnd, ended, lastWords, Ended, Closed}
+use Rattle.planes.specs.Contracts.{statisticsEnd, integralsEnd, ended, lastWords, Ended, Closed}
 
 pub no-word : word 0·0 ≡ 0
 unfolding lib.Ieee.toBits lib.Ieee.ofBits

@@ -17,14 +17,14 @@ use Rattle.planes_cut.specs.declared.Cut.{Cut}
 use Rattle.planes_cut.specs.declared.Plane.{Plane}
 use Rattle.planes_sections.specs.Intersect.{PlaneCell, intersect}
 use Rattle.answers.specs.declared.Answered.{Answered}
-use Rattle.answers.specs.Reply.{lengthOf, replied, Replied}
+use Rattle.answers.specs.Contracts.{lengthOf, replied, Replied}
 use Rattle.planes_samples.specs.declared.Tallied.{Tallied}
 use Rattle.planes_sums.specs.Sample.{Sample}
 use Rattle.planes.specs.Answers.{sampled, sectionWords, sectionOf}
 use Rattle.planes_sums.specs.Words.{sampleWords}
-use Rattle.planes_samples.specs.Stream.{talliedOf, writtenAll, stream, Streamed}
+use Rattle.planes_samples.specs.Contracts.{talliedOf, writtenAll, stream, Streamed}
 use Rattle.planes_sums.specs.Kept.{Kept, ofSection, addTo, written}
-use Rattle.planes.specs.Reply.{leftBy, ended, lastWords, Closed}
+use Rattle.planes.specs.Contracts.{leftBy, ended, lastWords, Closed}
 use Rattle.answers.proofs.WordLaws.{sets-append, sets-set}
 use Rattle.planes_samples.proofs.StreamLaws.{stream-marks}
 use Rattle.planes.proofs.TreeLaws.{goods, BadRun, GoodRun, stream-run, run-sampled, reads-sampled}

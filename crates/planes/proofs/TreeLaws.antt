@@ -22,7 +22,7 @@ use Rattle.planes_cut.specs.Cut.{cutOf}
 use Rattle.planes_sections.specs.Intersect.{PlaneCell, intersect}
 use Rattle.planes_cut.specs.Plane.{normalOf}
 use Rattle.answers.specs.declared.Answered.{Answered}
-use Rattle.answers.specs.Reply.{lengthOf, wordsOf, replied, Replied}
+use Rattle.answers.specs.Contracts.{lengthOf, wordsOf, replied, Replied}
 use Rattle.planes_sums.specs.declared.Sums.{Sums}
 use Rattle.planes_sums.specs.declared.Integral.{Integral}
 use Rattle.planes_sums.specs.declared.Probed.{Probed}
@@ -34,9 +34,9 @@ use Rattle.planes_sums.specs.Statistics.{noSums, addSample, statistics}
 use Rattle.planes_sums.specs.Integrals.{addIntegral, noIntegral, integrals}
 use Rattle.planes.specs.Answers.{sampled, integralsOf, statisticsOf, probeOf, probeWords}
 use Rattle.answers.specs.Words.{valuesWords, vecWords}
-use Rattle.planes_samples.specs.Stream.{talliedOf, writtenAll, stream, Streamed}
+use Rattle.planes_samples.specs.Contracts.{talliedOf, writtenAll, stream, Streamed}
 use Rattle.planes_sums.specs.Kept.{Kept, ofSection, ofStatistics, ofIntegrals, ofProbe, addTo, written, addProbed}
-use Rattle.planes.specs.Reply.{missing, statisticsEnd, integralsEnd, ended, lastWords, Closed}
+use Rattle.planes.specs.Contracts.{missing, statisticsEnd, integralsEnd, ended, lastWords, Closed}
 use Rattle.planes_sums.specs.Probe.{project, covers, firstOver, off, probe}
 use Rattle.planes_samples.proofs.StreamLaws.{stream-marks}
 

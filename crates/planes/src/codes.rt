@@ -32,9 +32,9 @@ ghost use Rattle.planes_sums.specs.Integrals as Integrals;
 ghost use Rattle.planes_sums.specs.Probe as Probe;
 ghost use Rattle.planes.specs.Answers.{probeWords, sectionOf, statisticsOf, integralsOf, probeOf};
 ghost use Rattle.planes_sums.specs.Kept.{sumsOf, integralOf};
-ghost use Rattle.planes_samples.specs.Stream.{talliedOf, Ready};
-ghost use Rattle.answers.specs.Reply.{Replied};
-ghost use Rattle.planes.specs.Reply.{statisticsEnd, integralsEnd, missing, leftBy, Ended, Closed};
+ghost use Rattle.planes_samples.specs.Contracts.{talliedOf, Ready};
+ghost use Rattle.answers.specs.Contracts.{Replied};
+ghost use Rattle.planes.specs.Contracts.{statisticsEnd, integralsEnd, missing, leftBy, Ended, Closed};
 
 fn both(a: bool, b: bool) -> bool
     ensures { λ r. ⌜ r ≡ (a && b) ⌝ }

@@ -12,7 +12,7 @@ use Rattle.arith.specs.Records.{tab}
 use Rattle.arith.specs.declared.Vec3.{Vec3}
 use Rattle.planes_cut.proofs.Turns.{Here, Past, window-turn}
 use Rattle.arith.proofs.RecordLaws.{length-tab, drop-tab, tab-next, tab-same}
-use Rattle.planes_crossings.specs.Work.{pointIn, heldIn, Holds, Stored, Rest, Listed}
+use Rattle.planes_crossings.specs.Contracts.{pointIn, heldIn, Holds, Stored, Rest, Listed}
 
 module _ (x y z : List Float) (n : ℕ) where
   pub length-held : length (heldIn x y z n) ≡ n

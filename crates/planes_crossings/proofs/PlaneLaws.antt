@@ -14,7 +14,7 @@ use Rattle.planes_cut.specs.declared.Cut.{Cut}
 use Rattle.planes_crossings.specs.declared.Meeting.the-variants.{Point, None}
 use Rattle.planes_cut.specs.Cut.{height, near, below, above}
 use Rattle.planes_crossings.specs.Crossings.{rises, parted, close, between, addEnd, addBetween, addMeeting}
-use Rattle.planes_crossings.specs.Work.{meetingOf}
+use Rattle.planes_crossings.specs.Contracts.{meetingOf}
 
 or-cases : (a b : Bool) → (a || b) ≡ true → a ≡ false → b ≡ true
 or-cases true b e f = absurd (true≢false f)

@@ -14,10 +14,10 @@ use Rattle.mesh_area.specs.declared.Sizes.{Sizes}
 use Rattle.mesh_area.specs.Tables.{Mesh, faceAt, cellAt}
 use Rattle.mesh_area.specs.Layout.{facesIn, cellsIn, meshIn}
 use Rattle.planes_cut.specs.declared.Cut.{Cut}
-use Rattle.planes_cut.specs.Work.{bare, cornerOf}
+use Rattle.planes_cut.specs.Contracts.{bare, cornerOf}
 use Rattle.planes_cut.proofs.Turns.{Here, Past, fold-turn}
 use Rattle.planes_crossings.specs.Crossings.{shared, foreign, onPlane, addMeeting, addSide}
-use Rattle.planes_crossings.specs.Work.{sideAt, heldIn, Bounded, Listed}
+use Rattle.planes_crossings.specs.Contracts.{sideAt, heldIn, Bounded, Listed}
 
 -- ---- the sides of a face
 

@@ -6,7 +6,7 @@ ghost use Prim.Native.Nat.{_+_};
 ghost use lib.ListN.{length};
 ghost use Rattle.arith.specs.Lists.{anyOf, addNew};
 ghost use Rattle.planes_crossings.specs.Crossings.{close};
-ghost use Rattle.planes_crossings.specs.Work.{pointIn, heldIn, Holds, Stored, Listed};
+ghost use Rattle.planes_crossings.specs.Contracts.{pointIn, heldIn, Holds, Stored, Listed};
 
 // Point i.
 pub fn held(x: &[f64], y: &[f64], z: &[f64], i: usize) -> Vec3

@@ -17,8 +17,8 @@ ghost use Rattle.mesh_area.specs.Tables.{cellAt, faceAt};
 ghost use Rattle.planes_cut.specs.Cut.{near};
 ghost use Rattle.planes_crossings.specs.Crossings as Crossings;
 ghost use Rattle.planes_crossings.specs.Crossings.{onPlane, foreign, addMeeting, addFace, meetings};
-ghost use Rattle.planes_crossings.specs.Work.{heldIn, Holds, Listed, Bounded, TrueHeight, meetingOf};
-ghost use Rattle.planes_cut.specs.Work.{bare, Lent, cornerOf};
+ghost use Rattle.planes_crossings.specs.Contracts.{heldIn, Holds, Listed, Bounded, TrueHeight, meetingOf};
+ghost use Rattle.planes_cut.specs.Contracts.{bare, Lent, cornerOf};
 
 // a lies in the plane, within the tolerance.
 fn is_near_end(cut: Cut, a: End) -> bool

@@ -9,7 +9,7 @@ use Rattle.mesh_area.specs.declared.Sizes.{Sizes}
 use Rattle.mesh_area.specs.Tables.{pointAt, faceAt, cellAt}
 use Rattle.mesh_area.specs.Layout.{pointsIn, facesIn, cellsIn, meshIn}
 use Rattle.mesh_area.proofs.LayoutLaws.{length-points}
-use Rattle.planes_cut.specs.Work.{bare}
+use Rattle.planes_cut.specs.Contracts.{bare}
 use Rattle.planes_cut.proofs.Turns.{Here, Past}
 
 -- ---- points

@@ -8,7 +8,7 @@ use Rattle.mesh_area.specs.Tables.{Mesh, pointAt, faceAt}
 use Rattle.planes_cut.specs.declared.Cut.{Cut}
 use Rattle.planes_cut.specs.declared.Signs.{Signs}
 use Rattle.planes_cut.specs.Cut.{near, below, above}
-use Rattle.planes_cut.specs.Work.{signWith, addSign, faceSigns, mayMeet}
+use Rattle.planes_cut.specs.Contracts.{signWith, addSign, faceSigns, mayMeet}
 
 more : (n b a n′ b′ a′ : Bool) → (n || (b && a)) ≡ true → ((n || n′) || ((b || b′) && (a || a′))) ≡ true
 more true b a n′ b′ a′ h = refl

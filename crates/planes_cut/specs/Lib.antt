@@ -1,3 +1,3 @@
 pub mod Plane
 pub mod Cut
-pub mod Work
+pub mod Contracts

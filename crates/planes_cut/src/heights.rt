@@ -6,7 +6,7 @@ use arith::Vec3;
 use mesh_area::Sizes;
 ghost use mathlib.Core.Path.{_≡_};
 ghost use Rattle.planes_cut.specs.Cut as Cuts;
-ghost use Rattle.planes_cut.specs.Work.{bare, Lent, cornerOf, faceSigns, signWith, signsOf, mayMeet};
+ghost use Rattle.planes_cut.specs.Contracts.{bare, Lent, cornerOf, faceSigns, signWith, signsOf, mayMeet};
 
 // How far p lies from the plane.
 pub fn height(cut: Cut, p: Vec3) -> f64

@@ -7,7 +7,7 @@ ghost use mathlib.Core.Path.{_≡_};
 ghost use Prim.Native.Nat.{_≤_};
 ghost use lib.ListN.{length};
 ghost use Rattle.arith.specs.Lists as Lists;
-ghost use Rattle.planes_crossings.specs.Work.{heldIn, Holds, Rest};
+ghost use Rattle.planes_crossings.specs.Contracts.{heldIn, Holds, Rest};
 ghost use Rattle.planes_sections.specs.Intersect.{earlierOn};
 
 // The points of three slices, sorted by angle into three others, by means of three more.

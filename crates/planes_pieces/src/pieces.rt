@@ -12,9 +12,9 @@ ghost use Prim.Native.Nat.{_≤_};
 ghost use lib.Ieee.{Float};
 ghost use Rattle.mesh_area.specs.Layout.{pointsIn, meshIn};
 ghost use Rattle.planes_sections.specs.Intersect.{wide};
-ghost use Rattle.planes_crossings.specs.Work.{heldIn, Holds, Bounded};
-ghost use Rattle.planes_cut.specs.Work.{Lent, bare};
-ghost use Rattle.planes_sections.specs.Work.{PiecedAbout, Pieced};
+ghost use Rattle.planes_crossings.specs.Contracts.{heldIn, Holds, Bounded};
+ghost use Rattle.planes_cut.specs.Contracts.{Lent, bare};
+ghost use Rattle.planes_sections.specs.Contracts.{PiecedAbout, Pieced};
 
 // The polygon's area is above the square of the tolerance.
 fn is_wide(cut: Cut, x: &[f64], y: &[f64], z: &[f64], n: usize) -> bool

@@ -21,16 +21,16 @@ use Rattle.planes_sections.specs.declared.Piece.{Piece}
 use Rattle.planes_sections.specs.declared.Piece.the-variants.{Of, Empty}
 use Rattle.planes_cut.specs.Cut.{cutOf}
 use Rattle.planes_sections.specs.Intersect.{PlaneCell, pieceOf, piecesFrom, intersect}
-use Rattle.planes_crossings.specs.Work.{Holds}
-use Rattle.planes_cut.specs.Work.{bare}
-use Rattle.planes_sections.specs.Work.{pieceIn, verticesOf, Pieced}
+use Rattle.planes_crossings.specs.Contracts.{Holds}
+use Rattle.planes_cut.specs.Contracts.{bare}
+use Rattle.planes_sections.specs.Contracts.{pieceIn, verticesOf, Pieced}
 use Rattle.planes_crossings.proofs.HeldLaws.{length-held}
 use Rattle.planes_sections.proofs.PieceLaws.{same-piece}
 use Rattle.planes_sums.specs.declared.Tally.{Tally}
 use Rattle.planes_samples.specs.declared.Tallied.{Tallied}
 use Rattle.planes_samples.specs.declared.Tallied.the-variants.{Done, Bad}
 use Rattle.planes_sums.specs.Sample.{sound}
-use Rattle.planes_samples.specs.Stream.{talliedOf, Stream, stream, Streamed, Stepped, Ready}
+use Rattle.planes_samples.specs.Contracts.{talliedOf, Stream, stream, Streamed, Stepped, Ready}
 use Rattle.planes_sums.specs.Kept.{Kept, keptOf, addTo, written, cellIn, sampleIn, sizeOf, Added}
 use Rattle.planes_samples.proofs.StreamLaws.{stream-nil, stream-sound, stream-bad, stream-then, stream-stop}
 use Rattle.planes_sums.proofs.TallyLaws.{added-grows}

@@ -15,7 +15,7 @@ use Rattle.planes_cut.specs.declared.Cut.{Cut}
 use Rattle.planes_sections.specs.Intersect.{PlaneCell}
 use Rattle.planes_sums.specs.Sample.{Sample, sound}
 use Rattle.planes_samples.specs.Sampling.{Taken, before, onward, taken, complete, sample}
-use Rattle.planes_samples.specs.Stream.{Stream, writtenAll, stream}
+use Rattle.planes_samples.specs.Contracts.{Stream, writtenAll, stream}
 use Rattle.planes_sums.specs.Kept.{Kept, addTo, written}
 
 module _ (c : Cut) (f : ℕ → Values) where

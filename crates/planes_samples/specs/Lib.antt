@@ -1,2 +1,2 @@
 pub mod Sampling
-pub mod Stream
+pub mod Contracts

@@ -19,8 +19,8 @@ use Rattle.arith.proofs.SortLaws.{map-sort, all-insert}
 use Rattle.arith_angles.proofs.PlaceLaws.{places-below}
 use Rattle.planes_cut.specs.declared.Plane.{Plane}
 use Rattle.planes_sections.specs.Intersect.{earlierOn}
-use Rattle.planes_crossings.specs.Work.{Holds, heldIn, pointIn}
-use Rattle.planes_sections.specs.Work.{angleOn, Angled, Gathered}
+use Rattle.planes_crossings.specs.Contracts.{Holds, heldIn, pointIn}
+use Rattle.planes_sections.specs.Contracts.{angleOn, Angled, Gathered}
 
 module _ {s : Plane} {centre : Vec3} {point : ℕ → Vec3} where
   pub angled-none : (q : List ℕ) (t : List Float) → Angled s centre point 0 q t
@@ -109,7 +109,7 @@ positive q t zero i b = absurd (omega arith)
 positive q t (suc n) i b = omega arith
 
 pub sorted-within : (q : List ℕ) (t : List Float) (n : ℕ) (px py pz : List Float) (places : List ℕ) → Holds px py pz n → places ≡ sortedPlaces q t n → Gathered px py pz places
-sorted-within q t n px py pz places h e = record { held = at }
+sorted-within q t n px py pz places h e = record { within = at }
   where
     below : (i : ℕ) → i < length places → getD places i 0 < n
     below i b =

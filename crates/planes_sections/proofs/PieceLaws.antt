@@ -25,9 +25,9 @@ use Rattle.planes_sections.specs.declared.Piece.the-variants.{Of, Empty}
 use Rattle.planes_cut.specs.Cut.{near, below, above}
 use Rattle.planes_crossings.specs.Crossings.{rises, parted, addEnd, addBetween, addMeeting, onPlane, foreign, addSide, addFace, meetings}
 use Rattle.planes_sections.specs.Intersect.{earlierOn, addArea, areaOf, middle, wide, pieceAbout, pieceOf}
-use Rattle.planes_crossings.specs.Work.{heldIn, pointIn, Rest, Bounded}
-use Rattle.planes_cut.specs.Work.{signWith, addSign, faceSigns, signsOf, noSigns, mayMeet, bare}
-use Rattle.planes_sections.specs.Work.{pieceIn, verticesOf, arrangedAbout, arrangedOf, Laid, PiecedAbout, Pieced}
+use Rattle.planes_crossings.specs.Contracts.{heldIn, pointIn, Rest, Bounded}
+use Rattle.planes_cut.specs.Contracts.{signWith, addSign, faceSigns, signsOf, noSigns, mayMeet, bare}
+use Rattle.planes_sections.specs.Contracts.{pieceIn, verticesOf, arrangedAbout, arrangedOf, Laid, PiecedAbout, Pieced}
 
 -- ---- the area of a polygon, from the first point
 

@@ -1,2 +1,2 @@
 pub mod Intersect
-pub mod Work
+pub mod Contracts

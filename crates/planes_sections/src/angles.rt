@@ -8,8 +8,8 @@ use planes_cut::Plane;
 ghost use mathlib.Core.Path.{_≡_};
 ghost use lib.ListN.{length, getD};
 ghost use Rattle.arith.specs.Records.{tab};
-ghost use Rattle.planes_crossings.specs.Work.{pointIn, heldIn, Holds, Rest};
-ghost use Rattle.planes_sections.specs.Work.{angleOn, Angled, Gathered};
+ghost use Rattle.planes_crossings.specs.Contracts.{pointIn, heldIn, Holds, Rest};
+ghost use Rattle.planes_sections.specs.Contracts.{angleOn, Angled, Gathered};
 
 // The angle of p about the centre, in the plane's axes.
 fn angle_on(plane: Plane, centre: Vec3, p: Vec3) -> Angle

@@ -5,7 +5,7 @@ ghost use mathlib.Core.Path.{_≡_};
 ghost use Prim.Native.Nat.{_≤_};
 ghost use Rattle.arith.specs.Lists.{fold};
 ghost use Rattle.arith.specs.Vec.{origin, plus};
-ghost use Rattle.planes_crossings.specs.Work.{heldIn, Holds};
+ghost use Rattle.planes_crossings.specs.Contracts.{heldIn, Holds};
 ghost use Rattle.planes_sections.specs.Intersect.{middle, addArea, areaOf};
 
 // The sum of the n points.

@@ -16,7 +16,7 @@ use Rattle.arith.proofs.ListLaws.{count-next, length-sides, sides-at}
 use Rattle.arith.proofs.RoundLaws.{after-less, odd, odd-here, odd-past}
 use Rattle.arith.proofs.RecordLaws.{length-tab, getD-tab, drop-end}
 use Rattle.planes_cut.specs.declared.Plane.{Plane}
-use Rattle.planes_crossings.specs.Work.{heldIn, pointIn}
+use Rattle.planes_crossings.specs.Contracts.{heldIn, pointIn}
 use Rattle.planes_sections.proofs.AngleLaws.{map-tab}
 use Rattle.planes_sums.specs.Probe.{project, covers}
 

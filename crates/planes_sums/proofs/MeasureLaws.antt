@@ -8,7 +8,7 @@ use lib.Ieee.{Float}
 use Rattle.arith.specs.Lists.{fold, windows}
 use Rattle.arith.specs.Vec.{origin}
 use Rattle.arith.specs.declared.Vec3.{Vec3}
-use Rattle.planes_crossings.specs.Work.{heldIn, pointIn}
+use Rattle.planes_crossings.specs.Contracts.{heldIn, pointIn}
 use Rattle.planes_crossings.proofs.HeldLaws.{held-left}
 use Rattle.planes_sums.specs.Sample.{addVector, vectorOf}
 

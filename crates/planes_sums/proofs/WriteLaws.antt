@@ -11,7 +11,7 @@ use Rattle.arith.proofs.RecordLaws.{tab-next}
 use Rattle.reading.specs.declared.Values.{Values}
 use Rattle.answers.specs.Words.{vecWords, pointWords, valuesWords}
 use Rattle.answers.proofs.WordLaws.{sets-append, length-vec, length-points, points-more}
-use Rattle.planes_crossings.specs.Work.{heldIn, pointIn}
+use Rattle.planes_crossings.specs.Contracts.{heldIn, pointIn}
 use Rattle.planes_crossings.proofs.HeldLaws.{length-held}
 use Rattle.planes_sums.specs.Words.{sampleWords}
 

@@ -13,7 +13,7 @@ use Rattle.arith.specs.declared.Vec2.{Vec2}
 use Rattle.reading.specs.declared.Values.{Values}
 use Rattle.reading.specs.Result.{Result, refused, fine, _>>=_}
 use Rattle.planes_cut.specs.declared.Cut.{Cut}
-use Rattle.planes_crossings.specs.Work.{heldIn}
+use Rattle.planes_crossings.specs.Contracts.{heldIn}
 use Rattle.planes_sections.specs.Intersect.{PlaneCell}
 use Rattle.planes_sums.specs.declared.Sums.{Sums}
 use Rattle.planes_sums.specs.declared.Integral.{Integral}

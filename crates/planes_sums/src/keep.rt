@@ -17,7 +17,7 @@ ghost use Prim.Native.Nat.{ℕ, _≤_, _<_};
 ghost use Rattle.planes_sums.specs.Statistics as Statistics;
 ghost use Rattle.planes_sums.specs.Integrals as Integrals;
 ghost use Rattle.planes_sums.specs.Kept.{keptOf, sumsOf, integralOf, summingOf, weighingOf, addSummed, addWeighed, addProbed, sampleIn, usedOf, sizeOf, Added};
-ghost use Rattle.planes_crossings.specs.Work.{Holds};
+ghost use Rattle.planes_crossings.specs.Contracts.{Holds};
 
 // A sample with area and a finite value counts.
 fn counted(measure: f64, value: f64) -> bool

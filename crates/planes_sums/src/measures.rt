@@ -12,7 +12,7 @@ ghost use Prim.Native.Nat.{_+_, _≤_, _<_};
 ghost use Rattle.arith.specs.F64.{finite};
 ghost use Rattle.arith.specs.Lists.{after};
 ghost use Rattle.arith.specs.Polygon as Polygon;
-ghost use Rattle.planes_crossings.specs.Work.{heldIn, pointIn, Holds};
+ghost use Rattle.planes_crossings.specs.Contracts.{heldIn, pointIn, Holds};
 ghost use Rattle.planes_sums.specs.Sample as Sample;
 ghost use Rattle.planes_sums.specs.Sample.{addVector, vectorOf, measureOf};
 ghost use Rattle.planes_sums.specs.Statistics.{scalarOf};

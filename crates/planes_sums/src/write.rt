@@ -6,7 +6,7 @@ ghost use mathlib.Core.Path.{_≡_};
 ghost use Prim.Native.Nat.{_≤_, _<_};
 ghost use lib.Seq.{sets};
 ghost use Rattle.answers.specs.Words.{pointWords};
-ghost use Rattle.planes_crossings.specs.Work.{heldIn, Holds};
+ghost use Rattle.planes_crossings.specs.Contracts.{heldIn, Holds};
 ghost use Rattle.planes_sums.specs.Words.{sampleWords};
 
 // The n points of three slices, from `at` on.

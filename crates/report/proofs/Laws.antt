@@ -7,7 +7,7 @@ use borrow.Author.Tests.{lt-ltb, le-ltb, eq-eqb, ne-eqb}
 use Rattle.reading.specs.After.{After}
 use Rattle.job_promise.specs.Promise.{Promised}
 use Rattle.listing.specs.Listing.{doneText, refusedText}
-use Rattle.listing.specs.Written.{Listed}
+use Rattle.listing.specs.Contracts.{Listed}
 use Rattle.report.specs.Report.{ended, textOf, Reported}
 
 -- ---- refusal 20, or the job's end

@@ -8,7 +8,7 @@ use lib.ListN.{length}
 use Rattle.reading.specs.After.{After}
 use Rattle.job_promise.specs.Job.{outcome}
 use Rattle.listing.specs.Listing.{doneText, refusedText}
-use Rattle.listing.specs.Written.{Listed}
+use Rattle.listing.specs.Contracts.{Listed}
 
 -- "20, by the program before the job, for a file missing or above 65,536 bytes"; like every refusal it leaves answers and marks untouched
 unfoldable pub ended : List ℕ → List ℕ → ℕ → ℕ → List ℕ → List ℕ → After

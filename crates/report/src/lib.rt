@@ -5,7 +5,7 @@ use listing::put_refusal;
 ghost use Prim.Native.Nat.{_/_};
 ghost use mathlib.Core.Path.{_≡_};
 ghost use lib.ListN.{length};
-ghost use Rattle.listing.specs.Written.{Listed};
+ghost use Rattle.listing.specs.Contracts.{Listed};
 ghost use Rattle.report.specs.Report.{ended, textOf, Reported};
 
 // The longest file, in bytes.

@@ -11,7 +11,7 @@ use Rattle.reading.specs.Result.{Result, refused, fine}
 use Rattle.mesh_area.specs.Tables.{Mesh}
 use Rattle.mesh_area.specs.Layout.{meshIn}
 use Rattle.mesh_area.specs.declared.Sizes.{Sizes}
-use Rattle.mesh.specs.Case.{Building, sizesFor}
+use Rattle.mesh.specs.Contracts.{Building, sizesFor}
 use Rattle.mesh.specs.declared.Built.{Built}
 use Rattle.mesh.specs.declared.Built.the-variants as Built
 use Rattle.mesh.proofs.Laws.{Standing, building-refused, building-mesh, standing-sizes}

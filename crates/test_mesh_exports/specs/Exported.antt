@@ -10,7 +10,7 @@ use Rattle.arith.specs.declared.Vec3.{Vec3}
 use Rattle.reading.specs.Result.{Result, refused, fine}
 use Rattle.mesh_area.specs.Tables.{Mesh}
 use Rattle.mesh_area.specs.Layout.{meshIn}
-use Rattle.mesh.specs.Case.{sizesFor}
+use Rattle.mesh.specs.Contracts.{sizesFor}
 
 -- the number of the refusal, or 0
 unfoldable pub refusalOf : Result Mesh → ℕ

@@ -2,7 +2,7 @@
 use mathlib.Core.Path.{refl}
 use native.Mathlib.Omega.{arith}
 use Rattle.case_definitions.specs.Faces.{tetrahedron, hexahedron, prism, pyramid}
-use Rattle.case_faces.specs.Copying.{tableOf}
+use Rattle.case_faces.specs.Contracts.{tableOf}
 use Rattle.case_faces.proofs.FaceLaws.{kind-few, solid-few, solid-ready}
 use Rattle.case_faces.proofs.copy_face.Statement.{statement}
 use Rattle.case_faces.proofs.copy_face.Tie as tie

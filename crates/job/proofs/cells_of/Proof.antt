@@ -1,4 +1,4 @@
-use Rattle.job_room.specs.Stands.{countsIn}
+use Rattle.job_room.specs.Contracts.{countsIn}
 use borrow.Author.Needs.{needs}
 use Rattle.job.proofs.cells_of.Statement.{statement}
 use Rattle.job.proofs.cells_of.Tie as tie

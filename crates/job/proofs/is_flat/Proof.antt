@@ -1,4 +1,4 @@
-use Rattle.job_room.specs.Stands.{roomIn}
+use Rattle.job_room.specs.Contracts.{roomIn}
 use Rattle.job_promise.specs.List.{isFlat}
 use borrow.Author.Needs.{needs}
 use Rattle.job.proofs.is_flat.Statement.{statement}

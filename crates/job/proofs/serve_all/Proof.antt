@@ -1,6 +1,6 @@
 use Prim.Native.Nat.{_-_}
 use Rattle.case_file.specs.Field.{valuesOf}
-use Rattle.job_room.specs.Stands.{roomIn}
+use Rattle.job_room.specs.Contracts.{roomIn}
 use Rattle.job_promise.proofs.ThroughLaws.{Through, through-room, through-start, through-next, through-end}
 use borrow.Author.Needs.{needs}
 use Rattle.job.proofs.serve_all.Statement.{statement}

@@ -3,7 +3,7 @@ use native.Mathlib.Omega.{arith}
 use Rattle.case_file.specs.Trailer.{wordsFrom}
 use Rattle.case_file.proofs.TrailerLaws.{opens}
 use Rattle.case_definitions.proofs.Walking.{walks}
-use Rattle.mesh.specs.Case.{surveyed, refusing}
+use Rattle.mesh.specs.Contracts.{surveyed, refusing}
 use Rattle.mesh.proofs.Laws.{survey-shut, survey-wrong, walked-wrong, words-same}
 use native.Mathlib.Omega.{arith}
 use borrow.Author.Needs.{needs}

@@ -4,7 +4,7 @@ use native.Mathlib.Omega.{arith}
 use lib.ListN.{length}
 use Rattle.case_file.specs.Trailer.{wordsIn}
 use Rattle.mesh_area.specs.Layout.{pointsIn}
-use Rattle.mesh_cells.specs.Steps.{Filled, definedIn}
+use Rattle.mesh_cells.specs.Contracts.{Filled, definedIn}
 use Rattle.mesh_cells.proofs.CellLaws.{filled-start, addable-kept, added-refused, added-next, drafts-refused, drafts-done}
 use borrow.Author.Needs.{needs}
 use Rattle.mesh_cells.proofs.fill_cells.Statement.{statement}

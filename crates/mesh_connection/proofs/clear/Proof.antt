@@ -1,7 +1,7 @@
 use Prim.Native.Nat.{_≤_, _-_}
 use mathlib.Core.Path.{_≡_}
 use lib.ListN.{length}
-use Rattle.mesh_connection.specs.Search.{Cleared}
+use Rattle.mesh_connection.specs.Contracts.{Cleared}
 use Rattle.mesh_connection.proofs.SearchLaws.{stores}
 use borrow.Author.Needs.{needs}
 use Rattle.mesh_connection.proofs.clear.Statement.{statement}

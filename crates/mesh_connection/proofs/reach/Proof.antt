@@ -1,7 +1,7 @@
 use Prim.Native.Nat.{_-_}
 use mathlib.Core.Path.{_≡_}
 use lib.ListN.{length}
-use Rattle.mesh_connection.specs.Search.{Searching}
+use Rattle.mesh_connection.specs.Contracts.{Searching}
 use Rattle.mesh_connection.proofs.SearchLaws.{searches}
 use borrow.Author.Needs.{needs}
 use Rattle.mesh_connection.proofs.reach.Statement.{statement}

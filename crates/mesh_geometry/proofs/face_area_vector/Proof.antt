@@ -1,6 +1,6 @@
 use borrow.Author.Tests.{eq-eqb, ne-eqb, le-leb, lt-leb}
 use Rattle.mesh_geometry.specs.Faces.{faceAreaVector, areaVector, vectorIn, enough}
-use Rattle.mesh_geometry.specs.Answers.{vectorOf}
+use Rattle.mesh_geometry.specs.Contracts.{vectorOf}
 use borrow.Author.Needs.{needs}
 use Rattle.mesh_geometry.proofs.face_area_vector.Statement.{statement}
 use Rattle.mesh_geometry.proofs.face_area_vector.Tie as tie

@@ -1,5 +1,5 @@
 use Rattle.mesh_geometry.specs.Faces.{longEnough}
-use Rattle.mesh_geometry.specs.Answers.{vectorOf}
+use Rattle.mesh_geometry.specs.Contracts.{vectorOf}
 use Rattle.mesh_geometry.proofs.LengthLaws.{norm-over}
 use borrow.Author.Needs.{needs}
 use Rattle.mesh_geometry.proofs.long_enough.Statement.{statement}

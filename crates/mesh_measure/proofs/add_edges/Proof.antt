@@ -2,10 +2,10 @@ use Prim.Native.Nat.{_≤_, _-_}
 use mathlib.Core.Path.{_≡_, sym, _∙_}
 use lib.ListN.{drop}
 use Rattle.case_file.specs.Trailer.{wordsIn}
-use Rattle.case_faces.specs.Copying.{AtFace}
+use Rattle.case_faces.specs.Contracts.{AtFace}
 use Rattle.case_faces.proofs.FaceLaws.{at-first}
 use Rattle.mesh_area.specs.Layout.{pointsIn}
-use Rattle.mesh_measure.specs.Records.{facesAt}
+use Rattle.mesh_measure.specs.Contracts.{facesAt}
 use Rattle.arith.specs.Lists.{fold}
 use Rattle.mesh_volumes.specs.Geometry.{weightless, addTriangle}
 use Rattle.mesh_measure.proofs.Laws.{sum-next, facesAt-end}

@@ -2,7 +2,7 @@ use Rattle.case_faces.proofs.FaceLaws.{next-number}
 use mathlib.Core.Path.{sym, _∙_, ap}
 use lib.ListN.{length-take}
 use Rattle.mesh_volumes.specs.Geometry.{addFace3D}
-use Rattle.mesh_measure.specs.Records.{fansOf, added, degenerate}
+use Rattle.mesh_measure.specs.Contracts.{fansOf, added, degenerate}
 use native.Mathlib.Omega.{arith}
 use borrow.Author.Needs.{needs}
 use Rattle.mesh_measure.proofs.add_face_3d.Statement.{statement}

@@ -3,13 +3,12 @@ use Prim.Native.Nat.{_≤_, _-_}
 use mathlib.Core.Path.{_≡_, sym, _∙_}
 use lib.ListN.{drop}
 use Rattle.case_file.specs.Trailer.{wordsIn}
-use Rattle.case_faces.specs.Copying.{AtFace}
+use Rattle.case_faces.specs.Contracts.{AtFace}
 use Rattle.case_faces.proofs.FaceLaws.{at-first}
 use Rattle.mesh_area.specs.Layout.{pointsIn}
-use Rattle.mesh_measure.specs.Records.{facesAt}
+use Rattle.mesh_measure.specs.Contracts.{facesAt, fansOf}
 use Rattle.reading.specs.Result.{steps}
 use Rattle.mesh_volumes.specs.Geometry.{weightless, addFace3D}
-use Rattle.mesh_measure.specs.Records.{fansOf}
 use Rattle.mesh_measure.proofs.Laws.{steps-on, steps-stop, facesAt-end, fan-degenerate, fan-sum, fan-next}
 use borrow.Author.Needs.{needs}
 use Rattle.mesh_measure.proofs.add_faces_3d.Statement.{statement}

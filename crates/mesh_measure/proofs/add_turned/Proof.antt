@@ -1,7 +1,7 @@
 use mathlib.Core.Path.{sym, _∙_, ap}
 use Rattle.reading.specs.Result.{fine}
 use Rattle.mesh_volumes.proofs.FanLaws.{face-added, face-refused}
-use Rattle.mesh_measure.specs.Records.{fansOf}
+use Rattle.mesh_measure.specs.Contracts.{fansOf}
 use borrow.Author.Needs.{needs}
 use Rattle.mesh_measure.proofs.add_turned.Statement.{statement}
 use Rattle.mesh_measure.proofs.add_turned.Tie as tie

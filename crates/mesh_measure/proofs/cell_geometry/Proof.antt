@@ -1,5 +1,5 @@
 use Rattle.mesh_volumes.specs.Geometry.{centre2D, cellOf}
-use Rattle.mesh_measure.specs.Records.{fansOf}
+use Rattle.mesh_measure.specs.Contracts.{fansOf}
 use Rattle.mesh_measure.proofs.Laws.{flat-cell, solid-cell, no-cell}
 use mathlib.Core.Path.{sym, _∙_, ap}
 use borrow.Author.Needs.{needs}

@@ -38,7 +38,7 @@ use denote.Triple.Walked.{says, Stays, stay-none, stay-none-slice, walkOf, goes-
 use denote.Exit.{yes}
 use denote.Triple.Clauses.{ensured, lasts}
 use Rattle.case_file.specs.Trailer.{wordsIn}
-use Rattle.case_definitions.specs.Walker.{stepAt}
+use Rattle.case_definitions.specs.Contracts.{stepAt}
 use Rattle.case_definitions.specs.declared.walker.Walker.{Walker}
 use Rattle.case_definitions.specs.declared.Cursor.{Cursor}
 use Rattle.case_definitions.specs.declared.Step.{Step}

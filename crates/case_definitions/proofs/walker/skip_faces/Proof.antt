@@ -8,7 +8,7 @@ use native.Mathlib.Omega.{arith}
 use Rattle.case_file.proofs.ReadLaws.{length-wordsIn}
 use Rattle.case_definitions.proofs.WalkLaws.{Lists, skip-bad, skip-next, skip-end, list-count}
 use Rattle.case_definitions.specs.Definitions.{faceLists}
-use Rattle.case_definitions.specs.Helpers.{skipped}
+use Rattle.case_definitions.specs.Contracts.{skipped}
 use Rattle.case_file.specs.Trailer.{wordsIn}
 use Rattle.case_definitions.proofs.walker.skip_faces.Statement.{statement}
 use Rattle.case_definitions.proofs.walker.skip_faces.Tie as tie

@@ -9,7 +9,7 @@ use Rattle.case_file.proofs.ReadLaws.{length-wordsIn}
 use Rattle.case_definitions.proofs.RecordLaws.{walkedFrom, walked-start, walk-wrong, walk-next, walk-left, walk-end, StepsTo, steps-to}
 use Rattle.case_definitions.specs.Definitions.{definitions}
 use Rattle.case_file.specs.Trailer.{wordsIn}
-use Rattle.case_definitions.specs.Walker.{walked}
+use Rattle.case_definitions.specs.Contracts.{walked}
 use Rattle.case_definitions.proofs.walker.walk.Statement.{statement}
 use Rattle.case_definitions.proofs.walker.walk.Tie as tie
 

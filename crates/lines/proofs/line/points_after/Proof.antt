@@ -2,7 +2,7 @@ use Rattle.lines.proofs.LineLaws.{left, begun, turned, ended, finished,
 use Rattle.answers.specs.Words.{pointWords}
 use Rattle.answers.proofs.WordLaws.{points-more}
 use Rattle.lines.specs.Line.{lineFrom}
-use Rattle.lines_velocity.specs.Ready.{tracerField}
+use Rattle.lines_velocity.specs.Contracts.{tracerField}
 use Rattle.case_file.specs.Field.{valuesOf}
 use Rattle.reading.specs.Served.{Going}
 use Rattle.arith.specs.declared.Vec3.{Vec3}

@@ -1,7 +1,7 @@
 use Rattle.lines.proofs.JobLaws.{seed-lost, seed-found, all-found}
 use Rattle.lines.specs.Line.{nowhere}
 use Rattle.lines.specs.Rake.{seeds}
-use Rattle.lines_velocity.specs.Ready.{tracerField}
+use Rattle.lines_velocity.specs.Contracts.{tracerField}
 use Rattle.arith.specs.Lists.{anyOf}
 use lib.ListN.{drop}
 use mathlib.Core.Path.{_≡_}

@@ -1,6 +1,6 @@
 use Rattle.lines.proofs.JobLaws.{left, lines-begun, lines-turned, lines-ended, lines-written, written-words, words-more}
 use Rattle.lines.specs.Rake.{seeds, linesWords}
-use Rattle.lines_velocity.specs.Ready.{tracerField}
+use Rattle.lines_velocity.specs.Contracts.{tracerField}
 use Rattle.case_file.specs.Field.{valuesOf}
 use Rattle.reading.specs.Served.{Going}
 use lib.Seq.{sets}

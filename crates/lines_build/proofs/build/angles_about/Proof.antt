@@ -1,5 +1,5 @@
 use Rattle.lines_field.proofs.PolygonLaws.{angles-start, angles-turn}
-use Rattle.lines_field.specs.Layout.{AnglesAbout}
+use Rattle.lines_field.specs.Contracts.{AnglesAbout}
 use lib.ListN.{length, length-set}
 use mathlib.Core.Path.{_≡_}
 use Prim.Native.Nat.{_≤_, _-_}

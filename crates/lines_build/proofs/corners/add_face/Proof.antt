@@ -1,5 +1,5 @@
 use Rattle.lines_field.proofs.CornerLaws.{behind-more, face-start, face-fits, face-turn, face-end}
-use Rattle.lines_field.specs.Layout.{cornersIn}
+use Rattle.lines_field.specs.Contracts.{cornersIn}
 use Rattle.lines_field.specs.Corners.{addCorner, addCorners}
 use Rattle.mesh_area.specs.Layout.{facesIn, meshIn, pointsIn}
 use Rattle.mesh_area.specs.Tables.{faceAt}

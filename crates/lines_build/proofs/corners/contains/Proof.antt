@@ -1,5 +1,5 @@
 use Rattle.lines_field.proofs.CornerLaws.{contains-here, contains-next, contains-end}
-use Rattle.lines_field.specs.Layout.{cornersIn}
+use Rattle.lines_field.specs.Contracts.{cornersIn}
 use Rattle.lines_field.specs.Corners.{alike}
 use Rattle.arith.specs.Lists.{anyOf}
 use lib.ListN.{drop}

@@ -1,5 +1,5 @@
 use Rattle.lines_field.proofs.CornerLaws.{behind-more, cell-start, cell-fits, cell-turn, cell-end}
-use Rattle.lines_field.specs.Layout.{cornersIn}
+use Rattle.lines_field.specs.Contracts.{cornersIn}
 use Rattle.lines_field.specs.Corners.{addCorners, cornersOf}
 use Rattle.mesh_area.specs.Layout.{cellsIn, meshIn, pointsIn}
 use Rattle.mesh_area.specs.Tables.{cellAt}

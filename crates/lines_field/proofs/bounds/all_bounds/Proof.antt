@@ -1,5 +1,5 @@
 use Rattle.lines_field.proofs.GridLaws.{bound-turn, bound-end}
-use Rattle.lines_field.specs.Layout.{polygonsIn}
+use Rattle.lines_field.specs.Contracts.{polygonsIn}
 use Rattle.lines_field.specs.Bounds.{widened, boundsOf}
 use Rattle.arith.specs.Lists.{fold, flatten}
 use lib.ListN.{drop}

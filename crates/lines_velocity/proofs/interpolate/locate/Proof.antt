@@ -1,6 +1,6 @@
 use Rattle.lines_locate.specs.Layout.{fieldIn}
 use Rattle.lines_velocity.specs.Velocity.{locateIn}
-use Rattle.lines_velocity.specs.Ready.{tracerField}
+use Rattle.lines_velocity.specs.Contracts.{tracerField}
 use borrow.Author.Needs.{needs}
 use Rattle.lines_velocity.proofs.interpolate.locate.Statement.{statement}
 use Rattle.lines_velocity.proofs.interpolate.locate.Tie as tie

@@ -1,6 +1,6 @@
-use Rattle.planes_samples.specs.Stream.{talliedOf}
+use Rattle.planes_samples.specs.Contracts.{talliedOf}
 use Rattle.planes_sums.specs.Kept.{keptOf}
-use Rattle.planes.specs.Reply.{missing}
+use Rattle.planes.specs.Contracts.{missing}
 use borrow.Author.Needs.{needs}
 use Rattle.planes.proofs.codes.unless_off.Statement.{statement}
 use Rattle.planes.proofs.codes.unless_off.Tie as tie

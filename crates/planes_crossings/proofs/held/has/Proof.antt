@@ -3,7 +3,7 @@ use mathlib.Core.Path.{_≡_, refl, ap, sym, _∙_}
 use lib.ListN.{drop}
 use Rattle.arith.specs.Lists.{anyOf}
 use Rattle.planes_crossings.specs.Crossings.{close}
-use Rattle.planes_crossings.specs.Work.{heldIn}
+use Rattle.planes_crossings.specs.Contracts.{heldIn}
 use Rattle.planes_cut.proofs.Turns.{any-turn, any-found, any-done}
 use Rattle.planes_crossings.proofs.HeldLaws.{held-left, held-past}
 use borrow.Author.Needs.{needs}

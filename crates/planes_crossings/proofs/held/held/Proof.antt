@@ -1,5 +1,5 @@
 use mathlib.Core.Path.{refl}
-use Rattle.planes_crossings.specs.Work.{pointIn}
+use Rattle.planes_crossings.specs.Contracts.{pointIn}
 use borrow.Author.Needs.{needs}
 use Rattle.planes_crossings.proofs.held.held.Statement.{statement}
 use Rattle.planes_crossings.proofs.held.held.Tie as tie

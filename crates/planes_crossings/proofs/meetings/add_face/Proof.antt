@@ -6,8 +6,8 @@ use lib.ListN.{length, drop}
 use Rattle.arith.specs.Lists.{fold, sides}
 use Rattle.mesh_area.specs.Tables.{faceAt}
 use Rattle.planes_crossings.specs.Crossings.{addSide, addFace}
-use Rattle.planes_cut.specs.Work.{bare, cornerOf}
-use Rattle.planes_crossings.specs.Work.{heldIn, Rest, TrueHeight}
+use Rattle.planes_cut.specs.Contracts.{bare, cornerOf}
+use Rattle.planes_crossings.specs.Contracts.{heldIn, Rest, TrueHeight}
 use Rattle.planes_cut.proofs.Turns.{fold-done}
 use Rattle.planes_crossings.proofs.HeldLaws.{rest-same, rest-then}
 use Rattle.planes_crossings.proofs.SideLaws.{sides-left, sides-past, count-vertices, few-vertices, side-added, after-within, listed-as, listed-turn}

@@ -5,7 +5,7 @@ use lib.ListN.{drop}
 use Rattle.arith.specs.Lists.{anyOf}
 use Rattle.mesh_area.specs.Tables.{cellAt}
 use Rattle.planes_crossings.specs.Crossings.{foreign}
-use Rattle.planes_cut.specs.Work.{bare}
+use Rattle.planes_cut.specs.Contracts.{bare}
 use Rattle.planes_cut.proofs.Turns.{any-turn, any-found, any-done}
 use Rattle.planes_cut.proofs.MeshLaws.{faces-left, faces-past}
 use borrow.Author.Needs.{needs}

@@ -2,7 +2,7 @@ use mathlib.Core.Path.{ap, sym, _∙_}
 use mathlib.Core.List.{[]}
 use Rattle.mesh_area.specs.Layout.{meshIn}
 use Rattle.planes_crossings.specs.Crossings.{shared}
-use Rattle.planes_cut.specs.Work.{bare}
+use Rattle.planes_cut.specs.Contracts.{bare}
 use Rattle.planes_crossings.proofs.SideLaws.{foreign-alone, foreign-owned, foreign-other}
 use borrow.Author.Needs.{needs}
 use Rattle.planes_crossings.proofs.meetings.is_foreign.Statement.{statement}

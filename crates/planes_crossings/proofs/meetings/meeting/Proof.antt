@@ -1,5 +1,5 @@
 use mathlib.Core.Path.{sym, _∙_}
-use Rattle.planes_crossings.specs.Work.{meetingOf}
+use Rattle.planes_crossings.specs.Contracts.{meetingOf}
 use borrow.Author.Needs.{needs}
 use Rattle.planes_crossings.proofs.meetings.meeting.Statement.{statement}
 use Rattle.planes_crossings.proofs.meetings.meeting.Tie as tie

@@ -7,8 +7,8 @@ use Rattle.arith.specs.Lists.{fold}
 use Rattle.arith.specs.Records.{tab}
 use Rattle.mesh_area.specs.Tables.{cellAt}
 use Rattle.planes_crossings.specs.Crossings.{addFace, meetings}
-use Rattle.planes_cut.specs.Work.{bare}
-use Rattle.planes_crossings.specs.Work.{heldIn, Rest}
+use Rattle.planes_cut.specs.Contracts.{bare}
+use Rattle.planes_crossings.specs.Contracts.{heldIn, Rest}
 use Rattle.planes_cut.proofs.Turns.{fold-done}
 use Rattle.planes_cut.proofs.MeshLaws.{faces-left, faces-past}
 use Rattle.planes_crossings.proofs.HeldLaws.{rest-same, rest-then}

@@ -6,7 +6,7 @@ use Rattle.arith.specs.Lists.{allOf}
 use Rattle.mesh_area.specs.Tables.{faceAt}
 use Rattle.planes_cut.specs.Cut.{near}
 use Rattle.planes_crossings.specs.Crossings.{onPlane}
-use Rattle.planes_cut.specs.Work.{bare, cornerOf}
+use Rattle.planes_cut.specs.Contracts.{bare, cornerOf}
 use Rattle.planes_cut.proofs.Turns.{all-turn, all-failed, all-done}
 use Rattle.planes_cut.proofs.MeshLaws.{vertices-left, vertices-past}
 use borrow.Author.Needs.{needs}

@@ -4,7 +4,7 @@ use mathlib.Core.List.{[]}
 use lib.ListN.{drop}
 use Rattle.arith.specs.Lists.{fold}
 use Rattle.mesh_area.specs.Tables.{faceAt}
-use Rattle.planes_cut.specs.Work.{bare, signWith, addSign, faceSigns, cornerOf}
+use Rattle.planes_cut.specs.Contracts.{bare, signWith, addSign, faceSigns, cornerOf}
 use Rattle.planes_cut.proofs.Turns.{fold-turn, fold-done}
 use Rattle.planes_cut.proofs.MeshLaws.{vertices-left, vertices-past}
 use borrow.Author.Needs.{needs}

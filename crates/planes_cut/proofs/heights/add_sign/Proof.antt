@@ -1,6 +1,6 @@
 use Rattle.arith.proofs.Floats.{abs-within}
 use Rattle.planes_cut.specs.Cut.{near, below, above}
-use Rattle.planes_cut.specs.Work.{signWith}
+use Rattle.planes_cut.specs.Contracts.{signWith}
 use borrow.Author.Needs.{needs}
 use Rattle.planes_cut.proofs.heights.add_sign.Statement.{statement}
 use Rattle.planes_cut.proofs.heights.add_sign.Tie as tie

@@ -1,6 +1,6 @@
 use mathlib.Core.List.{[]}
 use Rattle.mesh_area.specs.Layout.{meshIn}
-use Rattle.planes_cut.specs.Work.{cornerOf, bare}
+use Rattle.planes_cut.specs.Contracts.{cornerOf, bare}
 use borrow.Author.Needs.{needs}
 use Rattle.planes_cut.proofs.heights.corner.Statement.{statement}
 use Rattle.planes_cut.proofs.heights.corner.Tie as tie

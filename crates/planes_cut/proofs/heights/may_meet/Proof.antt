@@ -5,7 +5,7 @@ use mathlib.Core.List.{[]}
 use lib.ListN.{drop}
 use Rattle.arith.specs.Lists.{fold}
 use Rattle.mesh_area.specs.Tables.{cellAt}
-use Rattle.planes_cut.specs.Work.{bare, faceSigns, signsOf, noSigns, mayMeet}
+use Rattle.planes_cut.specs.Contracts.{bare, faceSigns, signsOf, noSigns, mayMeet}
 use Rattle.planes_cut.proofs.Turns.{fold-turn, fold-done}
 use Rattle.planes_cut.proofs.MeshLaws.{faces-left, faces-past}
 use Rattle.planes_cut.proofs.SignLaws.{faces-keep}

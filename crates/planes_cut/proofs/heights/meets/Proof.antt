@@ -1,5 +1,5 @@
 use mathlib.Core.Path.{refl}
-use Rattle.planes_cut.specs.Work.{mayMeet}
+use Rattle.planes_cut.specs.Contracts.{mayMeet}
 use Rattle.planes_cut.proofs.heights.meets.Statement.{statement}
 use Rattle.planes_cut.proofs.heights.meets.Tie as tie
 

@@ -4,8 +4,8 @@ use mathlib.Core.Path.{_≡_, refl}
 use lib.ListN.{length, drop}
 use Rattle.case_file.specs.Field.{valuesOf}
 use Rattle.planes_sections.specs.Intersect.{piecesFrom}
-use Rattle.planes_cut.specs.Work.{bare}
-use Rattle.planes_samples.specs.Stream.{stream}
+use Rattle.planes_cut.specs.Contracts.{bare}
+use Rattle.planes_samples.specs.Contracts.{stream}
 use Rattle.planes_sums.specs.Kept.{keptOf, sizeOf}
 use Rattle.planes_samples.proofs.StepLaws.{ready-same, holds-same, turn, turn-size, stopped, all-done}
 use borrow.Author.Needs.{needs}

@@ -1,6 +1,6 @@
 use native.Mathlib.Omega.{arith}
 use mathlib.Core.List.{[]}
-use Rattle.planes_cut.specs.Work.{bare}
+use Rattle.planes_cut.specs.Contracts.{bare}
 use Rattle.planes_samples.proofs.StepLaws.{step-of, step-empty, piece-few, piece-full, holds-first}
 use borrow.Author.Needs.{needs}
 use Rattle.planes_samples.proofs.walk.step.Statement.{statement}

@@ -1,5 +1,5 @@
 use Rattle.planes_cut.specs.Plane.{along}
-use Rattle.planes_sections.specs.Work.{angleOn}
+use Rattle.planes_sections.specs.Contracts.{angleOn}
 use borrow.Author.Needs.{needs}
 use Rattle.planes_sections.proofs.angles.angle_on.Statement.{statement}
 use Rattle.planes_sections.proofs.angles.angle_on.Tie as tie

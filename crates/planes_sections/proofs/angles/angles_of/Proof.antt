@@ -2,8 +2,8 @@ use Prim.Native.Nat.{_≤_, _-_}
 use native.Mathlib.Omega.{arith}
 use mathlib.Core.Path.{_≡_, refl, ap, _∙_}
 use lib.ListN.{length, length-set}
-use Rattle.planes_crossings.specs.Work.{pointIn}
-use Rattle.planes_sections.specs.Work.{angleOn, Angled}
+use Rattle.planes_crossings.specs.Contracts.{pointIn}
+use Rattle.planes_sections.specs.Contracts.{angleOn, Angled}
 use Rattle.planes_cut.proofs.Turns.{at-end}
 use Rattle.planes_sections.proofs.AngleLaws.{angled-none, angled-more}
 use borrow.Author.Needs.{needs}

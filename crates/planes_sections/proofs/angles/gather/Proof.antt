@@ -3,7 +3,7 @@ use native.Mathlib.Omega.{arith}
 use mathlib.Core.Path.{_≡_, refl}
 use lib.ListN.{length, getD}
 use Rattle.arith.specs.Records.{tab}
-use Rattle.planes_crossings.specs.Work.{heldIn, pointIn, Holds, Rest}
+use Rattle.planes_crossings.specs.Contracts.{heldIn, pointIn, Holds, Rest}
 use Rattle.planes_cut.proofs.Turns.{at-end}
 use Rattle.planes_crossings.proofs.HeldLaws.{rest-same, rest-stored, rest-then, gathered-more}
 use borrow.Author.Needs.{needs}
@@ -21,7 +21,7 @@ unfolding heldIn tab
 loop-holds c = (search needs, refl, refl, refl, rest-same, refl)
 
 held-requires : tie.Need-held-requires Inv-loop μ-loop
-held-requires c κs = c .before .before .before .before .before .before .before .before .before .before .before .before .before .pre .0 .held (c .before .before .before .before .before .loop .i) (c .before .before .before .before .loop-test .taken)
+held-requires c κs = c .before .before .before .before .before .before .before .before .before .before .before .before .before .pre .0 .within (c .before .before .before .before .before .loop .i) (c .before .before .before .before .loop-test .taken)
 
 store-requires : tie.Need-store-requires Inv-loop μ-loop
 store-requires c κs =

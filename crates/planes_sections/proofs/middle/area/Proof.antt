@@ -3,7 +3,7 @@ use mathlib.Core.Path.{_≡_}
 use lib.ListN.{drop}
 use Rattle.arith.specs.Lists.{fold, windows}
 use Rattle.planes_sections.specs.Intersect.{addArea, areaOf}
-use Rattle.planes_crossings.specs.Work.{heldIn}
+use Rattle.planes_crossings.specs.Contracts.{heldIn}
 use Rattle.planes_cut.proofs.Turns.{window-done}
 use Rattle.planes_crossings.proofs.HeldLaws.{held-window, held-past}
 use Rattle.planes_sections.proofs.PieceLaws.{area-start}

@@ -3,7 +3,7 @@ use mathlib.Core.Path.{_≡_, ap, _∙_}
 use lib.ListN.{drop}
 use Rattle.arith.specs.Lists.{fold}
 use Rattle.arith.specs.Vec.{plus, origin}
-use Rattle.planes_crossings.specs.Work.{heldIn}
+use Rattle.planes_crossings.specs.Contracts.{heldIn}
 use Rattle.planes_cut.proofs.Turns.{fold-turn, fold-done}
 use Rattle.planes_crossings.proofs.HeldLaws.{held-left, held-past}
 use borrow.Author.Needs.{needs}

@@ -1,7 +1,7 @@
 use Prim.Native.Nat.{_≤_, _-_}
 use mathlib.Core.Path.{_≡_}
 use mathlib.Core.Logic.{⊎-elim}
-use Rattle.planes_crossings.specs.Work.{heldIn}
+use Rattle.planes_crossings.specs.Contracts.{heldIn}
 use Rattle.planes_sums.specs.Probe.{covers}
 use Rattle.planes_sums.proofs.InsideLaws.{rest, rest-start, rest-end, rest-toggled, rest-kept}
 use borrow.Author.Needs.{needs}

@@ -3,7 +3,7 @@ use mathlib.Core.Path.{_≡_, refl}
 use lib.ListN.{length}
 use lib.Seq.{sets}
 use Rattle.arith.specs.Records.{tab}
-use Rattle.planes_crossings.specs.Work.{heldIn}
+use Rattle.planes_crossings.specs.Contracts.{heldIn}
 use Rattle.planes_cut.proofs.Turns.{at-end}
 use Rattle.answers.specs.Words.{pointWords}
 use Rattle.planes_sums.proofs.WriteLaws.{held-put}

@@ -1,4 +1,4 @@
--- The faces of a record as the code has them, one after another.
+-- The contracts of `copy_face` and its parts: a face of a record, among the words.
 -- `faceFrom`, `AtFace`, `nextFace`: where a face starts, and a cursor at it. `FaceCopied`: that face copied.
 -- `tableOf`, `placesOf`: a face table, and a row of it.
 use Prim.Native.Nat.{ℕ, zero, suc, _+_, _≤_}
@@ -8,7 +8,7 @@ use mathlib.Core.List.{List, [], _∷_, _++_}
 use lib.Dec.{eqb}
 use lib.ListN.{length, getD, take, drop}
 use Rattle.case_definitions.specs.Faces.{tetrahedron, hexahedron, prism, pyramid}
-use Rattle.case_definitions.specs.Walker.{faceAt, Headed}
+use Rattle.case_definitions.specs.Contracts.{faceAt, Headed}
 use Rattle.case_definitions.specs.declared.Head.{Head}
 use Rattle.case_faces.specs.declared.FaceCursor.{FaceCursor}
 use Rattle.case_faces.specs.declared.Places.{Places}

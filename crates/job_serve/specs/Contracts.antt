@@ -3,7 +3,7 @@ use Prim.Native.Nat.{ℕ}
 use mathlib.Core.List.{List}
 use Rattle.reading.specs.declared.Values.{Values}
 use Rattle.planes_sections.specs.Intersect.{intersect}
-use Rattle.planes.specs.Reply.{leftBy}
+use Rattle.planes.specs.Contracts.{leftBy}
 use Rattle.job_requests.specs.declared.Request.{Request}
 use Rattle.job_requests.specs.declared.Request.the-variants.{Refused, Locate, Velocity, Streamline, Rake, Section, Statistics, Integrals, Probe}
 use Rattle.job_room.specs.Room.{Room, flat, solid}

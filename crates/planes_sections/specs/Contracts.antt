@@ -16,7 +16,7 @@ use Rattle.planes_cut.specs.declared.Cut.{Cut}
 use Rattle.planes_cut.specs.declared.Plane.{Plane}
 use Rattle.planes_cut.specs.Plane.{along}
 use Rattle.planes_crossings.specs.Crossings.{foreign, meetings}
-use Rattle.planes_crossings.specs.Work.{heldIn, Holds, Rest}
+use Rattle.planes_crossings.specs.Contracts.{heldIn, Holds, Rest}
 use Rattle.planes_sections.specs.declared.Piece.{Piece}
 use Rattle.planes_sections.specs.declared.Piece.the-variants.{Of, Empty}
 use Rattle.planes_sections.specs.Intersect.{PlaneCell, earlierOn, pieceAbout, pieceOf, middle}
@@ -78,4 +78,4 @@ pub record Angled (s : Plane) (centre : Vec3) (point : ℕ → Vec3) (n : ℕ) (
 
 -- the places are within the slices
 pub record Gathered (x y z : List Float) (places : List ℕ) : Type 0 where
-  pub held : (i : ℕ) → i < length places → Holds x y z (getD places i 0 + 1)
+  pub within : (i : ℕ) → i < length places → Holds x y z (getD places i 0 + 1)

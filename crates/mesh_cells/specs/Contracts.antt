@@ -1,43 +1,69 @@
--- The contracts of the parts of `add_cells`: what each needs, what it leaves in the area, and what its answer means.
+-- The contracts of `add_cells` and its parts: what each needs, what it leaves in the area, and what its answer means.
+-- `cellWord`, `draftIn`, `draftsIn`: the drafts in the area.
+-- `Lists`: where their lists stand. `Held`: all of it.
 -- `add_face`: `FaceReady`, `Listed`, `addFaceAt`, `FaceAdding`.
 -- `add_faces`: `FacesReady`, `addFaces`, `FacesAdding`. `growingIn`: the table and a cell's list, in the area.
 -- `fill_cell`: `CellReady`, `CellStored`, `CellFilling`. `new_cell`: `CellFinding`.
 -- `add_cell`: `CellTurn`, `CellAdding`. `fill_cells` and `add_cells`: `Filled`, `read`, `definedIn`, `Addable`.
-use Prim.Native.Nat.{ℕ, _+_, _-_, _*_, _≤_, _<_}
+use Prim.Native.Nat.{ℕ, _+_, _*_, _≤_, _<_, _-_}
 use mathlib.Core.Path.{_≡_}
-use mathlib.Core.List.{List, [], _∷_, _++_}
+use mathlib.Core.List.{List, []}
 use lib.ListN.{length, getD, drop}
 use lib.Ieee.{Float}
-use Rattle.arith.specs.Lists.{fold}
 use Rattle.arith.specs.declared.Vec3.{Vec3}
 use Rattle.reading.specs.Result.{Result, refused, fine, steps}
 use Rattle.case_definitions.specs.Faces.{Definition, facesOf, addFaceCount, facesCounted}
-use Rattle.case_definitions.specs.Definitions as Words
-use Rattle.case_definitions.specs.Walker.{definitionAt, faceAt, stepAt, Headed}
-use Rattle.case_faces.specs.Copying.{AtFace}
+use Rattle.case_definitions.specs.Contracts.{definitionAt, faceAt, stepAt, Headed}
+use Rattle.mesh_area.specs.declared.Sizes.{Sizes}
+use Rattle.mesh_area.specs.Layout.{listAt, vecFrom, facesIn, LentWords, LentFloats}
+use Rattle.mesh_faces.specs.Contracts.{sized}
+use Rattle.mesh_cells.specs.Cells.{Drafts, drafts, addCell}
+use Rattle.mesh_cells.specs.declared.Drafted.{Drafted}
+use Rattle.mesh_cells.specs.declared.Drafted.the-variants.{Faces, Refused}
+use Rattle.arith.specs.Lists.{fold}
+use Rattle.case_faces.specs.Contracts.{AtFace}
 use Rattle.case_definitions.specs.declared.Cursor.{Cursor}
 use Rattle.case_definitions.specs.declared.Step.the-variants.{Record, Wrong}
 use Rattle.case_definitions.specs.declared.Head.{Head}
 use Rattle.case_faces.specs.declared.FaceCursor.{FaceCursor}
-use Rattle.mesh_area.specs.declared.Sizes.{Sizes}
 use Rattle.mesh_area.specs.Tables.{Face}
-use Rattle.mesh_area.specs.Layout.{LentWords, LentFloats, listAt, vecFrom, facesIn}
 use Rattle.mesh_face_table.specs.Chains.{Chained}
-use Rattle.mesh_faces.specs.Using.{sized}
 use Rattle.mesh_points.specs.Collect.{checked}
 use Rattle.mesh_cell_parts.specs.Parts.{Growing, addFaceOf}
 use Rattle.mesh_cell_parts.specs.declared.NewCell.{NewCell}
-use Rattle.mesh_cells.specs.Cells.{addCell, drafts}
-use Rattle.mesh_cells.specs.Drafting.{cellWord, draftsIn, Lists}
+use Rattle.mesh_cells.specs.Partial.{cellWord, draftsIn, draftIn}
 use Rattle.mesh_cells.specs.declared.FaceAdded.{FaceAdded}
-use Rattle.mesh_cells.specs.declared.FaceAdded.the-variants as FaceAdded
-use Rattle.mesh_cells.specs.declared.Drafted.{Drafted}
-use Rattle.mesh_cells.specs.declared.Drafted.the-variants as Drafted
 use Rattle.mesh_cells.specs.declared.Progress.{Progress}
 use Rattle.mesh_cells.specs.declared.CellFound.{CellFound}
-use Rattle.mesh_cells.specs.declared.CellFound.the-variants as CellFound
 use Rattle.mesh_cells.specs.declared.CellAdded.{CellAdded}
+use Rattle.case_definitions.specs.Definitions as Words
+use Rattle.mesh_cells.specs.declared.FaceAdded.the-variants as FaceAdded
+use Rattle.mesh_cells.specs.declared.Drafted.the-variants as Drafted
+use Rattle.mesh_cells.specs.declared.CellFound.the-variants as CellFound
 use Rattle.mesh_cells.specs.declared.CellAdded.the-variants as CellAdded
+
+-- the lists of the first n cells follow each other, each as long as its definition has faces, up to `end`; no neighbours are listed yet
+pub record Lists (ws : List ℕ) (s : Sizes) (words : List ℕ) (n end : ℕ) : Type 0 where
+  pub first : 0 < n → cellWord s words 0 1 ≡ 0
+  pub next : (i : ℕ) → i + 1 < n → cellWord s words (i + 1) 1 ≡ cellWord s words i 1 + cellWord s words i 2
+  pub last : (i : ℕ) → i + 1 ≡ n → end ≡ cellWord s words i 1 + cellWord s words i 2
+  pub none : n ≡ 0 → end ≡ 0
+  pub few : (i : ℕ) → i < n → cellWord s words i 2 ≤ 24
+  pub counts : (i : ℕ) → i < n → cellWord s words i 2 ≡ length (facesOf (draftIn ws s words [] i .definition))
+  pub lonely : (i : ℕ) → i < n → cellWord s words i 3 ≡ 0
+
+-- all cells stand in the area as drafts
+pub record Held (ws : List ℕ) (s : Sizes) (words : List ℕ) (floats : List Float) (faces : ℕ) (t : Drafts) : Type 0 where
+  pub table : facesIn (sized s faces) words floats ≡ t .faces
+  pub few : faces ≤ s .slots
+  pub corners : (f : ℕ) → f < faces → getD words (12 * f + 0) 0 ≤ 8
+  pub cells : draftsIn ws s words floats (s .cells) ≡ t .cells
+  pub lists : Lists ws s words (s .cells) (s .slots)
+
+-- what `add_cells` answers: the number of faces in the table, or the first refusal of 11 to 14
+pub data Adding (d : ℕ) (ps : List Vec3) (ws : List ℕ) (defs : List Definition) (s : Sizes) (words : List ℕ) (floats : List Float) : Drafted → Type 0 where
+  added : {n : ℕ} {t : Drafts} → drafts d ps defs ≡ fine t → Held ws s words floats n t → Adding d ps ws defs s words floats (Faces n)
+  refusing : {k : ℕ} → drafts d ps defs ≡ refused k → Adding d ps ws defs s words floats (Refused k)
 
 -- ---- one face
 

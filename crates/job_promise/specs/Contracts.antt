@@ -1,4 +1,4 @@
--- What the parts of the job promise.
+-- The contracts of the parts of the job.
 use Prim.Native.Nat.{ℕ, _-_, _/_}
 use mathlib.Core.Path.{_≡_}
 use mathlib.Core.List.{List}
@@ -8,7 +8,7 @@ use Rattle.reading.specs.Asks.{Asks, give, run, reads, _>>=_}
 use Rattle.reading.specs.Marks.{markAll}
 use Rattle.job_room.specs.Room.{Room}
 use Rattle.answers.specs.Answer.{fitting, answerWords}
-use Rattle.answers.specs.Placed.{Placed}
+use Rattle.answers.specs.Contracts.{Placed}
 use Rattle.job_promise.specs.List.{replyTo}
 
 -- how many requests of the bytes follow request i

@@ -1,4 +1,4 @@
--- A tracer: the field that it traces in, and what the functions that take velocities and trace lines ask of it.
+-- A tracer: the field that it traces in, and what the functions that take velocities and trace lines need of it.
 use Prim.Native.Nat.{ℕ}
 use mathlib.Core.Path.{_≡_}
 use mathlib.Core.List.{List}
@@ -7,7 +7,8 @@ use Rattle.case_file.specs.declared.Opened.the-variants.{Case}
 use Rattle.case_file.specs.Trailer.{opened}
 use Rattle.mesh_area.specs.Layout.{LentWords, LentFloats}
 use Rattle.lines_locate.specs.Field.{StreamlineField}
-use Rattle.lines_locate.specs.Layout.{fieldIn, Searchable}
+use Rattle.lines_locate.specs.Layout.{fieldIn}
+use Rattle.lines_locate.specs.Contracts.{Searchable}
 use Rattle.lines_velocity.specs.declared.Tracer.{Tracer}
 
 -- the field that the area holds under a tracer

@@ -1,4 +1,4 @@
--- What the functions of this crate keep and promise of the words.
+-- What the functions of this crate need, and what they leave in the words.
 -- `visitedIn`, `queueIn`, `Cleared`: the flags and the queue.
 -- `Marked`, `Met`: one cell met. `countBelow`, `neighboursAt`: what is counted, and over what.
 -- `Placed`, `Queued`, `Searching`: the invariant. `Connected`: what `ensure_connected` promises.

@@ -1,4 +1,4 @@
--- From what was kept of the samples to the answers of codes 5 to 8.
+-- What the functions of this crate answer: how many words, or the refusal; the words, as far as they fit; the marks.
 use Prim.Native.Nat.{ℕ}
 use mathlib.Core.Path.{_≡_}
 use mathlib.Core.Bool.{Bool, true, false}
@@ -11,7 +11,7 @@ use Rattle.reading.specs.Result.{Result, refused, fine, _>>=_}
 use Rattle.reading.specs.Asks.{run}
 use Rattle.planes_sections.specs.Intersect.{PlaneCell}
 use Rattle.answers.specs.declared.Answered.{Answered}
-use Rattle.answers.specs.Reply.{answerOf, lengthOf, wordsOf}
+use Rattle.answers.specs.Contracts.{answerOf, lengthOf, wordsOf}
 use Rattle.planes_sums.specs.declared.Sums.{Sums}
 use Rattle.planes_sums.specs.declared.Integral.{Integral}
 use Rattle.planes_sums.specs.declared.Probed.the-variants.{Missed}

@@ -1,4 +1,4 @@
--- What is kept of samples, the answer words and the marks. The code holds no list of samples.
+-- Sampling, sample by sample: what is kept of the samples so far, the answer words and the marks. No list of samples is held.
 use Prim.Native.Nat.{ℕ, _+_, _≤_}
 use mathlib.Core.Path.{_≡_}
 use mathlib.Core.List.{List, [], _∷_}
@@ -13,13 +13,13 @@ use Rattle.case_file.specs.declared.Opened.the-variants.{Case}
 use Rattle.case_file.specs.Trailer.{opened}
 use Rattle.mesh_area.specs.declared.Sizes.{Sizes}
 use Rattle.planes_cut.specs.declared.Cut.{Cut}
-use Rattle.planes_cut.specs.Work.{Lent, bare}
-use Rattle.planes_crossings.specs.Work.{Bounded}
+use Rattle.planes_cut.specs.Contracts.{Lent, bare}
+use Rattle.planes_crossings.specs.Contracts.{Bounded}
 use Rattle.planes_sections.specs.Intersect.{PlaneCell}
 use Rattle.planes_sums.specs.declared.Tally.{Tally}
 use Rattle.planes_sums.specs.Sample.{Sample}
 use Rattle.planes_sums.specs.Kept.{Kept, keptOf, addTo, written, sizeOf}
-use Rattle.planes_samples.specs.Sampling.{Taken, taken, complete}
+use Rattle.planes_samples.specs.Sampling.{taken, complete}
 use Rattle.planes_samples.specs.declared.Tallied.{Tallied}
 use Rattle.planes_samples.specs.declared.Tallied.the-variants.{Done, Bad}
 

@@ -1,4 +1,4 @@
--- A room that stands in the work area, and what `prepare` promises.
+-- The contracts of `prepare` and its parts: a room that stands in the work area.
 use Prim.Native.Nat.{ℕ, _*_, _/_, _%_, _≤_}
 use mathlib.Core.Path.{_≡_}
 use mathlib.Core.List.{List}
@@ -8,13 +8,18 @@ use Rattle.reading.specs.Result.{Result, refused, fine}
 use Rattle.case_file.specs.declared.Counts.{Counts}
 use Rattle.case_file.specs.declared.Opened.the-variants.{Case}
 use Rattle.case_file.specs.Trailer.{opened}
-use Rattle.mesh_area.specs.Layout.{pointsIn, meshIn}
-use Rattle.lines_velocity.specs.Ready.{tracerField, Ready}
-use Rattle.planes_samples.specs.Stream as Planes
-use Rattle.job_room.specs.Room.{Room, flat, solid, Lent}
+use Rattle.mesh_area.specs.Layout.{pointsIn, meshIn, LentWords, LentFloats}
+use Rattle.lines_velocity.specs.Contracts.{tracerField, Ready}
+use Rattle.job_room.specs.Room.{Room, flat, solid, Lent, shortage}
 use Rattle.job_room.specs.declared.Place.{Place}
 use Rattle.job_room.specs.declared.Place.the-variants.{Flat, Solid}
 use Rattle.job_room.specs.declared.Prepared.{Prepared}
+use Rattle.case_definitions.specs.Faces.{Definition, facesCounted}
+use Rattle.mesh_area.specs.declared.Sizes.{Sizes}
+use Rattle.lines_field.specs.Contracts.{Few}
+use Rattle.planes_crossings.specs.Contracts.{Bounded}
+use Rattle.mesh_coordinates.specs.Coordinates.{acceptedAs}
+use Rattle.planes_samples.specs.Contracts as Planes
 use Rattle.job_room.specs.declared.Prepared.the-variants as Prepared
 
 -- the room that stands at a place
@@ -48,3 +53,16 @@ pub record Fits (cells requests : ℕ) (lent : Lent) : Type 0 where
   pub whole : requests % 128 ≡ 0
   pub few : requests ≤ 524288
   pub answers : 2 * (requests / 128) ≤ lent .answers
+
+-- the refusal of a case with these counts and as many faces
+unfoldable pub Shortage : Counts → ℕ → ℕ → Lent → ℕ → Type 0
+Shortage n faces requests lent r = (defs : List Definition) → faces ≡ facesCounted defs → shortage (record { counts = n; definitions = defs }) requests lent ≡ acceptedAs r
+
+-- the mesh of a case stands in the area
+pub record FieldReady (case : List ℕ) (n : Counts) (s : Sizes) (words : List ℕ) (floats : List Float) : Type 0 where
+  pub opens : opened case ≡ Case n
+  pub lent-words : LentWords s words
+  pub lent-floats : LentFloats s floats
+  pub cells : s .cells ≡ n .cells
+  pub few : n .dimension ≡ 2 → Few (meshIn (pointsIn case (n .points)) s words floats)
+  pub bounded : Bounded (meshIn (pointsIn case (n .points)) s words floats)

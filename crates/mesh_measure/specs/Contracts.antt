@@ -8,16 +8,16 @@ use mathlib.Core.List.{List}
 use Rattle.arith.specs.declared.Vec3.{Vec3}
 use Rattle.reading.specs.Result.{Result, refused, fine}
 use Rattle.case_definitions.specs.Faces.{facesOf}
-use Rattle.case_definitions.specs.Walker.{definitionAt, faceAt}
-use Rattle.case_faces.specs.Copying.{AtFace}
+use Rattle.case_definitions.specs.Contracts.{definitionAt, faceAt}
+use Rattle.case_faces.specs.Contracts.{AtFace}
 use Rattle.case_definitions.specs.declared.Head.{Head}
 use Rattle.case_faces.specs.declared.FaceCursor.{FaceCursor}
 use Rattle.mesh_volumes.specs.declared.Weight.{Weight}
 use Rattle.mesh_volumes.specs.Geometry.{addTriangle, addFace3D}
 use Rattle.mesh_measure.specs.declared.Weighed.{Weighed}
 use Rattle.mesh_measure.specs.declared.Fanned.{Fanned}
-use Rattle.mesh_measure.specs.declared.Fanned.the-variants as Fan
 use Rattle.mesh_measure.specs.declared.Fans.{Fans}
+use Rattle.mesh_measure.specs.declared.Fanned.the-variants as Fan
 use Rattle.mesh_measure.specs.declared.Fans.the-variants as All
 
 -- the faces of the record h

@@ -1,4 +1,4 @@
--- What the functions that trace lines promise.
+-- The contracts of the functions that trace lines: "equate result, answers and marks with a definition, refusals too".
 use Prim.Native.Nat.{ℕ}
 use mathlib.Core.Path.{_≡_}
 use mathlib.Core.List.{List}

@@ -1,32 +1,51 @@
--- The contracts of the parts of `finish_cells`.
+-- The contracts of `finish_cells` and its parts.
 -- `cellFrom`, `floatsOf`: a cell's floats. `geometryAt`: its geometry.
 -- `finish_record`: `RecordReady`, `RecordFinishing`. `finish_cell`: `CellReady`, `CellFinishing`.
 -- `finish_cells`: `firstCells`, `Going`.
-use Prim.Native.Nat.{ℕ, _+_, _-_, _*_, _≤_, _<_}
+use Prim.Native.Nat.{ℕ, _*_, _≤_, _+_, _-_, _<_}
 use mathlib.Core.Path.{_≡_}
 use mathlib.Core.List.{List, [], _∷_, _++_}
-use lib.ListN.{getD, take, drop}
+use lib.ListN.{length, getD, take, drop}
 use lib.Ieee.{Float, nan}
-use Rattle.arith.specs.Records.{tab, puts}
 use Rattle.arith.specs.declared.Vec3.{Vec3}
 use Rattle.reading.specs.Result.{Result, refused, fine, _>>=_, mapAll}
 use Rattle.case_definitions.specs.Faces.{Definition, facesOf}
-use Rattle.case_definitions.specs.Definitions.{Taken, definition, definitions}
-use Rattle.case_definitions.specs.Walker.{Headed, definitionAt}
-use Rattle.case_definitions.specs.declared.Cursor.{Cursor}
-use Rattle.case_definitions.specs.declared.Head.{Head}
+use Rattle.case_definitions.specs.Definitions.{definitions, Taken, definition}
 use Rattle.mesh_area.specs.declared.Sizes.{Sizes}
 use Rattle.mesh_area.specs.Tables.{Cell}
-use Rattle.mesh_area.specs.Layout.{vecFrom, cellIn, meshWords, meshFloats, LentFloats}
-use Rattle.mesh_volumes.specs.declared.CellGeometry.{CellGeometry}
+use Rattle.mesh_area.specs.Layout.{cellsIn, floatsEnd, LentWords, LentFloats, vecFrom, cellIn, meshWords, meshFloats}
 use Rattle.mesh_volumes.specs.Geometry.{cellGeometry}
 use Rattle.mesh_coordinates.specs.Coordinates.{Points}
-use Rattle.mesh_cells.specs.Drafting.{draftsIn}
-use Rattle.mesh_centres.specs.Finish.{finished, definitionsOf}
+use Rattle.mesh_cells.specs.Partial.{draftsIn}
+use Rattle.mesh_cells.specs.Contracts.{Lists}
 use Rattle.mesh_centres.specs.declared.Finished.{Finished}
-use Rattle.mesh_centres.specs.declared.Finished.the-variants as Finished
+use Rattle.mesh_centres.specs.declared.Finished.the-variants.{Done, ZeroVolume}
+use Rattle.arith.specs.Records.{tab, puts}
+use Rattle.case_definitions.specs.Contracts.{Headed, definitionAt}
+use Rattle.case_definitions.specs.declared.Cursor.{Cursor}
+use Rattle.case_definitions.specs.declared.Head.{Head}
+use Rattle.mesh_volumes.specs.declared.CellGeometry.{CellGeometry}
+use Rattle.mesh_centres.specs.Finish.{finished, definitionsOf, finishedAs}
 use Rattle.mesh_centres.specs.declared.CellFinished.{CellFinished}
+use Rattle.mesh_centres.specs.declared.Finished.the-variants as Finished
 use Rattle.mesh_centres.specs.declared.CellFinished.the-variants as CellFinished
+
+-- what the caller of `finish_cells` shows: the area holds the drafts of the definitions
+pub record Finishable (case : List ℕ) (points : ℕ) (ws words : List ℕ) (floats : List Float) (s : Sizes) : Type 0 where
+  pub lent-words : LentWords s words
+  pub lent-floats : LentFloats s floats
+  pub points-there : Points case points
+  pub defs : List Definition
+  pub right : definitions (s .cells) ws ≡ fine defs
+  pub lists : Lists ws s words (s .cells) (s .slots)
+  pub defined : definitionsOf (draftsIn ws s words floats (s .cells)) ≡ defs
+
+-- what it leaves: the cells, or refusal 15; the faces before them and what stands behind them are as they were
+pub record Finishing (d : ℕ) (ps : List Vec3) (ws : List ℕ) (s : Sizes) (words : List ℕ) (floats floats′ : List Float) (r : Finished) : Type 0 where
+  pub cells : mapAll (finished d ps) (draftsIn ws s words floats (s .cells)) ≡ finishedAs r (cellsIn s words floats′)
+  pub faces : take (12 * s .slots) floats′ ≡ take (12 * s .slots) floats
+  pub long : length floats′ ≡ length floats
+  pub later : (j : ℕ) → floatsEnd s ≤ j → getD floats′ j nan ≡ getD floats j nan
 
 -- ---- one cell
 

@@ -5,10 +5,10 @@ use mathlib.Core.List.{List}
 use Rattle.arith.specs.declared.Vec3.{Vec3}
 use Rattle.reading.specs.Result.{Result, refused, fine}
 use Rattle.mesh_geometry.specs.declared.FaceVector.{FaceVector}
-use Rattle.mesh_geometry.specs.declared.FaceVector.the-variants as Of
 use Rattle.mesh_geometry.specs.declared.TurnedFace.{TurnedFace}
-use Rattle.mesh_geometry.specs.declared.TurnedFace.the-variants as Turned
 use Rattle.mesh_geometry.specs.Faces.{Oriented, measured, orientedFace, leftOrder}
+use Rattle.mesh_geometry.specs.declared.FaceVector.the-variants as Of
+use Rattle.mesh_geometry.specs.declared.TurnedFace.the-variants as Turned
 
 -- 13 "degenerate face"
 unfoldable pub vectorOf : FaceVector → Result Vec3

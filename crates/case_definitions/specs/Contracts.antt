@@ -1,22 +1,54 @@
--- The walker as the code has it: positions among the words ws, in the place of the words that are left.
+-- The contracts of the walker: positions among the words ws, in the place of the words that are left.
+-- `listed`, `listAt`, `skipped`: a counted run at a position.
+-- `KindAt`, `SolidAt`: which record stands at a position.
 -- `firstOf`, `headOf`, `cursorAt`: a record's head and a position.
 -- `stepped`, `stepAt`: the record at a position. `walked`, `walkedFaces`: all of them.
 -- `readOf`, `definitionAt`, `faceAt`: what stands there. `Headed`: its head.
-use Prim.Native.Nat.{ℕ, zero, suc, _+_, _-_, _≤_}
+use Prim.Native.Nat.{ℕ, _+_, _-_, _<_, _≤_}
 use mathlib.Core.Path.{_≡_}
-use mathlib.Core.Bool.{cond}
-use mathlib.Core.List.{List, [], _++_}
-use lib.Dec.{eqb}
-use lib.ListN.{length, getD, take, drop}
+use mathlib.Core.List.{List, []}
+use lib.ListN.{length, getD, drop}
 use Rattle.reading.specs.Result.{Result, refused, fine}
-use Rattle.case_definitions.specs.Faces.{Definition, polygon, solid, polyhedron, faceCount, facesCounted, facesOf}
-use Rattle.case_definitions.specs.Definitions.{Taken, definition}
+use Rattle.case_definitions.specs.Faces.{solid, Definition, polygon, polyhedron, faceCount, facesCounted, facesOf}
+use Rattle.case_definitions.specs.Definitions.{Taken, numbers, counted, made, definition}
+use Rattle.case_definitions.specs.declared.Listed.{Listed}
+use Rattle.case_definitions.specs.declared.Listed.the-variants.{Count, Bad}
+use Rattle.case_definitions.specs.declared.Skipped.{Skipped}
+use Rattle.case_definitions.specs.declared.Skipped.the-variants.{To, Short}
 use Rattle.case_definitions.specs.declared.Cursor.{Cursor}
 use Rattle.case_definitions.specs.declared.Head.{Head}
 use Rattle.case_definitions.specs.declared.Step.{Step}
 use Rattle.case_definitions.specs.declared.Step.the-variants.{Record, Wrong}
 use Rattle.case_definitions.specs.declared.Walked.{Walked}
 use Rattle.case_definitions.specs.declared.Walked.the-variants.{Faces, Refused}
+
+-- the count of a list that was read, or that it was refused
+unfoldable pub listed : Result (Taken (List ℕ)) → Listed
+listed (refused r) = Bad
+listed (fine w) = Count (length (w .read))
+
+-- a count of at most `limit` at a position, with as many words after it
+unfoldable pub listAt : List ℕ → ℕ → ℕ → Listed
+listAt ws at limit = listed (counted limit numbers (drop at ws))
+
+-- the position after what was read
+unfoldable pub skipped : {A : Type 0} → List ℕ → Result (Taken A) → Skipped
+skipped ws (refused r) = Short r
+skipped ws (fine w) = To (length ws - length (w .left))
+
+-- the word at a position is the kind word `kind`
+pub record KindAt (ws : List ℕ) (at kind : ℕ) : Type 0 where
+  pub there : at < length ws
+  pub small : at < 4611686018427387904
+  pub same : getD ws at 0 ≡ kind
+
+-- and the kind has so many point numbers and faces
+pub record SolidAt (ws : List ℕ) (at kind count faces : ℕ) : Type 0 where
+  pub at-kind : KindAt ws at kind
+  pub places : List (List ℕ)
+  pub reads : definition (drop at ws) ≡ made (solid places) (numbers count (drop (at + 1) ws))
+  pub all : faces ≡ length places
+  pub few : count ≤ 8
 
 -- where a record's point numbers, or a polyhedron's faces, start: after the kind word, and after the count if the kind has one
 unfoldable pub firstOf : ℕ → Definition → ℕ

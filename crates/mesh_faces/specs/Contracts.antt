@@ -1,4 +1,4 @@
--- What the use of a face by a cell asks and leaves.
+-- What the use of a face by a cell needs and leaves.
 -- `Ready`, `Extended`: what `add` needs and leaves.
 -- `wordsAfter`, `floatsAfter`, `after`, `storedAt`: the area after an answer.
 -- `Settled`: what `settle` leaves.

@@ -1,8 +1,8 @@
--- What the builder of the tracer's part of the work area promises.
+-- The contracts of the functions that build the tracer's part of the work area.
 use Prim.Native.Nat.{ℕ, _+_, _≤_, _<_}
 use mathlib.Core.Path.{_≡_}
 use mathlib.Core.List.{List, map}
-use lib.ListN.{getD, take, drop}
+use lib.ListN.{getD, take, drop, length}
 use lib.Ieee.{Float, nan}
 use Rattle.arith.specs.Records.{tab}
 use Rattle.arith.specs.Vec.{pair}
@@ -12,16 +12,19 @@ use Rattle.arith_angles.specs.Angle.{angleOf}
 use Rattle.arith_angles.specs.Sort.{angleAt}
 use Rattle.reading.specs.Result.{fine}
 use Rattle.mesh_area.specs.declared.Sizes.{Sizes}
-use Rattle.mesh_area.specs.Tables.{Mesh}
+use Rattle.mesh_area.specs.Tables.{Mesh, cellAt}
 use Rattle.mesh_area.specs.Layout.{wordsEnd, floatsEnd}
 use Rattle.lines_polygon.specs.Extent.{Outside, limitsFrom}
 use Rattle.lines_locate.specs.declared.Grid.{Grid}
-use Rattle.lines_locate.specs.Layout.{wordsAt, floatsAt, polygonIn, cellPolygonIn, fieldIn, Searchable}
+use Rattle.lines_locate.specs.Layout.{wordsAt, floatsAt, polygonIn, cellPolygonIn, fieldIn}
+use Rattle.lines_locate.specs.Contracts.{Searchable}
 use Rattle.lines_field.specs.declared.Built.{Built}
 use Rattle.lines_field.specs.declared.Built.the-variants.{Made}
-use Rattle.lines_field.specs.Corners.{about}
-use Rattle.lines_field.specs.Bins.{listedIn}
+use Rattle.lines_field.specs.Corners.{about, cornersOf}
+use Rattle.lines_field.specs.Bins.{listedIn, binCounts}
 use Rattle.lines_field.specs.Field.{gridOf, polygonsOf, fieldOf, builtGrid}
+use Rattle.lines_locate.specs.declared.Bin.{Bin}
+use Rattle.lines_locate.specs.declared.Box.{Box}
 
 -- the polygons of all cells that the area holds
 unfoldable pub polygonsIn : Sizes → List ℕ → List Float → List (List Vec2)
@@ -81,3 +84,13 @@ pub record Traceable (m : Mesh) (s : Sizes) (words′ : List ℕ) (floats′ : L
   pub result : builtGrid r ≡ gridOf (s .cells) (polygonsOf m)
   pub field : (g : Grid) → r ≡ Made g → fieldOf m ≡ fine (fieldIn g s words′ floats′)
   pub searchable : (g : Grid) → r ≡ Made g → Searchable g s words′ floats′
+
+-- what `bin_counts` promises
+pub record Counted (cells : ℕ) (b : Box) (n : Bin) : Type 0 where
+  pub counts : n ≡ binCounts cells b
+  pub wide : 0 < n .x
+  pub high : 0 < n .y
+
+-- what the mesh promises of a 2D case: "0 has a count (at most 24)"
+pub record Few (m : Mesh) : Type 0 where
+  pub corners : (i : ℕ) → length (cornersOf m (cellAt (m .cells) i)) ≤ 24

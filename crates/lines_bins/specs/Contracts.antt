@@ -1,0 +1,63 @@
+-- The words of the contracts.
+use mathlib.Core.Path.{_≡_}
+use mathlib.Core.Bool.{Bool, true, false}
+use mathlib.Core.List.{List}
+use mathlib.Core.Logic.{_≢_}
+use Prim.Native.Nat.{ℕ, _+_, _*_, _<_, _≤_}
+use lib.ListN.{length}
+use Rattle.lines_bins.specs.Index.{slotIn, inBin, flagIn, poolIn, headIn, Same, Chain, node, within}
+
+-- one word of the pool stored
+pub record PoolSet (w w′ : List ℕ) (base n p v : ℕ) : Type 0 where
+  pub here : poolIn w′ base n p ≡ v
+  pub others : (q : ℕ) → q ≢ p → poolIn w′ base n q ≡ poolIn w base n q
+  pub cells : Same w w′ base n
+
+-- the word that says whether the index stands, stored
+pub record FlagSet (w w′ : List ℕ) (base n v : ℕ) : Type 0 where
+  pub here : flagIn w′ base n ≡ v
+  pub pool : (q : ℕ) → poolIn w′ base n q ≡ poolIn w base n q
+  pub cells : Same w w′ base n
+
+-- a node for this cell before the chain of the bin
+pub record Pushed (w w′ : List ℕ) (base n bin cell top : ℕ) : Type 0 where
+  pub node : poolIn w′ base n top ≡ cell
+  pub next : poolIn w′ base n (top + 1) ≡ poolIn w base n bin
+  pub head : poolIn w′ base n bin ≡ top
+  pub others : (q : ℕ) → q ≢ bin → q < top → poolIn w′ base n q ≡ poolIn w base n q
+  pub cells : Same w w′ base n
+
+-- each bin's chain lists its cells from a start on
+pub record Chains (w : List ℕ) (base n nx ny top : ℕ) (start : ℕ → ℕ → ℕ) : Type 0 where
+  pub chain : (x y : ℕ) → x < nx → y < ny → Chain w base (nx * ny) top (inBin w base x y) n (start x y) (headIn w base n nx x y)
+  pub above : nx * ny ≤ top
+  pub fits : top ≤ 72 * n
+
+-- the ranges are within the bins, and the area has its room
+pub record Ranged (w : List ℕ) (base n nx ny : ℕ) : Type 0 where
+  pub some : 0 < nx * ny
+  pub room : base + 88 * n ≤ length w
+  pub few : n ≤ 16384
+  pub low : base ≤ 16908288
+  pub wide : (i : ℕ) → i < n → slotIn w base i 2 < nx
+  pub high : (i : ℕ) → i < n → slotIn w base i 3 < ny
+
+-- the whole index
+pub record Indexed (w : List ℕ) (base n nx ny : ℕ) : Type 0 where
+  pub top : ℕ
+  pub chains : Chains w base n nx ny top (λ x y. 0)
+
+-- what listing a cell in some bins leaves; 0: there was no room
+pub record Grown (w w′ : List ℕ) (base n nx ny top : ℕ) (start : ℕ → ℕ → ℕ) : Type 0 where
+  pub cells : Same w w′ base n
+  pub chains : (top ≡ 0 → ⊥) → Chains w′ base n nx ny top start
+
+-- what the fill leaves; false: there was no room
+pub record Filled (w w′ : List ℕ) (base n nx ny : ℕ) (r : Bool) : Type 0 where
+  pub cells : Same w w′ base n
+  pub index : r ≡ true → Indexed w′ base n nx ny
+
+-- what the build leaves
+pub record Built (w w′ : List ℕ) (base n nx ny : ℕ) : Type 0 where
+  pub cells : Same w w′ base n
+  pub index : flagIn w′ base n ≡ 1 → Indexed w′ base n nx ny
