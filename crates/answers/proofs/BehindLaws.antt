@@ -7,7 +7,7 @@ use lib.ListN.{length, take, drop, length-append, length-drop, drop-of-length-le
 use lib.Seq.{sets, sets-eq, take-all, take-at, drop-at, take-append-le, length-take-le, take-take}
 use Rattle.reading.specs.Result.{Result, refused, fine}
 use Rattle.answers.specs.declared.Answered.{Answered}
-use Rattle.answers.specs.Contracts.{answerOf, lengthOf, replied, Behind, Placed, Closed}
+use Rattle.answers.specs.Contracts.{answerOf, lengthOf, replied, Behind, StoredWords, CloseExit}
 use Rattle.answers.specs.Answer.{fitting, answerWords, headerOf}
 use Rattle.answers.proofs.BufferLaws.{closed-placed}
 
@@ -43,8 +43,8 @@ module _ (o out′ : List ℕ) (at : ℕ) (fits : at + 2 ≤ length o) where
 
 module _ (reply : Result (List ℕ)) (a : Answered) (left o out′ o′ : List ℕ) (at later e : ℕ) (tells : answerOf a ≡ lengthOf reply) (fits : at + 2 + 2 * later ≤ length o) where
   pub placed-behind : out′ ≡ replied (drop (at + 2) o) left reply → length out′ ≡ length (drop (at + 2) o)
-      → Closed (headerOf (length (take (at + 2) o ++ out′) - at) later a) (take (at + 2) o ++ out′) o′ at e
-      → Placed (answerWords (fitting (length o - at) later reply)) o o′ at later e
+      → CloseExit (headerOf (length (take (at + 2) o ++ out′) - at) later a) (take (at + 2) o ++ out′) o′ at e
+      → StoredWords (answerWords (fitting (length o - at) later reply)) o o′ at later e
   placed-behind stored long c =
       let room : at + 2 ≤ length o = omega arith in
       let same : length (take (at + 2) o ++ out′) ≡ length o = lent-long o out′ at room long in
@@ -59,8 +59,8 @@ module _ (reply : Result (List ℕ)) (a : Answered) (left o out′ o′ : List �
 
   -- the same where the words behind the header are lent as a part
   pub placed-part : (k : ℕ) → k ≡ length o - (at + 2) → out′ ≡ replied (take k (drop (at + 2) o)) left reply → length out′ ≡ length (take k (drop (at + 2) o))
-      → Closed (headerOf (length (take (at + 2) o ++ (out′ ++ drop k (drop (at + 2) o))) - at) later a) (take (at + 2) o ++ (out′ ++ drop k (drop (at + 2) o))) o′ at e
-      → Placed (answerWords (fitting (length o - at) later reply)) o o′ at later e
+      → CloseExit (headerOf (length (take (at + 2) o ++ (out′ ++ drop k (drop (at + 2) o))) - at) later a) (take (at + 2) o ++ (out′ ++ drop k (drop (at + 2) o))) o′ at e
+      → StoredWords (answerWords (fitting (length o - at) later reply)) o o′ at later e
   placed-part k n stored long c =
       let past : length (drop (at + 2) o) ≤ k = omega (arith, n, length-drop (at + 2) o) in
       let all : take k (drop (at + 2) o) ≡ drop (at + 2) o = take-all k (drop (at + 2) o) past in

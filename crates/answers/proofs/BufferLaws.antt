@@ -12,7 +12,7 @@ use Rattle.reading.specs.Result.{Result, refused, fine}
 use Rattle.reading.specs.Marks.{cleared}
 use Rattle.answers.specs.declared.Answered.{Answered}
 use Rattle.answers.specs.declared.Answered.the-variants.{Words, Refused}
-use Rattle.answers.specs.Contracts.{answerOf, lengthOf, Behind, Placed, Closed}
+use Rattle.answers.specs.Contracts.{answerOf, lengthOf, Behind, StoredWords, CloseExit}
 use Rattle.answers.specs.Answer.{fitting, answerWords, headerOf}
 
 -- ---- zeros
@@ -89,7 +89,7 @@ pub set-long : (o : List ℕ) (i j a b : ℕ) → length (set (set o i a) j b) �
 set-long o i j a b = simp length-set refl
 
 -- the answer of a refusal
-pub placed-refused : (o o′ : List ℕ) (at later k r : ℕ) → at + 2 + 2 * later ≤ length o → r ≡ at + 2 + 0 → o′ ≡ set (set o at k) (at + 1) 0 → Placed (answerWords (refused k)) o o′ at later r
+pub placed-refused : (o o′ : List ℕ) (at later k r : ℕ) → at + 2 + 2 * later ≤ length o → r ≡ at + 2 + 0 → o′ ≡ set (set o at k) (at + 1) 0 → StoredWords (answerWords (refused k)) o o′ at later r
 unfolding answerWords
 placed-refused o o′ at later k r h e s =
     record {
@@ -101,7 +101,7 @@ placed-refused o o′ at later k r h e s =
 
 -- the answer of words that stand
 pub placed-words : (o o′ ws : List ℕ) (at later k r : ℕ) → k ≡ length ws → at + 2 + k + 2 * later ≤ length o → take k (drop (at + 2) o) ≡ ws → r ≡ at + 2 + k
-    → o′ ≡ set (set o at 0) (at + 1) k → Placed (answerWords (fine ws)) o o′ at later r
+    → o′ ≡ set (set o at 0) (at + 1) k → StoredWords (answerWords (fine ws)) o o′ at later r
 unfolding answerWords
 placed-words o o′ ws at later k r c h w e s =
     record {
@@ -147,17 +147,17 @@ zeroing-cleared {i} {l} n z h k =
 -- ---- the three ends of `close`
 
 module _ {o o′ : List ℕ} {at e : ℕ} {r : Answered} (later : ℕ) where
-  pub close-refused : {k : ℕ} → r ≡ Refused k → (e ≡ at + 2 + 0) × (o′ ≡ set (set o at k) (at + 1) 0) → Closed (headerOf (length o - at) later r) o o′ at e
+  pub close-refused : {k : ℕ} → r ≡ Refused k → (e ≡ at + 2 + 0) × (o′ ≡ set (set o at k) (at + 1) 0) → CloseExit (headerOf (length o - at) later r) o o′ at e
   unfolding headerOf
   close-refused q p = rw q (record { answers = p .1; end = p .0 })
 
   pub close-fits : {k : ℕ} → r ≡ Words k → at + 2 + 2 * later ≤ length o → k ≤ length o - at - 2 - 2 * later
-      → (e ≡ at + 2 + k) × (o′ ≡ set (set o at 0) (at + 1) k) → Closed (headerOf (length o - at) later r) o o′ at e
+      → (e ≡ at + 2 + k) × (o′ ≡ set (set o at 0) (at + 1) k) → CloseExit (headerOf (length o - at) later r) o o′ at e
   unfolding headerOf
   close-fits {k = k} q h f p = rw (q, le-leb (k + 2 + 2 * later) (length o - at) (omega arith)) (record { answers = p .1; end = p .0 })
 
   pub close-44 : {k : ℕ} → r ≡ Words k → at + 2 + 2 * later ≤ length o → length o - at - 2 - 2 * later < k
-      → (e ≡ at + 2 + 0) × (o′ ≡ set (set o at 44) (at + 1) 0) → Closed (headerOf (length o - at) later r) o o′ at e
+      → (e ≡ at + 2 + 0) × (o′ ≡ set (set o at 44) (at + 1) 0) → CloseExit (headerOf (length o - at) later r) o o′ at e
   unfolding headerOf
   close-44 {k = k} q h f p = rw (q, lt-leb (k + 2 + 2 * later) (length o - at) (omega arith)) (record { answers = p .1; end = p .0 })
 
@@ -165,14 +165,14 @@ module _ {o o′ : List ℕ} {at e : ℕ} {r : Answered} (later : ℕ) where
 
 module _ (o o′ : List ℕ) (at later e : ℕ) (h : at + 2 + 2 * later ≤ length o) where
   words-placed : (ws : List ℕ) (t : Bool) → leb (length ws + 2 + 2 * later) (length o - at) ≡ t → Behind (fine ws) o at
-      → Closed (cond t (record { refusal = 0; count = length ws }) (record { refusal = 44; count = 0 })) o o′ at e → Placed (answerWords (cond t (fine ws) (refused 44))) o o′ at later e
+      → CloseExit (cond t (record { refusal = 0; count = length ws }) (record { refusal = 44; count = 0 })) o o′ at e → StoredWords (answerWords (cond t (fine ws) (refused 44))) o o′ at later e
   words-placed ws true q b c =
       let fits = leb-true (length ws + 2 + 2 * later) (length o - at) q in
       placed-words o o′ ws at later (length ws) e refl (omega arith) (b .words ws refl (omega arith)) (c .end) (c .answers)
   words-placed ws false q b c = placed-refused o o′ at later 44 e h (c .end) (c .answers)
 
-  pub closed-placed : (reply : Result (List ℕ)) (r : Answered) → answerOf r ≡ lengthOf reply → Behind reply o at → Closed (headerOf (length o - at) later r) o o′ at e
-      → Placed (answerWords (fitting (length o - at) later reply)) o o′ at later e
+  pub closed-placed : (reply : Result (List ℕ)) (r : Answered) → answerOf r ≡ lengthOf reply → Behind reply o at → CloseExit (headerOf (length o - at) later r) o o′ at e
+      → StoredWords (answerWords (fitting (length o - at) later reply)) o o′ at later e
   unfolding headerOf answerOf lengthOf fitting
   closed-placed (refused n) (Refused k) q b c =
       let same : k ≡ n = cc in

@@ -38,7 +38,7 @@ replied o left (refused n) = left
 replied o left (fine ws) = sets o 0 ws
 
 -- "equate result, answers and marks with a definition, refusals too"
-pub record Replied (tree : Asks (Result (List ℕ))) (f : ℕ → Values) (left : List ℕ) (r : Answered) (o o′ m m′ : List ℕ) : Type 0 where
+pub record Reply (tree : Asks (Result (List ℕ))) (f : ℕ → Values) (left : List ℕ) (r : Answered) (o o′ m m′ : List ℕ) : Type 0 where
   pub result : answerOf r ≡ lengthOf (run tree f)
   pub answers : o′ ≡ replied o left (run tree f)
   pub marks : m′ ≡ markAll m (reads tree f)
@@ -48,13 +48,13 @@ pub record Behind (reply : Result (List ℕ)) (o : List ℕ) (at : ℕ) : Type 0
   pub words : (ws : List ℕ) → reply ≡ fine ws → at + 2 + length ws ≤ length o → take (length ws) (drop (at + 2) o) ≡ ws
 
 -- the words ws stand from `at` on and end at r; those before are as they were; the later answers have room
-pub record Placed (ws o o′ : List ℕ) (at later r : ℕ) : Type 0 where
+pub record StoredWords (ws o o′ : List ℕ) (at later r : ℕ) : Type 0 where
   pub words : take r o′ ≡ take at o ++ ws
   pub end : r ≡ at + length ws
   pub room : r + 2 * later ≤ length o
   pub long : length o′ ≡ length o
 
 -- `close` stores the header alone: two words of the buffer, at `at`; the answer ends at e, behind the words that stand there
-pub record Closed (h : Header) (o o′ : List ℕ) (at e : ℕ) : Type 0 where
+pub record CloseExit (h : Header) (o o′ : List ℕ) (at e : ℕ) : Type 0 where
   pub answers : o′ ≡ set (set o at (h .refusal)) (at + 1) (h .count)
   pub end : e ≡ at + 2 + h .count

@@ -6,7 +6,7 @@ ghost use Prim.Native.Nat.{_+_, _-_, _*_, _≤_};
 ghost use lib.ListN.{length, set, take, replicate};
 ghost use Rattle.reading.specs.Marks.{cleared};
 ghost use Rattle.answers.specs.Answer.{headerOf};
-ghost use Rattle.answers.specs.Contracts.{Closed};
+ghost use Rattle.answers.specs.Contracts.{CloseExit};
 
 // Stores the header at `at`: the refusal, or 0, and the count. Where the next answer goes.
 fn put_header(answers: &mut [u64], at: usize, refusal: u64, count: usize) -> usize
@@ -22,7 +22,7 @@ fn put_header(answers: &mut [u64], at: usize, refusal: u64, count: usize) -> usi
 // The header by what was answered; 44 where the words do not fit beside two for each later answer.
 pub fn close(answers: &mut [u64], at: usize, later: usize, r: Answered) -> usize
     requires { ⌜ at + 2 + 2 * later ≤ length (now answers) ⌝ }
-    ensures { λ e. ⌜ Closed (headerOf (length (now (answers .entry)) - at) later r)
+    ensures { λ e. ⌜ CloseExit (headerOf (length (now (answers .entry)) - at) later r)
         (now (answers .entry)) (now (answers .exit)) at e ⌝ }
 {
     match r {

@@ -8,7 +8,7 @@ use lib.Dec.{lit≤}
 use lib.Pow.{pow-add, pow-mono, shl-lt}
 use lib.Count.{leadingZeros, leading-top}
 use borrow.Author.Tests.{eq-eqb, ne-eqb}
-use Rattle.arith_root.specs.Contracts.{unitsOf, Scaled}
+use Rattle.arith_root.specs.Contracts.{unitsOf, UnpackExit}
 
 -- ---- a pattern with no exponent: its digits move up by s = leadingZeros - 11
 
@@ -67,7 +67,7 @@ module _ (b : ℕ) (some : 0 < b) (small : b / 2 ^ 52 ≡ 0) where
   up-by-le : up-by ≤ 52
   up-by-le = let a = up-by-is in omega arith
 
-  pub unpack-0 : Scaled b ((b * 2 ^ up-by) % 2 ^ 64) (1024 - up-by)
+  pub unpack-0 : UnpackExit b ((b * 2 ^ up-by) % 2 ^ 64) (1024 - up-by)
   unfolding unitsOf
   unpack-0 =
       let l = up-by-le in
@@ -85,7 +85,7 @@ module _ (b : ℕ) (some : 0 < b) (small : b / 2 ^ 52 ≡ 0) where
       })
 
 -- ---- a pattern with an exponent
-pub unpack-1 : (b : ℕ) → b < 0x7ff0_0000_0000_0000 → (b / 2 ^ 52 ≡ 0 → ⊥) → Scaled b (b % 2 ^ 52 + 2 ^ 52) (b / 2 ^ 52 + 1023)
+pub unpack-1 : (b : ℕ) → b < 0x7ff0_0000_0000_0000 → (b / 2 ^ 52 ≡ 0 → ⊥) → UnpackExit b (b % 2 ^ 52 + 2 ^ 52) (b / 2 ^ 52 + 1023)
 unfolding unitsOf
 unpack-1 b h more =
     let e : b / 2 ^ 52 - 1 + 1024 ≡ b / 2 ^ 52 + 1023 = omega arith in

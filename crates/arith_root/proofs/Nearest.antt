@@ -13,7 +13,7 @@ use lib.Ieee.Bits.{ofBits-toBits, toBits-lt, ofBits-fits}
 use borrow.Author.Tests.{lt-ltb}
 use Rattle.arith_root.specs.Root.{mag, root, plus, Nearest, SquareRoot, isqrt}
 use Rattle.arith_whole_root.specs.Whole.{WholeRoot}
-use Rattle.arith_root.specs.Contracts.{unitsOf, Scaled}
+use Rattle.arith_root.specs.Contracts.{unitsOf, UnpackExit}
 use Rattle.arith_root.proofs.Cases.{nought, some-above, equals→mag, mag-odd, mag-bits, plus-top, some-bits, root-above}
 use Rattle.arith_root.proofs.Fields.{unpack-0, unpack-1}
 use Rattle.arith_root.proofs.Pack.{wide, wide-in, in-108, units-are, square-is, rounded-is, packed, q-low}
@@ -150,10 +150,10 @@ short (fin s (suc m) e) f p =
 
 -- ---- the parts of a pattern
 
-some-parts : (b : ℕ) → 0 < b → b < 0x7ff0_0000_0000_0000 → (a : ℕ) × (h : ℕ) × Scaled b a h
+some-parts : (b : ℕ) → 0 < b → b < 0x7ff0_0000_0000_0000 → (a : ℕ) × (h : ℕ) × UnpackExit b a h
 some-parts b l u = go (b / 2 ^ 52) refl
   where
-    go : (e : ℕ) → b / 2 ^ 52 ≡ e → (a : ℕ) × (h : ℕ) × Scaled b a h
+    go : (e : ℕ) → b / 2 ^ 52 ≡ e → (a : ℕ) × (h : ℕ) × UnpackExit b a h
     go zero e = (_, _, unpack-0 b l e)
     go (suc n) e = (_, _, unpack-1 b u (λ z. omega arith))
 
@@ -170,7 +170,7 @@ quadruple n k j e =
     rw g (omega (arith, mul-assoc n (2 ^ (2 * k)) 4))
 
 -- ---- the nearest
-module _ (x : Float) (b a h q : ℕ) (S : Scaled b a h) (W : WholeRoot (wide a h * 2 ^ 54) q) (size : mag x ≡ unitsOf b) where
+module _ (x : Float) (b a h q : ℕ) (S : UnpackExit b a h) (W : WholeRoot (wide a h * 2 ^ 54) q) (size : mag x ≡ unitsOf b) where
   abbrev p : ℕ
   p = (q + 1) / 2
 

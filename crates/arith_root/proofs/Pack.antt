@@ -12,7 +12,7 @@ use lib.Ieee.Digits.{size-le, size-lt}
 use borrow.Author.Tests.{ne-eqb, lt-leb, le-ltb}
 use Rattle.arith_root.specs.Root.{isqrt, rounded}
 use Rattle.arith_whole_root.specs.Whole.{WholeRoot, HalfRoot}
-use Rattle.arith_root.specs.Contracts.{unitsOf, Scaled}
+use Rattle.arith_root.specs.Contracts.{unitsOf, UnpackExit}
 use Rattle.arith_whole_root.proofs.Whole.{whole-one, at-least, less}
 use Rattle.arith_root.proofs.Whole.{isqrt-is}
 
@@ -78,13 +78,13 @@ wide-high a (suc (suc r)) l h = absurd (omega arith)
 abbrev pub wide : ℕ → ℕ → ℕ
 wide a h = a * (1 + h % 2)
 
-pub wide-in : (b a h : ℕ) → Scaled b a h → (2 ^ 52 ≤ wide a h) × (wide a h ≤ 2 ^ 54 - 2)
+pub wide-in : (b a h : ℕ) → UnpackExit b a h → (2 ^ 52 ≤ wide a h) × (wide a h ≤ 2 ^ 54 - 2)
 wide-in b a h S = (wide-low a (h % 2) (S .low) (omega arith), wide-high a (h % 2) (S .high) (omega arith))
 
-pub in-108 : (b a h : ℕ) → Scaled b a h → wide a h * 2 ^ 54 < 2 ^ (2 * 54)
+pub in-108 : (b a h : ℕ) → UnpackExit b a h → wide a h * 2 ^ 54 < 2 ^ (2 * 54)
 in-108 b a h S = let w = wide-in b a h S .1 in omega arith
 
-pub units-are : (b a h : ℕ) → Scaled b a h → unitsOf b * 2 ^ 1074 ≡ a * 2 ^ (h + 50)
+pub units-are : (b a h : ℕ) → UnpackExit b a h → unitsOf b * 2 ^ 1074 ≡ a * 2 ^ (h + 50)
 units-are b a h S =
     sym (mul-assoc (unitsOf b) (2 ^ 1024) (2 ^ 50))
     ∙ ap (λ (x : ℕ). x * 2 ^ 50) (S .same)
@@ -99,7 +99,7 @@ square-is a h k e =
     ∙ sym (mul-assoc a (1 + h % 2) (2 ^ 54 * 2 ^ (2 * k)))
     ∙ sym (mul-assoc (a * (1 + h % 2)) (2 ^ 54) (2 ^ (2 * k)))
 
-module _ (b a h q : ℕ) (S : Scaled b a h) (W : WholeRoot (wide a h * 2 ^ 54) q) where
+module _ (b a h q : ℕ) (S : UnpackExit b a h) (W : WholeRoot (wide a h * 2 ^ 54) q) where
   abbrev pub drop : ℕ
   drop = h / 2 - 2
 
@@ -162,7 +162,7 @@ module _ (b a h q : ℕ) (S : Scaled b a h) (W : WholeRoot (wide a h * 2 ^ 54) q
   packed-no-nan = subst (λ (x : ℕ). T (not (nanBits binary64 ((h / 2 - 1) * 2 ^ 52 + x)))) (sym over-is) (of-no-nan (h / 2 - 1) over field-lt over-lt)
 
 -- the same by the half of the root
-module _ (b a h m : ℕ) (S : Scaled b a h) (H : HalfRoot (wide a h * 2 ^ 54) m) where
+module _ (b a h m : ℕ) (S : UnpackExit b a h) (H : HalfRoot (wide a h * 2 ^ 54) m) where
   pub half-pos : 0 < m
   half-pos = let x = q-low b a h (H .q) S (H .whole) in let y = H .half in omega arith
 

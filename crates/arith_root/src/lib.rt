@@ -3,7 +3,7 @@ ghost use mathlib.Core.Path.{_≡_};
 ghost use lib.Ieee.{binary64, ofBits};
 ghost use Prim.Native.Nat.{_+_, _*_, _^_, _≤_, _<_};
 ghost use Rattle.arith_root.specs.Root.{root, rounded, SquareRoot};
-ghost use Rattle.arith_root.specs.Contracts.{Scaled, unitsOf};
+ghost use Rattle.arith_root.specs.Contracts.{UnpackExit, unitsOf};
 
 // Within 4 % of 1 / √x, for the x above 2^-1022 whose bit pattern is b. Half of the pattern has
 // half of the exponent, and taken from a constant it has that exponent's opposite.
@@ -63,7 +63,7 @@ struct Parts {
 // The parts of the float whose bit pattern is b.
 fn unpack(b: u64) -> Parts
     requires { ⌜ (0 < b) × (b < 0x7ff0_0000_0000_0000) ⌝ }
-    ensures { λ r. ⌜ Scaled b (r .a) (r .h) ⌝ }
+    ensures { λ r. ⌜ UnpackExit b (r .a) (r .h) ⌝ }
 {
     let e = b / 0x10_0000_0000_0000;
     if e == 0 {

@@ -8,7 +8,7 @@ use mir.Val.{boolByte}
 use borrow.Author.Tests.{leb-true, leb-false}
 use lib.Dec.{leb}
 use lib.Pow.{pow-lt}
-use Rattle.arith_whole_root.specs.Whole.{Digits, WholeRoot}
+use Rattle.arith_whole_root.specs.Whole.{DigitsEntry, WholeRoot}
 
 -- the place of the next digit, as the code has it
 abbrev pub place : ℕ → ℕ
@@ -40,14 +40,14 @@ left : (q y p : ℕ) → q * q + y * (p + p) ≡ q * q + 2 * y * p
 left q y p = omega (arith, mul-add y p p, mul-assoc 2 y p)
 
 -- One call with the digit 1, and one with the digit 0: the digits go on, and the square is the same.
-module _ (q y k : ℕ) (more : k ≡ 0 → ⊥) (h : Digits q y k) where
-  pub go-1 : 2 * q + place k ≤ 2 * y → Digits (q + place k) (2 * y - (2 * q + place k)) (k - 1)
+module _ (q y k : ℕ) (more : k ≡ 0 → ⊥) (h : DigitsEntry q y k) where
+  pub go-1 : 2 * q + place k ≤ 2 * y → DigitsEntry (q + place k) (2 * y - (2 * q + place k)) (k - 1)
   go-1 t =
       let a = place-is k (h .few) in
       let b = twice k more in
       omega arith
 
-  pub go-0 : 2 * y < 2 * q + place k → Digits q (2 * y) (k - 1)
+  pub go-0 : 2 * y < 2 * q + place k → DigitsEntry q (2 * y) (k - 1)
   go-0 t =
       let a = place-is k (h .few) in
       let b = twice k more in
@@ -61,17 +61,17 @@ module _ (q y k : ℕ) (more : k ≡ 0 → ⊥) (h : Digits q y k) where
   pub same-0 : q * q + y * 2 ^ k ≡ q * q + 2 * y * 2 ^ (k - 1)
   same-0 = rw (twice k more) (left q y (2 ^ (k - 1)))
 
-pub last-digit : (q y k : ℕ) → k ≡ 0 → Digits q y k → WholeRoot (q * q + y * 2 ^ k) q
+pub last-digit : (q y k : ℕ) → k ≡ 0 → DigitsEntry q y k → WholeRoot (q * q + y * 2 ^ k) q
 last-digit q y k e h = rw e (record { below = omega (arith, mul-one y); above = omega (arith, square-sum q 1, mul-one q, mul-one y, simp e at (h .rest)) })
 
 -- the same with the digit d as a factor, 0 or 1
 pub record Turn (q y k d : ℕ) : Type 0 where
   pub place-le : d * place k ≤ place k
   pub less-le : d * (2 * q + place k) ≤ 2 * y
-  pub goes-on : Digits (q + d * place k) (2 * y - d * (2 * q + place k)) (k - 1)
+  pub goes-on : DigitsEntry (q + d * place k) (2 * y - d * (2 * q + place k)) (k - 1)
   pub same-square : q * q + y * 2 ^ k ≡ (q + d * place k) * (q + d * place k) + (2 * y - d * (2 * q + place k)) * 2 ^ (k - 1)
 
-pub turn : (q y k : ℕ) → (k ≡ 0 → ⊥) → Digits q y k → Turn q y k (boolByte (leb (2 * q + place k) (2 * y)))
+pub turn : (q y k : ℕ) → (k ≡ 0 → ⊥) → DigitsEntry q y k → Turn q y k (boolByte (leb (2 * q + place k) (2 * y)))
 turn q y k more h = go (leb (2 * q + place k) (2 * y)) refl
   where
     go : (b : Bool) → leb (2 * q + place k) (2 * y) ≡ b → Turn q y k (boolByte b)

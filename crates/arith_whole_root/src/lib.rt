@@ -1,13 +1,13 @@
 // The whole number nearest to a square root: checked where one is given, else digit by digit.
 ghost use lib.Dec.{T};
 ghost use Prim.Native.Nat.{_+_, _*_, _^_, _<_};
-ghost use Rattle.arith_whole_root.specs.Whole.{Digits, WholeRoot, RootFrom, HalfRoot};
+ghost use Rattle.arith_whole_root.specs.Whole.{DigitsEntry, WholeRoot, RootFrom, HalfRoot};
 
 // One binary digit of a whole square root per call: the largest r with
 // r * r <= q * q + y * 2^k, where q holds the digits found so far, at their places, k is how
 // many are to come, and y is what is left of the square, in units of 2^k.
 fn digits(q: u64, y: u64, k: u64) -> u64
-    requires { ⌜ Digits q y k ⌝ }
+    requires { ⌜ DigitsEntry q y k ⌝ }
     ensures { λ r. ⌜ WholeRoot (q * q + y * 2 ^ k) r ⌝ }
 {
     if k == 0 {

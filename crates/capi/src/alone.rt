@@ -6,7 +6,7 @@ use capi_values::convert;
 use job_promise::number_of;
 ghost use lib.ListN.{length};
 ghost use Rattle.job_requests.specs.Encode.{bytesOf};
-ghost use Rattle.job_promise.specs.Promise.{Promised};
+ghost use Rattle.job_promise.specs.Promise.{JobPromise};
 ghost use Rattle.job_encoding.specs.Single.{locateWords, velocityWords, streamlineWords, rakeWords, sectionWords, statisticsWords, integralsWords, probeWords};
 ghost use Rattle.capi_values.specs.Convert.{vectorOf, planeOf, settingsOf, rakeOf};
 
@@ -20,7 +20,7 @@ pub extern "C" fn hookyellow_locate(
     marks: &mut [u8],
     answers: &mut [u64],
 ) -> u64
-    ensures { λ r. ⌜ Promised (now (case .entry)) (bytesOf (locateWords (vectorOf p)))
+    ensures { λ r. ⌜ JobPromise (now (case .entry)) (bytesOf (locateWords (vectorOf p)))
         (length (now (words .entry))) (length (now (floats .entry))) (now (answers .entry)) (now (marks .entry))
         (record { result = r; answers = now (answers .exit); marks = now (marks .exit) }) ⌝ }
 {
@@ -37,7 +37,7 @@ pub extern "C" fn hookyellow_velocity(
     marks: &mut [u8],
     answers: &mut [u64],
 ) -> u64
-    ensures { λ r. ⌜ Promised (now (case .entry)) (bytesOf (velocityWords (vectorOf p)))
+    ensures { λ r. ⌜ JobPromise (now (case .entry)) (bytesOf (velocityWords (vectorOf p)))
         (length (now (words .entry))) (length (now (floats .entry))) (now (answers .entry)) (now (marks .entry))
         (record { result = r; answers = now (answers .exit); marks = now (marks .exit) }) ⌝ }
 {
@@ -56,7 +56,7 @@ pub extern "C" fn hookyellow_streamline(
     marks: &mut [u8],
     answers: &mut [u64],
 ) -> u64
-    ensures { λ r. ⌜ Promised (now (case .entry))
+    ensures { λ r. ⌜ JobPromise (now (case .entry))
         (bytesOf (streamlineWords (vectorOf seed) (settingsOf backward options)))
         (length (now (words .entry))) (length (now (floats .entry))) (now (answers .entry)) (now (marks .entry))
         (record { result = r; answers = now (answers .exit); marks = now (marks .exit) }) ⌝ }
@@ -86,7 +86,7 @@ pub extern "C" fn hookyellow_rake(
     marks: &mut [u8],
     answers: &mut [u64],
 ) -> u64
-    ensures { λ r. ⌜ Promised (now (case .entry))
+    ensures { λ r. ⌜ JobPromise (now (case .entry))
         (bytesOf (rakeWords (rakeOf start end count) (settingsOf backward options)))
         (length (now (words .entry))) (length (now (floats .entry))) (now (answers .entry)) (now (marks .entry))
         (record { result = r; answers = now (answers .exit); marks = now (marks .exit) }) ⌝ }
@@ -112,7 +112,7 @@ pub extern "C" fn hookyellow_section(
     marks: &mut [u8],
     answers: &mut [u64],
 ) -> u64
-    ensures { λ r. ⌜ Promised (now (case .entry)) (bytesOf (sectionWords (planeOf plane)))
+    ensures { λ r. ⌜ JobPromise (now (case .entry)) (bytesOf (sectionWords (planeOf plane)))
         (length (now (words .entry))) (length (now (floats .entry))) (now (answers .entry)) (now (marks .entry))
         (record { result = r; answers = now (answers .exit); marks = now (marks .exit) }) ⌝ }
 {
@@ -130,7 +130,7 @@ pub extern "C" fn hookyellow_statistics(
     marks: &mut [u8],
     answers: &mut [u64],
 ) -> u64
-    ensures { λ r. ⌜ Promised (now (case .entry)) (bytesOf (statisticsWords (planeOf plane) field))
+    ensures { λ r. ⌜ JobPromise (now (case .entry)) (bytesOf (statisticsWords (planeOf plane) field))
         (length (now (words .entry))) (length (now (floats .entry))) (now (answers .entry)) (now (marks .entry))
         (record { result = r; answers = now (answers .exit); marks = now (marks .exit) }) ⌝ }
 {
@@ -155,7 +155,7 @@ pub extern "C" fn hookyellow_integrals(
     marks: &mut [u8],
     answers: &mut [u64],
 ) -> u64
-    ensures { λ r. ⌜ Promised (now (case .entry)) (bytesOf (integralsWords (planeOf plane)))
+    ensures { λ r. ⌜ JobPromise (now (case .entry)) (bytesOf (integralsWords (planeOf plane)))
         (length (now (words .entry))) (length (now (floats .entry))) (now (answers .entry)) (now (marks .entry))
         (record { result = r; answers = now (answers .exit); marks = now (marks .exit) }) ⌝ }
 {
@@ -173,7 +173,7 @@ pub extern "C" fn hookyellow_probe(
     marks: &mut [u8],
     answers: &mut [u64],
 ) -> u64
-    ensures { λ r. ⌜ Promised (now (case .entry)) (bytesOf (probeWords (planeOf plane) (vectorOf p)))
+    ensures { λ r. ⌜ JobPromise (now (case .entry)) (bytesOf (probeWords (planeOf plane) (vectorOf p)))
         (length (now (words .entry))) (length (now (floats .entry))) (now (answers .entry)) (now (marks .entry))
         (record { result = r; answers = now (answers .exit); marks = now (marks .exit) }) ⌝ }
 {

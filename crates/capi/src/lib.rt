@@ -5,7 +5,7 @@ use job_promise::number_of;
 ghost use mathlib.Core.Path.{_≡_};
 ghost use lib.ListN.{length};
 ghost use Rattle.mesh.specs.Case.{surveyOf};
-ghost use Rattle.job_promise.specs.Promise.{Promised};
+ghost use Rattle.job_promise.specs.Promise.{JobPromise};
 ghost use Rattle.job_needs.specs.Needs.{needsNumber, needsOf};
 
 // Runs a job and answers 0, or its refusal.
@@ -18,7 +18,7 @@ pub extern "C" fn hookyellow_job(
     marks: &mut [u8],
     answers: &mut [u64],
 ) -> u64
-    ensures { λ r. ⌜ Promised (now (case .entry)) (now (requests .entry))
+    ensures { λ r. ⌜ JobPromise (now (case .entry)) (now (requests .entry))
         (length (now (words .entry))) (length (now (floats .entry))) (now (answers .entry)) (now (marks .entry))
         (record { result = r; answers = now (answers .exit); marks = now (marks .exit) }) ⌝ }
 {

@@ -16,7 +16,7 @@ use Rattle.case_file.specs.declared.Counts.{Counts}
 use Rattle.case_file.proofs.ReadLaws.{words-lent}
 use Rattle.case_definitions.specs.Faces.{Definition, polygon, solid, polyhedron, ends, picked, facesOf, faceCount, facesCounted}
 use Rattle.case_definitions.specs.Definitions.{definitions}
-use Rattle.case_definitions.specs.Contracts.{headOf, stepAt, walked, readOf, definitionAt, Headed}
+use Rattle.case_definitions.specs.Contracts.{headOf, stepAt, walked, readOf, definitionAt, HeadAt}
 use Rattle.case_definitions.specs.declared.Cursor.{Cursor}
 use Rattle.case_definitions.specs.declared.Head.{Head}
 use Rattle.case_definitions.specs.declared.Step.the-variants.{Record, Wrong}
@@ -114,7 +114,7 @@ pub record HeadFaces (ws : List ℕ) (h : Head) : Type 0 where
   pub all : h .faces ≡ length (facesOf (definitionAt ws (h .at)))
   pub few : h .faces ≤ 24
 
-pub head-faces : (ws : List ℕ) (h : Head) → Headed ws h → HeadFaces ws h
+pub head-faces : (ws : List ℕ) (h : Head) → HeadAt ws h → HeadFaces ws h
 unfolding definitionAt readOf headOf
 head-faces ws h g =
     let s = steps-to ws (h .at) h (g .next) (sym (g .step)) in

@@ -3,7 +3,7 @@
 -- `KindAt`, `SolidAt`: which record stands at a position.
 -- `firstOf`, `headOf`, `cursorAt`: a record's head and a position.
 -- `stepped`, `stepAt`: the record at a position. `walked`, `walkedFaces`: all of them.
--- `readOf`, `definitionAt`, `faceAt`: what stands there. `Headed`: its head.
+-- `readOf`, `definitionAt`, `faceAt`: what stands there. `HeadAt`: its head.
 use Prim.Native.Nat.{ℕ, _+_, _-_, _<_, _≤_}
 use mathlib.Core.Path.{_≡_}
 use mathlib.Core.List.{List, []}
@@ -99,6 +99,6 @@ unfoldable pub faceAt : List ℕ → ℕ → ℕ → List ℕ
 faceAt ws at k = getD (facesOf (definitionAt ws at)) k []
 
 -- h is the head of a right record
-pub record Headed (ws : List ℕ) (h : Head) : Type 0 where
+pub record HeadAt (ws : List ℕ) (h : Head) : Type 0 where
   pub next : Cursor
   pub step : stepAt ws (h .at) ≡ Record h next

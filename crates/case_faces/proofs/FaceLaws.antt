@@ -18,8 +18,8 @@ use Rattle.arith.proofs.RecordLaws.{getD-part}
 use Rattle.reading.specs.Result.{fine}
 use Rattle.case_definitions.specs.Faces.{Definition, polygon, solid, polyhedron, tetrahedron, hexahedron, prism, pyramid, ends, picked, facesOf, faceCount}
 use Rattle.case_definitions.specs.Definitions.{Taken, faceLists}
-use Rattle.case_definitions.specs.Contracts.{firstOf, headOf, stepAt, readOf, definitionAt, faceAt, Headed}
-use Rattle.case_faces.specs.Contracts.{faceFrom, AtFace, nextFace, FaceCopied, tableOf, placesOf}
+use Rattle.case_definitions.specs.Contracts.{firstOf, headOf, stepAt, readOf, definitionAt, faceAt, HeadAt}
+use Rattle.case_faces.specs.Contracts.{faceFrom, AtFace, nextFace, CopyFaceExit, tableOf, placesOf}
 use Rattle.case_definitions.specs.declared.Head.{Head}
 use Rattle.case_faces.specs.declared.Copied.{Copied}
 use Rattle.case_faces.specs.declared.Places.{Places}
@@ -70,7 +70,7 @@ solid-high kind table n is-hexahedron = omega arith
 solid-high kind table n is-prism = omega arith
 solid-high kind table n is-pyramid = omega arith
 
-module _ (ws : List ℕ) (h : Head) (g : Headed ws h) where
+module _ (ws : List ℕ) (h : Head) (g : HeadAt ws h) where
   s : StepsTo ws (h .at) h (g .next .at)
   s = steps-to ws (h .at) h (g .next) (sym (g .step))
 
@@ -317,14 +317,14 @@ module _ (ws : List ℕ) (h : Head) (c : FaceCursor) (a : AtFace ws h c) (b : c 
           rw (eq-eqb (h .kind) 5 k, add-one (c .face), ← a .place k) (ap (λ x. c .at + 1 + x) (e ∙ sym (p .count)))
 
 -- the head of a step is a right record's, and its first face starts where the head says
-pub headed : (ws : List ℕ) (at : ℕ) (h : Head) (n : Cursor) → Record h n ≡ stepAt ws at → Headed ws h
+pub headed : (ws : List ℕ) (at : ℕ) (h : Head) (n : Cursor) → Record h n ≡ stepAt ws at → HeadAt ws h
 unfolding headOf
 headed ws at h n e =
     let s = steps-to ws at h n e in
     let k : h .at ≡ at = ap (λ x. x .at) (s .head) in
     record { next = n; step = ap (stepAt ws) k ∙ sym e }
 
-pub at-first : (ws : List ℕ) (h : Head) (c : FaceCursor) → Headed ws h → c .face ≡ 0 → c .at ≡ h .first → AtFace ws h c
+pub at-first : (ws : List ℕ) (h : Head) (c : FaceCursor) → HeadAt ws h → c .face ≡ 0 → c .at ≡ h .first → AtFace ws h c
 at-first ws h c g f e = record { headed = g; place = λ k. rw (f, face-zero ws (h .first)) e }
 
 -- ---- copying
@@ -364,7 +364,7 @@ front-4 (a ∷ b ∷ c ∷ d ∷ l) x y z w h = refl
 module _ (ws : List ℕ) (h : Head) (c : FaceCursor) (a : AtFace ws h c) (b : c .face < h .faces) (out₀ : List ℕ) (m : length out₀ ≡ 8) where
   -- the face stands at the front
   pub face-copied : (f out : List ℕ) (n : ℕ) (next : FaceCursor) → faceAt ws (h .at) (c .face) ≡ f → n ≡ length f → n ≤ 8 → out ≡ f ++ drop n out₀
-      → next ≡ nextFace h c n → FaceCopied ws h c out₀ out n next
+      → next ≡ nextFace h c n → CopyFaceExit ws h c out₀ out n next
   face-copied f out n next s e k w t =
       let g : n ≡ length (faceAt ws (h .at) (c .face)) = e ∙ ap length (sym s) in
       let l : length out ≡ length f + length (drop n out₀) = ap length w ∙ length-append f (drop n out₀) in
@@ -384,11 +384,11 @@ module _ (ws : List ℕ) (h : Head) (c : FaceCursor) (a : AtFace ws h c) (b : c 
   flat-next n k = rw (ne-eqb (h .kind) 5 (λ e. omega arith))
 
   module _ (n : ℕ) (r : Copied) (e : r ≡ record { count = n; next = record { face = c .face + 1; at = c .at } }) where
-    flat-copied : (f out : List ℕ) → h .kind ≤ 4 → faceAt ws (h .at) (c .face) ≡ f → n ≡ length f → n ≤ 8 → out ≡ f ++ drop n out₀ → FaceCopied ws h c out₀ out (r .count) (r .next)
+    flat-copied : (f out : List ℕ) → h .kind ≤ 4 → faceAt ws (h .at) (c .face) ≡ f → n ≡ length f → n ≤ 8 → out ≡ f ++ drop n out₀ → CopyFaceExit ws h c out₀ out (r .count) (r .next)
     flat-copied f out k s l d w = rw e (face-copied f out n (record { face = c .face + 1; at = c .at }) s l d w (flat-next n k))
 
   pub side-copied : (x y k : ℕ) (r : Copied) → h .kind ≡ 0 → x ≡ getD ws (h .first + c .face) 0 → k ≡ after (h .faces) (c .face) → y ≡ getD ws (h .first + k) 0
-      → r ≡ record { count = 2; next = record { face = c .face + 1; at = c .at } } → FaceCopied ws h c out₀ (set (set out₀ 0 x) 1 y) (r .count) (r .next)
+      → r ≡ record { count = 2; next = record { face = c .face + 1; at = c .at } } → CopyFaceExit ws h c out₀ (set (set out₀ 0 x) 1 y) (r .count) (r .next)
   side-copied x y k r z p q t e =
       let f = side-of-polygon ws h c a b z in
       let same : faceAt ws (h .at) (c .face) ≡ x ∷ y ∷ [] = rw (p, t, q) (f .same) in
@@ -400,7 +400,7 @@ module _ (ws : List ℕ) (h : Head) (c : FaceCursor) (a : AtFace ws h c) (b : c 
   solid-ready kind e low high p q = (a, b, m, omega arith, omega arith, rw e q)
 
   pub list-copied : (n : ℕ) (out : List ℕ) (j : ℕ) → h .kind ≡ 5 → n ≡ getD ws (c .at) 0 → out ≡ take j (part ws (c .at + 1) n) ++ drop j out₀ → j ≤ n → n ≤ j
-      → FaceCopied ws h c out₀ out n (record { face = c .face + 1; at = c .at + 1 + n })
+      → CopyFaceExit ws h c out₀ out n (record { face = c .face + 1; at = c .at + 1 + n })
   unfolding nextFace
   list-copied n out j k e w u v =
       let p = face-of-polyhedron ws h c a b k in
@@ -430,14 +430,14 @@ module _ (ws : List ℕ) (h : Head) (c : FaceCursor) (a : AtFace ws h c) (b : c 
     solid-same = rw q (face-of-solid ws h c a b low high .same)
 
     module _ (i j k : ℕ) (out : List ℕ) (w : out ≡ puts out₀ 0 (getD ws (h .first + i) 0 ∷ getD ws (h .first + j) 0 ∷ getD ws (h .first + k) 0 ∷ [])) (r : Copied) where
-      pub three-copied : p ≡ Three i j k → r ≡ record { count = 3; next = record { face = c .face + 1; at = c .at } } → FaceCopied ws h c out₀ out (r .count) (r .next)
+      pub three-copied : p ≡ Three i j k → r ≡ record { count = 3; next = record { face = c .face + 1; at = c .at } } → CopyFaceExit ws h c out₀ out (r .count) (r .next)
       unfolding placesOf
       three-copied t e =
           flat-copied 3 r e (getD ws (h .first + i) 0 ∷ getD ws (h .first + j) 0 ∷ getD ws (h .first + k) 0 ∷ []) out high (rw t at solid-same) refl (omega arith)
           (w ∙ front-3 out₀ _ _ _ m)
 
       pub four-copied : (l x : ℕ) → p ≡ Four i j k l → x ≡ getD ws (h .first + l) 0 → r ≡ record { count = 4; next = record { face = c .face + 1; at = c .at } }
-          → FaceCopied ws h c out₀ (set out 3 x) (r .count) (r .next)
+          → CopyFaceExit ws h c out₀ (set out 3 x) (r .count) (r .next)
       unfolding placesOf
       four-copied l x t g e =
           flat-copied 4 r e (getD ws (h .first + i) 0 ∷ getD ws (h .first + j) 0 ∷ getD ws (h .first + k) 0 ∷ getD ws (h .first + l) 0 ∷ []) (set out 3 x) high

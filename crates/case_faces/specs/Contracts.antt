@@ -1,5 +1,5 @@
 -- The contracts of `copy_face` and its parts: a face of a record, among the words.
--- `faceFrom`, `AtFace`, `nextFace`: where a face starts, and a cursor at it. `FaceCopied`: that face copied.
+-- `faceFrom`, `AtFace`, `nextFace`: where a face starts, and a cursor at it. `CopyFaceExit`: that face copied.
 -- `tableOf`, `placesOf`: a face table, and a row of it.
 use Prim.Native.Nat.{ℕ, zero, suc, _+_, _≤_}
 use mathlib.Core.Path.{_≡_}
@@ -8,7 +8,7 @@ use mathlib.Core.List.{List, [], _∷_, _++_}
 use lib.Dec.{eqb}
 use lib.ListN.{length, getD, take, drop}
 use Rattle.case_definitions.specs.Faces.{tetrahedron, hexahedron, prism, pyramid}
-use Rattle.case_definitions.specs.Contracts.{faceAt, Headed}
+use Rattle.case_definitions.specs.Contracts.{faceAt, HeadAt}
 use Rattle.case_definitions.specs.declared.Head.{Head}
 use Rattle.case_faces.specs.declared.FaceCursor.{FaceCursor}
 use Rattle.case_faces.specs.declared.Places.{Places}
@@ -21,7 +21,7 @@ faceFrom ws first (suc k) = let at = faceFrom ws first k in at + 1 + getD ws at 
 
 -- c is at a face of h, or after its last one
 pub record AtFace (ws : List ℕ) (h : Head) (c : FaceCursor) : Type 0 where
-  pub headed : Headed ws h
+  pub headed : HeadAt ws h
   pub place : h .kind ≡ 5 → c .at ≡ faceFrom ws (h .first) (c .face)
 
 -- the cursor after face c, which has n point numbers
@@ -29,7 +29,7 @@ unfoldable pub nextFace : Head → FaceCursor → ℕ → FaceCursor
 nextFace h c n = record { face = c .face + 1; at = cond (eqb (h .kind) 5) (c .at + 1 + n) (c .at) }
 
 -- the numbers of face c stand at the front of `out`, which was `out₀`, and `next` is at the next face
-pub record FaceCopied (ws : List ℕ) (h : Head) (c : FaceCursor) (out₀ out : List ℕ) (count : ℕ) (next : FaceCursor) : Type 0 where
+pub record CopyFaceExit (ws : List ℕ) (h : Head) (c : FaceCursor) (out₀ out : List ℕ) (count : ℕ) (next : FaceCursor) : Type 0 where
   pub copied : out ≡ faceAt ws (h .at) (c .face) ++ drop count out₀
   pub front : take count out ≡ faceAt ws (h .at) (c .face)
   pub counted : count ≡ length (faceAt ws (h .at) (c .face))

@@ -9,7 +9,7 @@ ghost use Rattle.arith.specs.Lists.{after};
 ghost use Rattle.arith.specs.Records.{puts};
 ghost use Rattle.case_file.specs.Trailer.{wordsIn};
 ghost use Rattle.case_definitions.specs.Faces as Faces;
-ghost use Rattle.case_faces.specs.Contracts.{AtFace, FaceCopied, placesOf, tableOf};
+ghost use Rattle.case_faces.specs.Contracts.{AtFace, CopyFaceExit, placesOf, tableOf};
 
 // A face of a solid: its places among the cell's point numbers.
 enum Places {
@@ -132,7 +132,7 @@ fn number_at(words: &[u8], first: usize, place: usize) -> u32
 fn copy_side(words: &[u8], h: Head, c: FaceCursor, out: &mut [u32; 8]) -> Copied
     requires { ⌜ AtFace (wordsIn (now words)) h c × (c .face < h .faces) × (length (now out) ≡ 8)
         × (h .kind ≡ 0) ⌝ }
-    ensures { λ r. ⌜ FaceCopied (wordsIn (now (words .entry))) h c (now (out .entry)) (now (out .exit))
+    ensures { λ r. ⌜ CopyFaceExit (wordsIn (now (words .entry))) h c (now (out .entry)) (now (out .exit))
         (r .count) (r .next) ⌝ }
 {
     out[0] = number_at(words, h.first, c.face);
@@ -157,7 +157,7 @@ fn copy_three(words: &[u8], first: usize, i: usize, j: usize, k: usize, out: &mu
 fn copy_places(words: &[u8], h: Head, c: FaceCursor, p: Places, out: &mut [u32; 8]) -> Copied
     requires { ⌜ AtFace (wordsIn (now words)) h c × (c .face < h .faces) × (length (now out) ≡ 8)
         × (1 ≤ h .kind) × (h .kind ≤ 4) × (placesOf p ≡ getD (tableOf (h .kind)) (c .face) []) ⌝ }
-    ensures { λ r. ⌜ FaceCopied (wordsIn (now (words .entry))) h c (now (out .entry)) (now (out .exit))
+    ensures { λ r. ⌜ CopyFaceExit (wordsIn (now (words .entry))) h c (now (out .entry)) (now (out .exit))
         (r .count) (r .next) ⌝ }
 {
     match p {
@@ -177,7 +177,7 @@ fn copy_places(words: &[u8], h: Head, c: FaceCursor, p: Places, out: &mut [u32; 
 fn copy_list(words: &[u8], h: Head, c: FaceCursor, out: &mut [u32; 8]) -> Copied
     requires { ⌜ AtFace (wordsIn (now words)) h c × (c .face < h .faces) × (length (now out) ≡ 8)
         × (h .kind ≡ 5) ⌝ }
-    ensures { λ r. ⌜ FaceCopied (wordsIn (now (words .entry))) h c (now (out .entry)) (now (out .exit))
+    ensures { λ r. ⌜ CopyFaceExit (wordsIn (now (words .entry))) h c (now (out .entry)) (now (out .exit))
         (r .count) (r .next) ⌝ }
 {
     let count = walker::word(words, c.at) as usize;
@@ -198,7 +198,7 @@ fn copy_list(words: &[u8], h: Head, c: FaceCursor, out: &mut [u32; 8]) -> Copied
 // Copies the point numbers of a face to the front of `out`. A record has none of the kinds from 6 on.
 pub fn copy_face(words: &[u8], h: Head, c: FaceCursor, out: &mut [u32; 8]) -> Copied
     requires { ⌜ AtFace (wordsIn (now words)) h c × (c .face < h .faces) × (length (now out) ≡ 8) ⌝ }
-    ensures { λ r. ⌜ FaceCopied (wordsIn (now (words .entry))) h c (now (out .entry)) (now (out .exit))
+    ensures { λ r. ⌜ CopyFaceExit (wordsIn (now (words .entry))) h c (now (out .entry)) (now (out .exit))
         (r .count) (r .next) ⌝ }
 {
     let kind = h.kind;

@@ -15,7 +15,7 @@ use Rattle.arith.specs.F64.{0·0}
 use Rattle.arith.specs.Vec.{origin}
 use Rattle.case_file.specs.declared.Counts.{Counts}
 use Rattle.case_file.specs.declared.Opened.the-variants.{Case}
-use Rattle.case_file.specs.Field.{blank, outside, cellsOf, nought, valuesIn, valuesOf}
+use Rattle.case_file.specs.Field.{blank, outside, cellsOf, zeroValues, valuesIn, valuesOf}
 
 module _ (at n : ℕ) (l : List ℕ) (fits : at + n ≤ length l) where
   pub length-blank : length (blank at n l) ≡ length l
@@ -145,11 +145,11 @@ module _ (file : List ℕ) where
     values-there i h = ap (λ m. valuesIn file m i) (sym (o .same)) ∙ rw (lt-ltb i (n .cells) h)
 
     pub values-none : (i : ℕ) → n .cells ≤ i → valuesOf file i ≡ record { velocity = origin; pressure = 0·0 }
-    unfolding valuesOf valuesIn nought
+    unfolding valuesOf valuesIn zeroValues
     values-none i h = ap (λ m. valuesIn file m i) (sym (o .same)) ∙ rw (le-ltb i (n .cells) h)
 
 -- no cell beyond those that a case has
-pub values-beyond : (file : List ℕ) (i : ℕ) → cellsOf file ≤ i → valuesOf file i ≡ nought
+pub values-beyond : (file : List ℕ) (i : ℕ) → cellsOf file ≤ i → valuesOf file i ≡ zeroValues
 unfolding valuesOf valuesIn cellsOf
 values-beyond file i h = rw (le-ltb i (cellsOf file) h)
 

@@ -6,7 +6,7 @@ use Rattle.case_file.specs.declared.Counts.{Counts}
 use Rattle.case_file.specs.Trailer.{countsOf}
 
 -- the counts of a file, each a u32
-pub record Counted (file : List ℕ) (n : Counts) : Type 0 where
+pub record CountsExit (file : List ℕ) (n : Counts) : Type 0 where
   pub same : n ≡ countsOf file
   pub points : n .points < 4294967296
   pub words : n .words < 4294967296

@@ -26,13 +26,13 @@ unfoldable pub cellsOf : List ℕ → ℕ
 cellsOf file = countsOf file .cells
 
 -- what a cell has that the case does not
-unfoldable pub nought : Values
-nought = record { velocity = origin; pressure = 0·0 }
+unfoldable pub zeroValues : Values
+zeroValues = record { velocity = origin; pressure = 0·0 }
 
 -- "velocities (3 floats per cell), pressures (one per cell)": the values of cell i, in a file with these counts
 unfoldable pub valuesIn : List ℕ → Counts → ℕ → Values
 valuesIn file n i =
-    cond (ltb i (n .cells)) (record { velocity = vecAt file (fieldFrom n + 24 * i); pressure = floatAt file (pressuresFrom n + 8 * i) }) nought
+    cond (ltb i (n .cells)) (record { velocity = vecAt file (fieldFrom n + 24 * i); pressure = floatAt file (pressuresFrom n + 8 * i) }) zeroValues
 
 -- those of a case
 unfoldable pub valuesOf : List ℕ → ℕ → Values

@@ -19,7 +19,7 @@ fn trailer_word(case: &[u8], k: usize) -> usize
 
 fn counts(case: &[u8]) -> Counts
     requires { ⌜ 32 ≤ length (now case) ⌝ }
-    ensures { λ r. ⌜ Contracts.Counted (now (case .entry)) r ⌝ }
+    ensures { λ r. ⌜ Contracts.CountsExit (now (case .entry)) r ⌝ }
 {
     Counts {
         dimension: trailer_word(case, 0),
@@ -40,7 +40,7 @@ fn is_dimension(d: usize) -> bool
 
 // The offsets and the file's length are as the counts say, summed exactly.
 fn has_parts(case: &[u8], n: Counts) -> bool
-    requires { ⌜ (32 ≤ length (now case)) × Contracts.Counted (now case) n ⌝ }
+    requires { ⌜ (32 ≤ length (now case)) × Contracts.CountsExit (now case) n ⌝ }
     ensures { λ r. ⌜ r ≡ Trailer.hasParts (now (case .entry)) n ⌝ }
 {
     let words = 24 * n.points;

@@ -15,11 +15,11 @@ ghost use Rattle.reading.specs.Result.{fine};
 ghost use Rattle.reading.specs.After.{done, Left};
 ghost use Rattle.case_file.specs.Field.{valuesOf};
 ghost use Rattle.job_requests.specs.Requests.{wordsAt, requestsIn};
-ghost use Rattle.job_room.specs.Contracts.{countsIn, roomIn, Stands};
+ghost use Rattle.job_room.specs.Contracts.{countsIn, roomIn, RoomStands};
 ghost use Rattle.job_promise.specs.List.{isFlat, serveAll};
 ghost use Rattle.job_promise.specs.Job.{numberOf, outcomeOf};
-ghost use Rattle.job_promise.specs.Promise.{Promised};
-ghost use Rattle.job_promise.specs.Contracts.{Told, answerTo, laterThan};
+ghost use Rattle.job_promise.specs.Promise.{JobPromise};
+ghost use Rattle.job_promise.specs.Contracts.{ServeAllExit, answerTo, laterThan};
 
 fn is_flat(place: Place) -> bool
     ensures { λ r. ⌜ ((file words : List ℕ) (floats : List Float) → r ≡ isFlat (roomIn file words floats place)) ⌝ }
@@ -51,10 +51,10 @@ fn answer(
     answers: &mut [u64],
     at: usize,
 ) -> usize
-    requires { ⌜ Stands (now case) (now words) (now floats) place × (countsIn place .cells ≤ length (now marks)) ⌝ }
+    requires { ⌜ RoomStands (now case) (now words) (now floats) place × (countsIn place .cells ≤ length (now marks)) ⌝ }
     requires { ⌜ (i < length (now requests) / 128)
         × (at + 2 + 2 * laterThan (now requests) i ≤ length (now answers)) ⌝ }
-    ensures { λ r. ⌜ Told (answerTo (roomIn (now (case .entry)) (now (words .entry)) (now (floats .entry)) place)
+    ensures { λ r. ⌜ ServeAllExit (answerTo (roomIn (now (case .entry)) (now (words .entry)) (now (floats .entry)) place)
         (length (now (answers .entry)) - at) (laterThan (now (requests .entry)) i)
         (wordsAt (now (requests .entry)) (128 * i))) (valuesOf (now (case .entry))) (now (marks .entry))
         (now (marks .exit)) (now (answers .entry)) (now (answers .exit)) at (laterThan (now (requests .entry)) i) r ⌝ }
@@ -75,9 +75,9 @@ fn serve_all(
     marks: &mut [u8],
     answers: &mut [u64],
 ) -> usize
-    requires { ⌜ Stands (now case) (now words) (now floats) place × (countsIn place .cells ≤ length (now marks)) ⌝ }
+    requires { ⌜ RoomStands (now case) (now words) (now floats) place × (countsIn place .cells ≤ length (now marks)) ⌝ }
     requires { ⌜ 2 * (length (now requests) / 128) ≤ length (now answers) ⌝ }
-    ensures { λ r. ⌜ Told (serveAll (roomIn (now (case .entry)) (now (words .entry)) (now (floats .entry)) place)
+    ensures { λ r. ⌜ ServeAllExit (serveAll (roomIn (now (case .entry)) (now (words .entry)) (now (floats .entry)) place)
         (length (now (answers .entry))) (requestsIn (now (requests .entry)))) (valuesOf (now (case .entry)))
         (now (marks .entry)) (now (marks .exit)) (now (answers .entry)) (now (answers .exit)) 0 0 r ⌝ }
 {
@@ -101,7 +101,7 @@ fn run(
     marks: &mut [u8],
     answers: &mut [u64],
 )
-    requires { ⌜ Stands (now case) (now words) (now floats) place × (countsIn place .cells ≤ length (now marks)) ⌝ }
+    requires { ⌜ RoomStands (now case) (now words) (now floats) place × (countsIn place .cells ≤ length (now marks)) ⌝ }
     requires { ⌜ 2 * (length (now requests) / 128) ≤ length (now answers) ⌝ }
     ensures { λ _. ⌜ Left (done (fine (serveAll (roomIn (now (case .entry)) (now (words .entry)) (now (floats .entry))
         place) (length (now (answers .entry))) (requestsIn (now (requests .entry))))) (valuesOf (now (case .entry)))
@@ -122,7 +122,7 @@ pub fn job(
     marks: &mut [u8],
     answers: &mut [u64],
 ) -> Outcome
-    ensures { λ r. ⌜ Promised (now (case .entry)) (now (requests .entry))
+    ensures { λ r. ⌜ JobPromise (now (case .entry)) (now (requests .entry))
         (length (now (words .entry))) (length (now (floats .entry))) (now (answers .entry)) (now (marks .entry))
         (record { result = numberOf r; answers = now (answers .exit); marks = now (marks .exit) }) ⌝ }
     ensures { λ r. ⌜ r ≡ outcomeOf (numberOf r) ⌝ }

@@ -10,12 +10,12 @@ use borrow.Author.Tests.{lt-ltb, le-ltb}
 use Rattle.reading.specs.Result.{refused, fine}
 use Rattle.case_file.specs.declared.Counts.{Counts}
 use Rattle.case_file.proofs.TrailerLaws.{opens}
-use Rattle.mesh.specs.Case.{Surveyed-case, surveyOf, areaShort}
+use Rattle.mesh.specs.Case.{CaseSurvey, surveyOf, areaShort}
 use Rattle.mesh.proofs.Laws.{Surveys, survey-right, faces-few}
 use Rattle.job_needs.specs.Needs.{wordsNeeded, floatsNeeded, needsNumber, needsOf}
 
 -- refusal 4 is due under these numbers, and no others
-pub area-needed : (c : Surveyed-case) (words floats : ℕ) → areaShort c words floats ≡ (ltb words (wordsNeeded c) || ltb floats (floatsNeeded c))
+pub area-needed : (c : CaseSurvey) (words floats : ℕ) → areaShort c words floats ≡ (ltb words (wordsNeeded c) || ltb floats (floatsNeeded c))
 unfolding areaShort wordsNeeded floatsNeeded
 area-needed c words floats = refl
 

@@ -9,7 +9,7 @@ use Rattle.reading.specs.Asks.{give, run, reads}
 use Rattle.reading.specs.Marks.{markAll}
 use Rattle.reading.proofs.AsksLaws.{run-bind, reads-bind}
 use Rattle.answers.specs.declared.Answered.{Answered}
-use Rattle.answers.specs.Contracts.{Replied, Closed}
+use Rattle.answers.specs.Contracts.{Reply, CloseExit}
 use Rattle.job_room.specs.Room.{Room}
 use Rattle.job_requests.specs.declared.Request.{Request}
 use Rattle.job_requests.specs.Requests.{requestOf}
@@ -17,19 +17,19 @@ use Rattle.job_serve.specs.Serve.{serve}
 use Rattle.answers.specs.Answer.{fitting, answerWords, headerOf}
 use Rattle.answers.proofs.BehindLaws.{placed-part}
 use Rattle.job_promise.specs.List.{isFlat, replyTo}
-use Rattle.job_promise.specs.Contracts.{Told, answerTo}
+use Rattle.job_promise.specs.Contracts.{ServeAllExit, answerTo}
 
 -- the reply to a request that was taken apart
 pub reply-is : (room : Room) (f : ℕ → Values) (r : List ℕ) (flat : Bool) (q : Request) (left : List ℕ) (a : Answered) (o o′ m m′ : List ℕ) → flat ≡ isFlat room → q ≡ requestOf flat r
-    → Replied (serve room q) f left a o o′ m m′ → Replied (replyTo room r) f left a o o′ m m′
+    → Reply (serve room q) f left a o o′ m m′ → Reply (replyTo room r) f left a o o′ m m′
 unfolding replyTo
 reply-is room f r flat q left a o o′ m m′ e d s = rw (d ∙ ap (λ (b : Bool). requestOf b r) e) at s
 
 -- the answer to a request, by its reply, stored in a part behind the header, and what `close` made of it
 pub told-part : (room : Room) (f : ℕ → Values) (r : List ℕ) (left : List ℕ) (o out′ o′ m m′ : List ℕ) (at later e k : ℕ) (a : Answered)
-    → Replied (replyTo room r) f left a (take k (drop (at + 2) o)) out′ m m′
-    → Closed (headerOf (length (take (at + 2) o ++ (out′ ++ drop k (drop (at + 2) o))) - at) later a) (take (at + 2) o ++ (out′ ++ drop k (drop (at + 2) o))) o′ at e
-    → at + 2 + 2 * later ≤ length o → k ≡ length o - (at + 2) → length out′ ≡ length (take k (drop (at + 2) o)) → Told (answerTo room (length o - at) later r) f m m′ o o′ at later e
+    → Reply (replyTo room r) f left a (take k (drop (at + 2) o)) out′ m m′
+    → CloseExit (headerOf (length (take (at + 2) o ++ (out′ ++ drop k (drop (at + 2) o))) - at) later a) (take (at + 2) o ++ (out′ ++ drop k (drop (at + 2) o))) o′ at e
+    → at + 2 + 2 * later ≤ length o → k ≡ length o - (at + 2) → length out′ ≡ length (take k (drop (at + 2) o)) → ServeAllExit (answerTo room (length o - at) later r) f m m′ o o′ at later e
 unfolding answerTo
 told-part room f r left o out′ o′ m m′ at later e k a s c h n long =
     let reply = run (replyTo room r) f in

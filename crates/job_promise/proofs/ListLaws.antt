@@ -15,7 +15,7 @@ use Rattle.reading.proofs.MarksLaws.{markAll-append, length-markAll}
 use Rattle.job_room.specs.Room.{Room}
 use Rattle.answers.specs.Answer.{fitting, answerWords}
 use Rattle.job_promise.specs.List.{replyTo, serveAll}
-use Rattle.job_promise.specs.Contracts.{Told, answerTo}
+use Rattle.job_promise.specs.Contracts.{ServeAllExit, answerTo}
 
 module _ (room : Room) (f : ℕ → Values) where
   -- the first answer and the rest
@@ -63,7 +63,7 @@ module _ (room : Room) (f : ℕ → Values) (m₀ : List ℕ) (len : ℕ) (reqs 
       }
 
   pub along-next : {i at later r : ℕ} {m m′ o o′ : List ℕ} → Along room f m₀ len reqs i at m o → i < length reqs → later ≡ length reqs - i - 1
-      → Told (answerTo room (length o - at) later (getD reqs i [])) f m m′ o o′ at later r → Along room f m₀ len reqs (i + 1) r m′ o′
+      → ServeAllExit (answerTo room (length o - at) later (getD reqs i [])) f m m′ o o′ at later r → Along room f m₀ len reqs (i + 1) r m′ o′
   along-next {i} {at} {later} {r} {m} {m′} {o} {o′} a h l t =
       record {
         answer = a .answer ∙ ap (λ s. take at o ++ run (serveAll room (len - at) s) f) cons ∙ ap (λ s. take at o ++ s) (run-all room f (len - at) q rs) ∙ sym (append-assoc (take at o) w _)
@@ -119,7 +119,7 @@ module _ (room : Room) (f : ℕ → Values) (m₀ : List ℕ) (len : ℕ) (reqs 
       left : len - at - length w ≡ len - r
       left = omega (arith, ends)
 
-  pub along-end : {i at : ℕ} {m o o₀ : List ℕ} → Along room f m₀ len reqs i at m o → length reqs ≤ i → length o₀ ≡ len → Told (serveAll room len reqs) f m₀ m o₀ o 0 0 at
+  pub along-end : {i at : ℕ} {m o o₀ : List ℕ} → Along room f m₀ len reqs i at m o → length reqs ≤ i → length o₀ ≡ len → ServeAllExit (serveAll room len reqs) f m₀ m o₀ o 0 0 at
   unfolding serveAll
   along-end {i} {at} {m} {o} {o₀} a h e =
       let none : drop i reqs ≡ [] = drop-of-length-le reqs h in
@@ -137,7 +137,7 @@ module _ (room : Room) (f : ℕ → Values) (m₀ : List ℕ) (len : ℕ) (reqs 
 
 -- ---- the whole
 
-pub done-is : (t : Asks (List ℕ)) (f : ℕ → Values) (cells r : ℕ) (m m′ o o′ o″ : List ℕ) → Told t f (cleared cells m) m′ o o′ 0 0 r
+pub done-is : (t : Asks (List ℕ)) (f : ℕ → Values) (cells r : ℕ) (m m′ o o′ o″ : List ℕ) → ServeAllExit t f (cleared cells m) m′ o o′ 0 0 r
     → o″ ≡ take r o′ ++ replicate (length o′ - r) 0 → Left (done (fine t) f cells o m) 0 o″ m′
 unfolding done
 done-is t f cells r m m′ o o′ o″ t′ e =
@@ -149,7 +149,7 @@ done-is t f cells r m m′ o o′ o″ t′ e =
     }
 
 -- the same from the marks that were cleared
-pub run-is : (t : Asks (List ℕ)) (f : ℕ → Values) (n cells r : ℕ) (m m₁ m′ o o′ o″ : List ℕ) → n ≡ cells → m₁ ≡ cleared n m → Told t f m₁ m′ o o′ 0 0 r
+pub run-is : (t : Asks (List ℕ)) (f : ℕ → Values) (n cells r : ℕ) (m m₁ m′ o o′ o″ : List ℕ) → n ≡ cells → m₁ ≡ cleared n m → ServeAllExit t f m₁ m′ o o′ 0 0 r
     → o″ ≡ take r o′ ++ replicate (length o′ - r) 0 → Left (done (fine t) f cells o m) 0 o″ m′
 run-is t f n cells r m m₁ m′ o o′ o″ e c s z =
     let from : m₁ ≡ cleared cells m = c ∙ ap (λ (k : ℕ). cleared k m) e in

@@ -23,7 +23,7 @@ use Rattle.job_room.specs.Room.{Room, Lent, prepared}
 use Rattle.job_room.specs.declared.Place.{Place}
 use Rattle.job_room.specs.declared.Prepared.{Prepared}
 use Rattle.job_room.specs.declared.Prepared.the-variants as Prepared
-use Rattle.job_room.specs.Contracts.{roomIn, countsIn, Preparing}
+use Rattle.job_room.specs.Contracts.{roomIn, countsIn, PrepareExit}
 use Rattle.job_room.proofs.Laws.{prepared-outside, preparing-refused}
 use Rattle.answers.specs.Answer.{fitting, answerWords}
 use Rattle.job_reads.proofs.Ranges.{Ranged, due, none, among-is, between}
@@ -33,7 +33,7 @@ use Rattle.job_promise.specs.declared.Outcome.the-variants.{Done, Refuse
 use Rattle.job_promise.specs.List.{isFlat, replyTo, serveAll}
 use Rattle.job_promise.specs.Contracts.{answerTo}
 use Rattle.job_promise.specs.Job.{jobOf, lentTo, outcome, outcomeOf}
-use Rattle.job_promise.specs.Promise.{Numbered, accepted, rejected, Answers, end, served, denied, Read, Mark, marked, clear, Promised}
+use Rattle.job_promise.specs.Promise.{ResultNumber, accepted, rejected, Answers, end, served, denied, ReadBySome, Mark, marked, clear, JobPromise}
 use Rattle.job_promise.proofs.ListLaws.{run-all}
 use Rattle.job_promise.proofs.JobLaws.{job-refused, job-done}
 use Rattle.job_promise.proofs.Demand3.{reads-each, two-runs, left-is, read-is-marked, marked-is-read, unread-is-clear, later-kept}
@@ -107,7 +107,7 @@ module _ (case requests : List ℕ) (words floats : ℕ) (answers marks : List �
     abbrev all : List ℕ
     all = reads (serveAll room (length answers) (requestsIn requests)) (valuesOf case)
 
-    for-some : (i : ℕ) → List·Memᴰ i all → Read case requests with i
+    for-some : (i : ℕ) → List·Memᴰ i all → ReadBySome case requests with i
     for-some i w =
         let f = found (λ r. reads (replyTo room r) (valuesOf case)) [] i (requestsIn requests) (subst (List·Memᴰ i) (reads-each room (valuesOf case) (length answers) (requestsIn requests)) w) in
         let l : f .0 < length requests / 128 = let h = f .1 in omega (arith, requests-count requests) in
@@ -119,7 +119,7 @@ module _ (case requests : List ℕ) (words floats : ℕ) (answers marks : List �
           reads = subst (λ r. List·Memᴰ i (reads (replyTo room r) (valuesOf case))) (requests-at requests (f .0) l) (f .2);
         }
 
-    from-some : (i : ℕ) → Read case requests with i → List·Memᴰ i all
+    from-some : (i : ℕ) → ReadBySome case requests with i → List·Memᴰ i all
     from-some i s =
         let l : s .number < length (requestsIn requests) = let h = s .listed in omega (arith, requests-count requests) in
         let same : s .room ≡ room = cc (sym (s .built) ∙ built) in
@@ -128,16 +128,16 @@ module _ (case requests : List ℕ) (words floats : ℕ) (answers marks : List �
         (subst (λ r. List·Memᴰ i (reads (replyTo room r) (valuesOf case))) (sym (requests-at requests (s .number) (s .listed)))
         (subst (λ (x : Room). List·Memᴰ i (reads (replyTo x (wordsAt requests (128 * s .number))) (valuesOf case))) same (s .reads))))
 
-    cell-mark : (i : ℕ) → i < cellsOf case → Mark (Read case requests with i) (getD (out .marks) i 0)
+    cell-mark : (i : ℕ) → i < cellsOf case → Mark (ReadBySome case requests with i) (getD (out .marks) i 0)
     cell-mark i h = by (ℕ-discrete (getD (out .marks) i 0) 1)
       where
-        by : Dec (getD (out .marks) i 0 ≡ 1) → Mark (Read case requests with i) (getD (out .marks) i 0)
+        by : Dec (getD (out .marks) i 0 ≡ 1) → Mark (ReadBySome case requests with i) (getD (out .marks) i 0)
         by (yes w) =
-            subst (Mark (Read case requests with i)) (sym w)
+            subst (Mark (ReadBySome case requests with i)) (sym w)
             (marked (for-some i (marked-is-read case requests words floats answers marks room built i h w)))
         by (no n) =
             let unread : (List·Memᴰ i all → ⊥) = λ w. n (read-is-marked case requests words floats answers marks room built i h w) in
-            subst (Mark (Read case requests with i)) (sym (unread-is-clear case requests words floats answers marks room built i h unread))
+            subst (Mark (ReadBySome case requests with i)) (sym (unread-is-clear case requests words floats answers marks room built i h unread))
             (clear (λ s. unread (from-some i s)))
 
     accepted-number : out .result ≡ 0
@@ -151,7 +151,7 @@ module _ (case requests : List ℕ) (words floats : ℕ) (answers marks : List �
         rw (left-is case requests words floats answers marks room built, ← requests-count requests)
         (all-answers room (valuesOf case) (length answers) (requestsIn requests) (length answers - used))
 
-  numbered : (p : Result Room) → room-of ≡ p → Numbered p (out .result)
+  numbered : (p : Result Room) → room-of ≡ p → ResultNumber p (out .result)
   numbered (refused k) e = let b = refused-number k e in rw (refused-is k e) (rejected (b .0) (b .1))
   numbered (fine room) e = rw (accepted-number room e) accepted
 
@@ -167,7 +167,7 @@ module _ (case requests : List ℕ) (words floats : ℕ) (answers marks : List �
   kept (refused k) e = rw (refused-is k e)
   kept (fine room) e = later-kept case requests words floats answers marks room e
 
-  promised : Promised case requests words floats answers marks out
+  promised : JobPromise case requests words floats answers marks out
   promised =
       record {
         ends = refl;
@@ -180,15 +180,15 @@ module _ (case requests : List ℕ) (words floats : ℕ) (answers marks : List �
 
   -- ---- the two ends of `job`
 
-  left : {n : ℕ} {o m : List ℕ} → Left out n o m → Promised case requests words floats answers marks (record { result = n; answers = o; marks = m })
+  left : {n : ℕ} {o m : List ℕ} → Left out n o m → JobPromise case requests words floats answers marks (record { result = n; answers = o; marks = m })
   left l = rw (l .same-result, l .same-answers, l .same-marks) promised
 
-  pub refused-promise : {w : List ℕ} {f : List Float} {x : Prepared} {k : ℕ} → Preparing room-of case w f x → x ≡ Prepared.Refused k
-      → Promised case requests words floats answers marks (record { result = k; answers = answers; marks = marks }) × (Refused k ≡ outcomeOf k)
+  pub refused-promise : {w : List ℕ} {f : List Float} {x : Prepared} {k : ℕ} → PrepareExit room-of case w f x → x ≡ Prepared.Refused k
+      → JobPromise case requests words floats answers marks (record { result = k; answers = answers; marks = marks }) × (Refused k ≡ outcomeOf k)
   refused-promise {k = k} p e = (left (job-refused case requests words floats answers marks p e), never-0 k (refused-number k (preparing-refused p e) .0))
 
-  pub done-promise : {w : List ℕ} {f : List Float} {x : Prepared} {p : Place} {answers′ marks′ : List ℕ} → Preparing room-of case w f x → x ≡ Prepared.Ready p
+  pub done-promise : {w : List ℕ} {f : List Float} {x : Prepared} {p : Place} {answers′ marks′ : List ℕ} → PrepareExit room-of case w f x → x ≡ Prepared.Ready p
       → Left (done (fine (serveAll (roomIn case w f p) (length answers) (requestsIn requests))) (valuesOf case) (countsIn p .cells) answers marks) 0 answers′ marks′
-      → Promised case requests words floats answers marks (record { result = 0; answers = answers′; marks = marks′ }) × (Done ≡ outcomeOf 0)
+      → JobPromise case requests words floats answers marks (record { result = 0; answers = answers′; marks = marks′ }) × (Done ≡ outcomeOf 0)
   unfolding outcomeOf
   done-promise p e h = (left (job-done case requests words floats answers marks p e h), refl)

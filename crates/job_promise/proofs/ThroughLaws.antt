@@ -9,7 +9,7 @@ use Rattle.job_requests.specs.Requests.{wordsAt, requestsIn}
 use Rattle.job_requests.proofs.Laws.{requests-count, requests-at}
 use Rattle.job_room.specs.Room.{Room}
 use Rattle.job_promise.specs.List.{serveAll}
-use Rattle.job_promise.specs.Contracts.{Told, answerTo}
+use Rattle.job_promise.specs.Contracts.{ServeAllExit, answerTo}
 use Rattle.job_promise.proofs.ListLaws.{Along, along-start, along-next, along-end}
 
 -- i requests of the bytes are answered, their words end at `at`
@@ -34,14 +34,14 @@ module _ (room : Room) (f : ℕ → Values) (m₀ o₀ bytes : List ℕ) where
   through-start h = from-along (along-start room f m₀ (length o₀) (requestsIn bytes) o₀ refl (omega (arith, requests-count bytes)))
 
   pub through-next : {i at later r : ℕ} {m m′ o o′ : List ℕ} → Through room f m₀ o₀ bytes i at m o → i < length bytes / 128 → later ≡ length bytes / 128 - i - 1
-      → Told (answerTo room (length o - at) later (wordsAt bytes (128 * i))) f m m′ o o′ at later r → Through room f m₀ o₀ bytes (i + 1) r m′ o′
+      → ServeAllExit (answerTo room (length o - at) later (wordsAt bytes (128 * i))) f m m′ o o′ at later r → Through room f m₀ o₀ bytes (i + 1) r m′ o′
   through-next {i} {later = later} t h l s =
       let n = requests-count bytes in
       let before : i < length (requestsIn bytes) = omega (arith, n) in
       let rest : later ≡ length (requestsIn bytes) - i - 1 = omega (arith, n, l) in
       from-along (along-next room f m₀ (length o₀) (requestsIn bytes) (t .along) before rest (rw (requests-at bytes i h) s))
 
-  pub through-end : {i at : ℕ} {m o : List ℕ} → Through room f m₀ o₀ bytes i at m o → length bytes / 128 ≤ i → Told (serveAll room (length o₀) (requestsIn bytes)) f m₀ m o₀ o 0 0 at
+  pub through-end : {i at : ℕ} {m o : List ℕ} → Through room f m₀ o₀ bytes i at m o → length bytes / 128 ≤ i → ServeAllExit (serveAll room (length o₀) (requestsIn bytes)) f m₀ m o₀ o 0 0 at
   through-end t h = along-end room f m₀ (length o₀) (requestsIn bytes) (t .along) (omega (arith, requests-count bytes)) refl
 
   -- what the next answer asks

@@ -12,7 +12,7 @@ use Rattle.case_file.specs.Trailer.{countsOf, trailerRight, fieldFrom, pressure
 use Rattle.case_file.specs.Field.{cellsOf}
 use Rattle.case_file.specs.Same.{SameOutsideFields, SameAt}
 use Rattle.job_promise.specs.Job.{outcome}
-use Rattle.job_promise.specs.Promise.{Promised}
+use Rattle.job_promise.specs.Promise.{JobPromise}
 
 -- byte k is one of cell i's
 pub data OfCell (case : List ℕ) (i : ℕ) : ℕ → Type 0 where
@@ -62,7 +62,7 @@ module _ (case : List ℕ) (right : trailerRight case ≡ true) (i : ℕ) (cell 
       }
 
   pub unmarked-free : {requests : List ℕ} {words floats : ℕ} {answers marks : List ℕ} {left : After}
-      → Promised case requests words floats answers marks left → getD (left .marks) i 0 ≡ 0 → {k : ℕ} → OfCell case i k
+      → JobPromise case requests words floats answers marks left → getD (left .marks) i 0 ≡ 0 → {k : ℕ} → OfCell case i k
       → left ≡ outcome (set case k v) requests words floats answers marks
   unfolding Named
   unmarked-free {left = left} t z {k} b =

@@ -8,7 +8,7 @@ use Rattle.reading.specs.Asks.{Asks, give, run, reads, _>>=_}
 use Rattle.reading.specs.Marks.{markAll}
 use Rattle.job_room.specs.Room.{Room}
 use Rattle.answers.specs.Answer.{fitting, answerWords}
-use Rattle.answers.specs.Contracts.{Placed}
+use Rattle.answers.specs.Contracts.{StoredWords}
 use Rattle.job_promise.specs.List.{replyTo}
 
 -- how many requests of the bytes follow request i
@@ -20,6 +20,6 @@ unfoldable pub answerTo : Room → ℕ → ℕ → List ℕ → Asks (List ℕ)
 answerTo room left later r = replyTo room r >>= λ a. give (answerWords (fitting left later a))
 
 -- what a tree gives stands from `at` on, and what it reads is marked
-pub record Told (t : Asks (List ℕ)) (f : ℕ → Values) (m m′ o o′ : List ℕ) (at later r : ℕ) : Type 0 where
+pub record ServeAllExit (t : Asks (List ℕ)) (f : ℕ → Values) (m m′ o o′ : List ℕ) (at later r : ℕ) : Type 0 where
   pub marks : m′ ≡ markAll m (reads t f)
-  pub placed : Placed (run t f) o o′ at later r
+  pub placed : StoredWords (run t f) o o′ at later r

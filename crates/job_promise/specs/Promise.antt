@@ -16,9 +16,9 @@ use Rattle.job_promise.specs.Job.{lentTo, outcome}
 -- ---- the numbers of refusals
 
 -- "Refused jobs (1 to 19) give only the number"; 0 is the number of an accepted job, whose room was built
-pub data Numbered : Result Room → ℕ → Type 0 where
-  accepted : {room : Room} → Numbered (fine room) 0
-  rejected : {k : ℕ} → 1 ≤ k → k ≤ 19 → Numbered (refused k) k
+pub data ResultNumber : Result Room → ℕ → Type 0 where
+  accepted : {room : Room} → ResultNumber (fine room) 0
+  rejected : {k : ℕ} → 1 ≤ k → k ≤ 19 → ResultNumber (refused k) k
 
 -- so many answers, and zeros behind them: "refusal (0 if none), word count n, then n words; a refusal has n = 0", and its number is from 30 to 44
 pub data Answers : ℕ → List ℕ → Type 0 where
@@ -29,7 +29,7 @@ pub data Answers : ℕ → List ℕ → Type 0 where
 -- ---- the marks of an accepted job
 
 -- Cell i is read for some request of the list, the one with this number: "An accepted job reads the cells that its requests read, taken together."
-pub record Read (case requests : List ℕ) (lent : Lent) (i : ℕ) : Type 0 where
+pub record ReadBySome (case requests : List ℕ) (lent : Lent) (i : ℕ) : Type 0 where
   pub room : Room
   pub built : prepared case (length requests) lent ≡ fine room
   pub number : ℕ
@@ -44,10 +44,10 @@ pub data Mark (Is-read : Type 0) : ℕ → Type 0 where
 -- ---- a run
 
 -- A run over a case, with these requests, as many words and floats lent, these answers and marks on entry; and what it left.
-pub record Promised (case requests : List ℕ) (words floats : ℕ) (answers marks : List ℕ) (left : After) : Type 0 where
+pub record JobPromise (case requests : List ℕ) (words floats : ℕ) (answers marks : List ℕ) (left : After) : Type 0 where
   -- "equate result, answers and marks with a definition, refusals too"
   pub ends : left ≡ outcome case requests words floats answers marks
-  pub number : Numbered (prepared case (length requests) (lentTo words floats answers marks)) (left .result)
+  pub number : ResultNumber (prepared case (length requests) (lentTo words floats answers marks)) (left .result)
   pub answered : left .result ≡ 0 → Answers (length requests / 128) (left .answers)
   -- This is run M. Run P is over any file p with the same bytes outside velocities and pressures, and the same values at the cells that M's marks
   -- name; by its own `ends` it leaves `outcome p ..`. "Equal are the job's result, every word of the answer buffer and every byte of the marks buffer".
@@ -56,5 +56,5 @@ pub record Promised (case requests : List ℕ) (words floats : ℕ) (answers mar
       → left ≡ outcome p requests words floats answers marks
   -- A cell is marked exactly when it is read for some request of the list; "later bytes keep theirs".
   pub marked : left .result ≡ 0 → (i : ℕ) → i < cellsOf case
-      → Mark (Read case requests (lentTo words floats answers marks) i) (getD (left .marks) i 0)
+      → Mark (ReadBySome case requests (lentTo words floats answers marks) i) (getD (left .marks) i 0)
   pub later : drop (cellsOf case) (left .marks) ≡ drop (cellsOf case) marks

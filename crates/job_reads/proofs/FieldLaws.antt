@@ -7,7 +7,7 @@ use lib.ListN.{length-map}
 use Rattle.reading.specs.Result.{fine}
 use Rattle.reading.proofs.ResultLaws.{bound}
 use Rattle.mesh_area.specs.Tables.{Mesh}
-use Rattle.lines_field.specs.Corners.{polygonOf}
+use Rattle.lines_field.specs.Vertices.{polygonOf}
 use Rattle.lines_field.specs.Bins.{listedIn}
 use Rattle.lines_locate.specs.Field.{StreamlineField}
 use Rattle.lines_field.specs.Field.{polygonsOf, fieldOf}

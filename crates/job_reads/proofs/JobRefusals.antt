@@ -16,17 +16,17 @@ use Rattle.case_definitions.specs.Faces.{Definition}
 use Rattle.case_definitions.specs.Definitions.{Taken, numbers, counted, faceLists, made, kinds, definition, definitions}
 use Rattle.mesh_geometry.specs.Faces.{Oriented, enough, longEnough, faceAreaVector, measured, turnedIf, orientedFace}
 use Rattle.mesh_volumes.specs.declared.Weight.{Weight}
-use Rattle.mesh_volumes.specs.Geometry.{centre2D, fanOf, addFace3D, centre3D, geometryIn, cellGeometry}
+use Rattle.mesh_volumes.specs.Geometry.{centre2D, tetrahedraOf, addFace3D, centre3D, geometryIn, cellGeometry}
 use Rattle.mesh_geometry.specs.declared.FaceGeometry.{FaceGeometry}
 use Rattle.mesh_faces.specs.declared.Added.{Added}
 use Rattle.mesh_faces.specs.declared.Added.the-variants as Added
-use Rattle.mesh_faces.specs.Table.{placed, addFace}
+use Rattle.mesh_faces.specs.Table.{numberedFace, addFace}
 use Rattle.mesh_cell_parts.specs.Parts.{addFaceOf}
-use Rattle.mesh_cells.specs.Cells.{Draft, Drafts, addCell, drafts}
+use Rattle.mesh_cells.specs.Cells.{PartialCell, PartialMesh, addCell, partialMesh}
 use Rattle.mesh_centres.specs.Finish.{finished}
 use Rattle.mesh_coordinates.specs.Coordinates.{acceptable}
 use Rattle.mesh.specs.Mesh.{joined, completed, filled, fromCells}
-use Rattle.mesh.specs.Case.{Surveyed-case, surveyOf, meshOf}
+use Rattle.mesh.specs.Case.{CaseSurvey, surveyOf, meshOf}
 use Rattle.lines_field.specs.Field.{gridFor, gridOf, fieldOf}
 use Rattle.job_room.specs.Room.{Room, Lent, roomFrom, roomOf, shortage, prepared}
 use Rattle.job_reads.proofs.Ranges.{Ranged, due, none, bind, barred, either, through, each}
@@ -93,7 +93,7 @@ surveying file = bind (opening file) (λ n. bind (all-defining _ _) (λ ds. none
 
 -- ---- 4 to 7
 
-lending : (c : Surveyed-case) (requests : ℕ) (lent : Lent) → Job (shortage c requests lent)
+lending : (c : CaseSurvey) (requests : ℕ) (lent : Lent) → Job (shortage c requests lent)
 unfolding shortage
 lending c requests lent =
     bind (barred 4 _ refl) (λ _. bind (barred 5 _ refl) (λ _. bind (barred 6 _ refl) (λ _. barred 7 _ refl)))
@@ -115,8 +115,8 @@ module _ (d : ℕ) (ps : List Vec3) where
   unfolding orientedFace
   orienting reference l = bind (measuring l) (λ f. turning _ f)
 
-  placing : (a : Added) (fs : List Face) → Job (placed a fs)
-  unfolding placed
+  placing : (a : Added) (fs : List Face) → Job (numberedFace a fs)
+  unfolding numberedFace
   placing (Added.New i) fs = none
   placing (Added.Second i) fs = none
   placing Added.Third fs = due 14 refl
@@ -125,8 +125,8 @@ module _ (d : ℕ) (ps : List Vec3) where
   unfolding addFace
   adding-one cell l m fs = placing _ _
 
-  drafting : (defs : List Definition) → Job (drafts d ps defs)
-  unfolding drafts addCell addFaceOf
+  drafting : (defs : List Definition) → Job (partialMesh d ps defs)
+  unfolding partialMesh addCell addFaceOf
   drafting defs =
       through (addCell d ps)
       (λ t def.
@@ -136,8 +136,8 @@ module _ (d : ℕ) (ps : List Vec3) where
       _
       defs
 
-  fanning : (reference : Vec3) (w : Weight) (r : Result Oriented) → Job (fanOf ps reference w r)
-  unfolding fanOf
+  fanning : (reference : Vec3) (w : Weight) (r : Result Oriented) → Job (tetrahedraOf ps reference w r)
+  unfolding tetrahedraOf
   fanning reference w (refused n) = due 15 refl
   fanning reference w (fine f) = none
 
@@ -158,7 +158,7 @@ module _ (d : ℕ) (ps : List Vec3) where
   weighing true reference faces = centring-2D reference _
   weighing false reference faces = bind (through (addFace3D ps reference) (summing reference) _ faces) centring-3D
 
-  finishing : (c : Draft) → Job (finished d ps c)
+  finishing : (c : PartialCell) → Job (finished d ps c)
   unfolding finished cellGeometry
   finishing c = bind (weighing (eqb d 2) _ _) (λ g. none)
 
@@ -166,7 +166,7 @@ module _ (d : ℕ) (ps : List Vec3) where
   unfolding joined
   joining fs cs = bind (barred 16 _ refl) (λ _. bind (barred 17 _ refl) (λ _. none))
 
-  completing : (t : Drafts) → Job (completed d ps t)
+  completing : (t : PartialMesh) → Job (completed d ps t)
   unfolding completed
   completing t = bind (each (finished d ps) finishing (t .cells)) (λ cs. joining _ cs)
 

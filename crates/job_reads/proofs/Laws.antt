@@ -18,7 +18,7 @@ use Rattle.case_file.proofs.TrailerLaws.{opens}
 use Rattle.case_definitions.proofs.Walking.{length-definitions}
 use Rattle.lines_locate.specs.Field.{StreamlineField}
 use Rattle.lines_field.specs.Field.{fieldOf}
-use Rattle.mesh.specs.Case.{Surveyed-case, surveyOf, meshOf}
+use Rattle.mesh.specs.Case.{CaseSurvey, surveyOf, meshOf}
 use Rattle.job_requests.specs.declared.Request.{Request}
 use Rattle.job_requests.specs.declared.Request.the-variants as requests
 use Rattle.job_room.specs.Room.{Room, flat, solid, Lent, roomFrom, roomOf, prepared}
@@ -78,7 +78,7 @@ mesh-within n d m room h e = by (eqb d 2) e
         let w : solid m ≡ room = fine-same e in
         subst (RoomWithin n) w (omega (arith, h .cells))
 
-case-within : (file : List ℕ) (c : Surveyed-case) (room : Room) → roomOf file c ≡ fine room → RoomWithin (length (c .definitions)) room
+case-within : (file : List ℕ) (c : CaseSurvey) (room : Room) → roomOf file c ≡ fine room → RoomWithin (length (c .definitions)) room
 unfolding roomOf meshOf
 case-within file c room e =
     let a = bound _ _ _ e in
@@ -92,7 +92,7 @@ counts-of file n (Case k) q e = let w : k ≡ n = fine-same e in rw (← w) (ope
 counts-of file n (Refused k) q e = absurd (let z : _≡_ {A = ℕ} 0 1 = cc in omega arith)
 
 -- as many definitions as the trailer says
-survey-counts : (file : List ℕ) (c : Surveyed-case) → surveyOf file ≡ fine c → length (c .definitions) ≡ countsOf file .cells
+survey-counts : (file : List ℕ) (c : CaseSurvey) → surveyOf file ≡ fine c → length (c .definitions) ≡ countsOf file .cells
 unfolding surveyOf
 survey-counts file c e =
     let a = bound _ _ _ e in

@@ -19,10 +19,10 @@ use Rattle.reading.proofs.ResultLaws.{bound, not-due, length-mapAll, steps-keep
 use Rattle.case_definitions.specs.Faces.{Definition}
 use Rattle.mesh_area.specs.Tables.{Face, Cell, Mesh, faceAt, noFace, cellAt, noCell}
 use Rattle.mesh_geometry.specs.declared.FaceGeometry.{FaceGeometry}
-use Rattle.mesh_faces.specs.Table.{faceWithKey, newFace, withNeighbour, joining, settled, adding, Placed, placed, addFace}
-use Rattle.mesh_cell_parts.specs.Parts.{Growing, addFaceOf}
-use Rattle.mesh_cells.specs.Cells.{Drafts, addCell, drafts}
-use Rattle.mesh_neighbours.specs.Neighbours.{otherOf, beyond, addFound, addNeighbour, neighboursOf, linkedAt, linked}
+use Rattle.mesh_faces.specs.Table.{faceWithKey, newFace, withNeighbour, joining, settled, useFace, NumberedFace, numberedFace, addFace}
+use Rattle.mesh_cell_parts.specs.Parts.{CellFaces, addFaceOf}
+use Rattle.mesh_cells.specs.Cells.{PartialMesh, addCell, partialMesh}
+use Rattle.mesh_neighbours.specs.Neighbours.{otherCell, beyond, addFound, addNeighbour, neighboursOf, linkedAt, linked}
 use Rattle.mesh_centres.specs.Finish.{finished}
 use Rattle.mesh_coordinates.specs.Coordinates.{acceptable}
 use Rattle.mesh.specs.Mesh.{joined, completed, filled, fromCells}
@@ -49,46 +49,46 @@ module _ (n cell : ℕ) (below : cell < n) where
   unfolding withNeighbour
   second-numbered f h = record { owner = h .owner; neighbour = below }
 
-  module _ (v : List ℕ) (m : FaceGeometry) (fs : List Face) (p : Placed) (old : All (Numbered n) fs) where
+  module _ (v : List ℕ) (m : FaceGeometry) (fs : List Face) (p : NumberedFace) (old : All (Numbered n) fs) where
     at : (i : ℕ) → Numbered n (faceAt fs i)
     unfolding faceAt
     at i = all-getD (Numbered n) fs i noFace (no-face-numbered n (omega arith)) old
 
-    joining-numbered : (r : Found) (i : ℕ) → placed (joining r cell fs i .answer) (joining r cell fs i .faces) ≡ fine p → All (Numbered n) (p .faces)
-    unfolding joining placed
+    joining-numbered : (r : Found) (i : ℕ) → numberedFace (joining r cell fs i .answer) (joining r cell fs i .faces) ≡ fine p → All (Numbered n) (p .faces)
+    unfolding joining numberedFace
     joining-numbered Nothing i e =
         let f : Face = faceAt fs i in
         let w : record { faces = set fs i (withNeighbour cell f); number = i } ≡ p = cc in
         rw (← w) (all-set (Numbered n) fs i (withNeighbour cell f) (second-numbered f (at i)) old)
     joining-numbered (At k) i e = absurd (let z : _≡_ {A = ℕ} 0 1 = cc in omega arith)
 
-    settled-numbered : (r : Found) → placed (settled r cell v m fs .answer) (settled r cell v m fs .faces) ≡ fine p → All (Numbered n) (p .faces)
-    unfolding settled placed
+    settled-numbered : (r : Found) → numberedFace (settled r cell v m fs .answer) (settled r cell v m fs .faces) ≡ fine p → All (Numbered n) (p .faces)
+    unfolding settled numberedFace
     settled-numbered Nothing e =
         let w : record { faces = fs ++ newFace cell v m ∷ []; number = length fs } ≡ p = cc in
         rw (← w) (all-append (Numbered n) fs (newFace cell v m ∷ []) old (new-numbered v m, tt))
     settled-numbered (At i) e = joining-numbered (faceAt fs i .neighbour) i e
 
     add-numbered : addFace cell v m fs ≡ fine p → All (Numbered n) (p .faces)
-    unfolding addFace adding
+    unfolding addFace useFace
     add-numbered e = settled-numbered (faceWithKey (sorted v) fs) e
 
-  face-numbered : (d : ℕ) (ps : List Vec3) (reference : Vec3) (g : Growing) (l : List ℕ) (h : Growing) → All (Numbered n) (g .faces)
+  face-numbered : (d : ℕ) (ps : List Vec3) (reference : Vec3) (g : CellFaces) (l : List ℕ) (h : CellFaces) → All (Numbered n) (g .faces)
       → addFaceOf d ps cell reference g l ≡ fine h → All (Numbered n) (h .faces)
   unfolding addFaceOf
   face-numbered d ps reference g l h old e =
       let b = bound _ _ _ e in
       let c = bound _ _ _ (b .then) in
-      let w : record { faces = c .value .faces; own = g .own ++ c .value .number ∷ [] } ≡ h = cc (c .then) in
+      let w : record { faces = c .value .faces; numbers = g .numbers ++ c .value .number ∷ [] } ≡ h = cc (c .then) in
       rw (← w) (add-numbered _ _ (g .faces) (c .value) old (c .had))
 
 -- ---- after k cells
 
-record Drafted (k : ℕ) (t : Drafts) : Type 0 where
+record CellsAdded (k : ℕ) (t : PartialMesh) : Type 0 where
   cells : length (t .cells) ≡ k
   faces : All (Numbered k) (t .faces)
 
-cell-drafted : (d : ℕ) (ps : List Vec3) (k : ℕ) (t : Drafts) (def : Definition) (u : Drafts) → Drafted k t → addCell d ps t def ≡ fine u → Drafted (suc k) u
+cell-drafted : (d : ℕ) (ps : List Vec3) (k : ℕ) (t : PartialMesh) (def : Definition) (u : PartialMesh) → CellsAdded k t → addCell d ps t def ≡ fine u → CellsAdded (suc k) u
 unfolding addCell
 cell-drafted d ps k t def u h e =
     let a = bound _ _ _ e in
@@ -107,11 +107,11 @@ cell-drafted d ps k t def u h e =
     fine-same : {A : Type 0} {x y : A} → fine x ≡ fine y → x ≡ y
     fine-same e = cc
 
-all-drafted : (d : ℕ) (ps : List Vec3) (defs : List Definition) (t : Drafts) → drafts d ps defs ≡ fine t → Drafted (length defs) t
-unfolding drafts
+all-drafted : (d : ℕ) (ps : List Vec3) (defs : List Definition) (t : PartialMesh) → partialMesh d ps defs ≡ fine t → CellsAdded (length defs) t
+unfolding partialMesh
 all-drafted d ps defs t e =
     let z : 0 + length defs ≡ length defs = omega arith in
-    rw z at (steps-keep Drafted (addCell d ps) (cell-drafted d ps) 0 (record { faces = []; cells = [] }) defs t (record { cells = refl; faces = tt }) e)
+    rw z at (steps-keep CellsAdded (addCell d ps) (cell-drafted d ps) 0 (record { faces = []; cells = [] }) defs t (record { cells = refl; faces = tt }) e)
 
 -- ---- the neighbours of the cells
 
@@ -124,8 +124,8 @@ module _ (n : ℕ) (some : 0 < n) (fs : List Face) (old : All (Numbered n) fs) w
   abbrev Low : List ℕ → Type 0
   Low l = All (λ k. k < n) l
 
-  other-below : (cell owner : ℕ) (r : Found) → owner < n → Beside n r → Beside n (otherOf cell owner r)
-  unfolding otherOf
+  other-below : (cell owner : ℕ) (r : Found) → owner < n → Beside n r → Beside n (otherCell cell owner r)
+  unfolding otherCell
   other-below cell owner Nothing h b = tt
   other-below cell owner (At k) h b = by (eqb owner cell)
     where
@@ -175,7 +175,7 @@ joined-numbers n ps fs cs m some old count e =
     let w : record { points = ps; faces = fs; cells = linked fs cs } ≡ m = cc (b .then) in
     rw (← w) (record { cells = length-linked fs cs ∙ count; near = linked-low n some fs old cs })
 
-completed-numbers : (n d : ℕ) (ps : List Vec3) (t : Drafts) (m : Mesh) → 0 < n → Drafted n t → completed d ps t ≡ fine m → Numbers n m
+completed-numbers : (n d : ℕ) (ps : List Vec3) (t : PartialMesh) (m : Mesh) → 0 < n → CellsAdded n t → completed d ps t ≡ fine m → Numbers n m
 unfolding completed
 completed-numbers n d ps t m some h e =
     let a = bound _ _ _ e in

@@ -13,8 +13,8 @@ use Rattle.reading.proofs.Within.{Within, given, asked, within-bind}
 use Rattle.mesh_area.specs.Tables.{Mesh, Cell}
 use Rattle.planes_cut.specs.declared.Plane.{Plane}
 use Rattle.planes_cut.specs.declared.Cut.{Cut}
-use Rattle.planes_crossings.specs.Crossings.{foreign, meetings}
-use Rattle.planes_sections.specs.Intersect.{PlaneCell, middle, pieceAbout, pieceOf, piecesFrom, intersect}
+use Rattle.planes_crossings.specs.Crossings.{foreign, crossings}
+use Rattle.planes_sections.specs.Intersect.{PlaneCell, sectionCentre, pieceAbout, pieceOf, piecesFrom, intersect}
 use Rattle.planes_sums.specs.Sample.{Sample}
 use Rattle.planes_samples.specs.Sampling.{Taken, onward, taken, sample}
 use Rattle.planes.specs.Answers.{sampled, sectionOf, statisticsOf, integralsOf, probeOf}
@@ -40,8 +40,8 @@ module _ (n : ℕ) where
   piece-below : (m : Mesh) (c : Cut) (i : ℕ) (k : Cell) → i < n → All Below (pieceOf m c i k)
   unfolding pieceOf
   piece-below m c i k h =
-      let l : List Vec3 = meetings m c (k .faces) in
-      all-unless Below (anyOf (foreign m c i) (k .faces)) (pieceAbout c i l (middle l)) (about-below c i l (middle l) h)
+      let l : List Vec3 = crossings m c (k .faces) in
+      all-unless Below (anyOf (foreign m c i) (k .faces)) (pieceAbout c i l (sectionCentre l)) (about-below c i l (sectionCentre l) h)
 
   pieces-below : (m : Mesh) (c : Cut) (i : ℕ) (ks : List Cell) → i + length ks ≤ n → All Below (piecesFrom m c i ks)
   unfolding piecesFrom

@@ -19,7 +19,7 @@ use Rattle.planes_sections.specs.Intersect.{PlaneCell, intersect}
 use Rattle.planes_sums.specs.declared.Sums.{Sums}
 use Rattle.planes_sums.specs.Sample.{Sample}
 use Rattle.planes_sums.specs.Statistics.{summing, addSample, empty, statisticsFrom, statistics}
-use Rattle.planes_sums.specs.Integrals.{fit, addIntegral, vacant, integralsFrom, integrals}
+use Rattle.planes_sums.specs.Integrals.{isValid, addIntegral, noIntegrals, integralsFrom, integrals}
 use Rattle.planes_samples.specs.Sampling.{Taken, taken, complete, sample}
 use Rattle.planes.specs.Answers.{sampled, sectionOf, statisticsOf, integralsOf, probeOf}
 use Rattle.lines.specs.declared.Rake.{Rake}
@@ -131,7 +131,7 @@ module _ (f : ℕ → Values) where
   integrals-answer : (normal : Vec3) (l : List Sample) → Answer (integrals normal l)
   unfolding integrals integralsFrom addIntegral
   integrals-answer normal l =
-      bind (through _ (λ t s. either (fit _ _) none (due 42 refl)) _ l) (λ t. either (vacant t) (due 43 refl) none)
+      bind (through _ (λ t s. either (isValid _ _) none (due 42 refl)) _ l) (λ t. either (noIntegrals t) (due 43 refl) none)
 
   module _ (m : Mesh) where
     sampled-answer : (s : Plane) (answer : List Sample → Result (List ℕ)) → ((l : List Sample) → Answer (answer l)) → Answer (run (sampled m s answer) f)

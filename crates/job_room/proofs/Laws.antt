@@ -17,10 +17,10 @@ use Rattle.case_file.specs.declared.Counts.{Counts}
 use Rattle.case_file.specs.declared.Opened.{Opened}
 use Rattle.case_file.specs.declared.Opened.the-variants as Opened
 use Rattle.case_file.proofs.OutsideLaws.{outside-opened, outside-words}
-use Rattle.mesh.specs.Case.{Surveyed-case, surveyOf, meshOf}
+use Rattle.mesh.specs.Case.{CaseSurvey, surveyOf, meshOf}
 use Rattle.mesh.proofs.Laws.{survey-shut, survey-wrong, survey-right, outside-points}
 use Rattle.job_room.specs.Room.{Room, Lent, roomOf, requestsWrong, shortage, prepared}
-use Rattle.job_room.specs.Contracts.{roomIn, Stands, Preparing, standing, barred, Fits}
+use Rattle.job_room.specs.Contracts.{roomIn, RoomStands, PrepareExit, standing, barred, Fits}
 use Rattle.job_room.specs.declared.Place.{Place}
 use Rattle.job_room.specs.declared.Prepared.{Prepared}
 use Rattle.job_room.specs.declared.Prepared.the-variants as Prepared
@@ -28,14 +28,14 @@ use Rattle.job_room.specs.declared.Prepared.the-variants as Prepared
 -- ---- what `prepare` answers
 
 module _ {r : Result Room} {file w : List ℕ} {f : List Float} where
-  pub preparing-refused : {x : Prepared} {k : ℕ} → Preparing r file w f x → x ≡ Prepared.Refused k → r ≡ refused k
+  pub preparing-refused : {x : Prepared} {k : ℕ} → PrepareExit r file w f x → x ≡ Prepared.Refused k → r ≡ refused k
   preparing-refused {k} (barred {k = j} e) g = let h : j ≡ k = cc in e ∙ ap refused h
   preparing-refused {k} (standing e s) g = absurd (let z : _≡_ {A = ℕ} 0 1 = cc in omega arith)
 
-  pub preparing-ready : {x : Prepared} {p : Place} → Preparing r file w f x → x ≡ Prepared.Ready p → (r ≡ fine (roomIn file w f p)) × Stands file w f p
+  pub preparing-ready : {x : Prepared} {p : Place} → PrepareExit r file w f x → x ≡ Prepared.Ready p → (r ≡ fine (roomIn file w f p)) × RoomStands file w f p
   preparing-ready {p} (barred e) g = absurd (let z : _≡_ {A = ℕ} 0 1 = cc in omega arith)
   preparing-ready {p} (standing {p = q} e s) g =
-      let h : q ≡ p = cc in (e ∙ ap (λ (x : Place). fine (roomIn file w f x)) h, subst (λ (x : Place). Stands file w f x) h s)
+      let h : q ≡ p = cc in (e ∙ ap (λ (x : Place). fine (roomIn file w f x)) h, subst (λ (x : Place). RoomStands file w f x) h s)
 
 -- ---- the room of a case is the same outside its field
 
@@ -45,7 +45,7 @@ unfolding prepared _>>=_
 prepared-shut file requests lent k e = rw (e, _>>=_)
 
 -- surveyed
-pub prepared-then : (file : List ℕ) (requests : ℕ) (lent : Lent) (c : Surveyed-case) → surveyOf file ≡ fine c
+pub prepared-then : (file : List ℕ) (requests : ℕ) (lent : Lent) (c : CaseSurvey) → surveyOf file ≡ fine c
     → prepared file requests lent ≡ (shortage c requests lent >>= λ _. roomOf file c)
 unfolding prepared _>>=_
 prepared-then file requests lent c e = rw (e, _>>=_)
@@ -65,7 +65,7 @@ prepared-outside file requests lent = by-opened (opened file) refl
         (survey-wrong (outside file) n (outside-opened file ∙ o) k (ap (definitions (n .cells)) (outside-words file n o) ∙ e))
         ∙ sym (prepared-shut file requests lent k (survey-wrong file n o k e))
     by-definitions n o (fine ds) e =
-        let c : Surveyed-case = record { counts = n; definitions = ds } in
+        let c : CaseSurvey = record { counts = n; definitions = ds } in
         prepared-then (outside file) requests lent c
         (survey-right (outside file) n (outside-opened file ∙ o) ds (ap (definitions (n .cells)) (outside-words file n o) ∙ e))
         ∙ ap (λ (r : Result Room). shortage c requests lent >>= λ _. r) (outside-room file n ds o)
@@ -89,13 +89,13 @@ counts-are file n e = by-tests (trailerRight file) (overLimit (countsOf file)) e
     by-tests true true e = absurd (let z : _≡_ {A = ℕ} 0 1 = cc in omega arith)
     by-tests true false e = cc
 
-surveyed-counts : (file : List ℕ) (c : Surveyed-case) → surveyOf file ≡ fine c → c .counts ≡ countsOf file
+surveyed-counts : (file : List ℕ) (c : CaseSurvey) → surveyOf file ≡ fine c → c .counts ≡ countsOf file
 unfolding surveyOf
 surveyed-counts file c e =
     let s1 = bound _ _ _ e in
     let s2 = bound _ _ _ (s1 .then) in
     let same-case : record { counts = s1 .value; definitions = s2 .value } ≡ c = fine-same (s2 .then) in
-    ap (λ (c : Surveyed-case). c .counts) (sym same-case) ∙ counts-are file (s1 .value) (s1 .had)
+    ap (λ (c : CaseSurvey). c .counts) (sym same-case) ∙ counts-are file (s1 .value) (s1 .had)
   where
     fine-same : {A : Type 0} {a b : A} → fine a ≡ fine b → a ≡ b
     fine-same e = cc
@@ -108,7 +108,7 @@ requests-right requests e = by (eqb (requests % 128) 0) refl e
     by true h e = (eqb-true _ _ h, ltb-false _ _ e)
     by false h e = absurd (let z : _≡_ {A = ℕ} 0 1 = cc in omega arith)
 
-not-short : (c : Surveyed-case) (requests : ℕ) (lent : Lent) (u : Unit {0}) → shortage c requests lent ≡ fine u → Fits (c .counts .cells) requests lent
+not-short : (c : CaseSurvey) (requests : ℕ) (lent : Lent) (u : Unit {0}) → shortage c requests lent ≡ fine u → Fits (c .counts .cells) requests lent
 unfolding shortage
 not-short c requests lent u e =
     let b4 = bound _ _ _ e in

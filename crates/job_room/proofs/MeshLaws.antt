@@ -1,4 +1,4 @@
--- What the mesh of a case has of its drafts, and so how many corners, faces and vertices it has. Assumes nothing.
+-- What the mesh of a case has of its partial cells, and so how many vertices, faces and vertices it has. Assumes nothing.
 use Prim.Native.Nat.{ℕ, zero, suc, _≤_, _<_}
 use native.Mathlib.Omega.{arith}
 use mathlib.Core.Path.{_≡_, refl, ap, sym, _∙_}
@@ -18,15 +18,15 @@ use Rattle.case_definitions.specs.Faces.{Definition, polygon}
 use Rattle.case_definitions.specs.Definitions.{definitions}
 use Rattle.mesh_area.specs.Tables.{Face, Cell, Mesh, noCell, cellAt}
 use Rattle.mesh_neighbours.specs.Neighbours.{linked, linkedAt}
-use Rattle.mesh_cells.specs.Cells.{Draft, Drafts, drafts}
+use Rattle.mesh_cells.specs.Cells.{PartialCell, PartialMesh, partialMesh}
 use Rattle.mesh_centres.specs.Finish.{finished}
 use Rattle.mesh_coordinates.specs.Coordinates.{acceptable}
 use Rattle.mesh.specs.Mesh.{joined, completed, filled, fromCells}
-use Rattle.lines_field.specs.Contracts.{Few}
-use Rattle.planes_crossings.specs.Contracts.{Bounded}
+use Rattle.lines_field.specs.Contracts.{VertexLimit}
+use Rattle.planes_crossings.specs.Contracts.{MeshLimits}
 use Rattle.lines_vertices.specs.Shapes.{Limited, Over}
 use Rattle.lines_vertices.proofs.CellLaws.{cells-counted, faces-of-cells, limited-faces, eight-vertices}
-use Rattle.lines_vertices.proofs.CornerLaws.{few-corners}
+use Rattle.lines_vertices.proofs.VertexLaws.{few-polygon-vertices}
 use Rattle.lines_vertices.proofs.LimitLaws.{all-limited}
 
 fine-same : {A : Type 0} {a b : A} → fine a ≡ fine b → a ≡ b
@@ -47,9 +47,9 @@ mapAll-at f (x ∷ l) k a b e (suc i) h =
     let w : b1 .value ∷ b2 .value ≡ k = fine-same (b2 .then) in
     rw (← w) (mapAll-at f l (b2 .value) a b (b2 .had) i (omega arith))
 
--- ---- a cell that is finished, and one with its neighbours, has the faces of its draft
+-- ---- a cell that is finished, and one with its neighbours, has the faces of its partial cell
 
-finished-faces : (d : ℕ) (ps : List Vec3) (c : Draft) (k : Cell) → finished d ps c ≡ fine k → k .faces ≡ c .faces
+finished-faces : (d : ℕ) (ps : List Vec3) (c : PartialCell) (k : Cell) → finished d ps c ≡ fine k → k .faces ≡ c .faces
 unfolding finished
 finished-faces d ps c k e = let b = bound _ _ _ e in ap (λ (k : Cell). k .faces) (sym (fine-same (b .then)))
 
@@ -66,13 +66,13 @@ past : (cs : List Cell) (i : ℕ) → length cs ≤ i → cellAt cs i ≡ noCell
 unfolding cellAt
 past cs i h = List·getD-eq-default cs noCell h
 
--- ---- the drafts of a mesh
+-- ---- the partial cells of a mesh
 
 pub record FromDrafts (d : ℕ) (ps : List Vec3) (defs : List Definition) (m : Mesh) : Type 0 where
-  pub t : Drafts
-  pub drafted : drafts d ps defs ≡ fine t
+  pub t : PartialMesh
+  pub partial : partialMesh d ps defs ≡ fine t
   pub whole : allOf (each3 finite) ps ≡ true
-  pub over : (none : Draft) → Over ps t none m
+  pub over : (none : PartialCell) → Over ps t none m
 
 all-finite : (ps : List Vec3) (defs : List Definition) (u : Unit {0}) → acceptable ps defs ≡ fine u → allOf (each3 finite) ps ≡ true
 unfolding acceptable
@@ -88,7 +88,7 @@ joined-is ps fs cs m e =
     let b2 = bound _ _ _ (b1 .then) in
     fine-same (b2 .then)
 
-completed-over : (d : ℕ) (ps : List Vec3) (t : Drafts) (m : Mesh) (none : Draft) → completed d ps t ≡ fine m → Over ps t none m
+completed-over : (d : ℕ) (ps : List Vec3) (t : PartialMesh) (m : Mesh) (none : PartialCell) → completed d ps t ≡ fine m → Over ps t none m
 unfolding completed
 completed-over d ps t m none e =
     let b = bound _ _ _ e in
@@ -99,7 +99,7 @@ completed-over d ps t m none e =
       points = refl;
       faces = refl;
       count = length-linked (t .faces) (b .value) ∙ n;
-      own = λ i h.
+      numbers = λ i h.
           linked-faces (t .faces) (b .value) i (omega (arith, n))
           ∙ finished-faces d ps (getD (t .cells) i none) (getD (b .value) i noCell) (mapAll-at (finished d ps) (t .cells) (b .value) none noCell (b .had) i h);
     })
@@ -111,7 +111,7 @@ from-drafts d ps defs m e =
     let b2 = bound _ _ _ (b1 .then) in
     record {
       t = b2 .value;
-      drafted = b2 .had;
+      partial = b2 .had;
       whole = all-finite ps defs (b1 .value) (b1 .had);
       over = λ none. completed-over d ps (b2 .value) m none (b2 .then);
     }
@@ -122,27 +122,27 @@ module _ (d n : ℕ) (ps : List Vec3) (ws : List ℕ) (defs : List Definition) (
   f : FromDrafts d ps defs m
   f = from-drafts d ps defs m e
 
-  abbrev none : Draft
+  abbrev none : PartialCell
   none = record { definition = polygon []; faces = []; reference = origin }
 
   pub mesh-count : length (m .cells) ≡ length defs
-  mesh-count = f .over none .count ∙ cells-counted d ps defs (f .t) (f .drafted)
+  mesh-count = f .over none .count ∙ cells-counted d ps defs (f .t) (f .partial)
 
   limited : (i : ℕ) → i < length (f .t .cells) → Limited (getD (f .t .cells) i none .definition)
-  limited i h = limited-faces d ps defs (f .t) none (all-limited n ws defs right) (f .drafted) i h
+  limited i h = limited-faces d ps defs (f .t) none (all-limited n ws defs right) (f .partial) i h
 
-  pub mesh-few : d ≡ 2 → Few m
-  mesh-few two = few-corners d ps defs (f .t) m none two (f .drafted) (f .whole) (λ i h. limited i h .faces) (f .over none)
+  pub mesh-few : d ≡ 2 → VertexLimit m
+  mesh-few two = few-polygon-vertices d ps defs (f .t) m none two (f .partial) (f .whole) (λ i h. limited i h .faces) (f .over none)
 
   own-few : (i : ℕ) → (i < length (f .t .cells)) ⊎ (length (f .t .cells) ≤ i) → length (cellAt (m .cells) i .faces) ≤ 24
   own-few i (inl h) =
-      let c = faces-of-cells d ps defs (f .t) (f .drafted) i none h .count in
-      rw (f .over none .own i h) (omega (arith, c, limited i h .faces))
+      let c = faces-of-cells d ps defs (f .t) (f .partial) i none h .count in
+      rw (f .over none .numbers i h) (omega (arith, c, limited i h .faces))
   own-few i (inr h) = rw (past (m .cells) i (omega (arith, f .over none .count))) (omega arith)
 
-  pub mesh-bounded : Bounded m
+  pub mesh-bounded : MeshLimits m
   mesh-bounded =
       record {
         few-faces = λ i. own-few i (lt-or-ge i (length (f .t .cells)));
-        few-vertices = λ k. rw (f .over none .faces) (eight-vertices d ps defs (f .t) (all-limited n ws defs right) (f .drafted) k);
+        few-vertices = λ k. rw (f .over none .faces) (eight-vertices d ps defs (f .t) (all-limited n ws defs right) (f .partial) k);
       }

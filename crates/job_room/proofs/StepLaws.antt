@@ -23,8 +23,8 @@ use Rattle.mesh_area.specs.Tables.{Mesh}
 use Rattle.mesh_area.specs.Layout.{pointsIn, meshIn}
 use Rattle.mesh_area.proofs.LayoutLaws.{length-cellsIn}
 use Rattle.mesh.specs.Mesh.{fromCells}
-use Rattle.mesh.specs.Case.{Surveyed-case, surveyOf, areaShort, meshOf}
-use Rattle.mesh.specs.Contracts.{Building, Buildable}
+use Rattle.mesh.specs.Case.{CaseSurvey, surveyOf, areaShort, meshOf}
+use Rattle.mesh.specs.Contracts.{BuildExit, BuildEntry}
 use Rattle.mesh_coordinates.specs.Coordinates.{acceptedAs}
 use Rattle.mesh.specs.declared.Built.{Built}
 use Rattle.mesh.specs.declared.Built.the-variants as Built
@@ -35,12 +35,12 @@ use Rattle.lines_field.specs.declared.Built.the-variants as Traced
 use Rattle.lines_field.specs.Field.{polygonsOf, gridOf, fieldOf, builtGrid}
 use Rattle.lines_locate.specs.Layout.{fieldIn}
 use Rattle.lines_velocity.specs.Contracts.{tracerField}
-use Rattle.lines_field.specs.Contracts.{Traceable}
+use Rattle.lines_field.specs.Contracts.{FromDatasetExit}
 use Rattle.lines_field.proofs.BuildLaws.{lent-words, lent-floats}
 use Rattle.planes_cut.specs.Contracts.{bare}
 use Rattle.planes_sections.proofs.PieceLaws.{same-bounds}
 use Rattle.job_room.specs.Room.{Room, flat, solid, Lent, roomFrom, roomOf, requestsWrong, shortage, prepared}
-use Rattle.job_room.specs.Contracts.{roomIn, countsIn, Servable, Stands, Preparing, standing, barred, Shortage, FieldReady}
+use Rattle.job_room.specs.Contracts.{roomIn, countsIn, Servable, RoomStands, PrepareExit, standing, barred, Shortage, AddFieldEntry}
 use Rattle.job_room.specs.declared.Place.the-variants.{Flat, Solid}
 use Rattle.job_room.specs.declared.Prepared.{Prepared}
 use Rattle.job_room.specs.declared.Prepared.the-variants as Prepared
@@ -92,11 +92,11 @@ module _ (n : Counts) (faces requests words floats marks answers : ℕ) where
 
 -- ---- the field of a mesh, or the mesh
 
-module _ (case : List ℕ) (n : Counts) (s : Sizes) (w : List ℕ) (f : List Float) (d : FieldReady case n s w f) where
+module _ (case : List ℕ) (n : Counts) (s : Sizes) (w : List ℕ) (f : List Float) (d : AddFieldEntry case n s w f) where
   abbrev m : Mesh
   m = meshIn (pointsIn case (n .points)) s w f
 
-  solid-stands : Stands case w f (Solid n s)
+  solid-stands : RoomStands case w f (Solid n s)
   unfolding Servable countsIn bare
   solid-stands =
       let o = opens case n (d .opens) in
@@ -111,7 +111,7 @@ module _ (case : List ℕ) (n : Counts) (s : Sizes) (w : List ℕ) (f : List Flo
             };
       }
 
-  pub add-field-solid : (n .dimension ≡ 2 → ⊥) → Preparing (roomFrom (n .dimension) m) case w f (Prepared.Ready (Solid n s))
+  pub add-field-solid : (n .dimension ≡ 2 → ⊥) → PrepareExit (roomFrom (n .dimension) m) case w f (Prepared.Ready (Solid n s))
   unfolding roomFrom roomIn
   add-field-solid h =
       let e : roomFrom (n .dimension) m ≡ fine (solid m) = rw (ne-eqb (n .dimension) 2 h, roomFrom) in standing {p = Solid n s} e solid-stands
@@ -121,7 +121,7 @@ module _ (case : List ℕ) (n : Counts) (s : Sizes) (w : List ℕ) (f : List Flo
     unfolding roomFrom
     room-from-flat = rw (eq-eqb (n .dimension) 2 two, roomFrom)
 
-    module _ (r : polygons.Built) (t : Traceable m s w′ f′ r) where
+    module _ (r : polygons.Built) (t : FromDatasetExit m s w′ f′ r) where
       count : length (m .cells) ≡ s .cells
       unfolding meshIn
       count = length-cellsIn s w f
@@ -132,12 +132,12 @@ module _ (case : List ℕ) (n : Counts) (s : Sizes) (w : List ℕ) (f : List Flo
           let g : gridOf (s .cells) (polygonsOf m) ≡ refused k = sym (t .result) ∙ ap builtGrid e in
           rw (count, g, _>>=_)
 
-      pub add-field-refused : (k : ℕ) → r ≡ Traced.Refused k → Preparing (roomFrom (n .dimension) m) case w′ f′ (Prepared.Refused k)
+      pub add-field-refused : (k : ℕ) → r ≡ Traced.Refused k → PrepareExit (roomFrom (n .dimension) m) case w′ f′ (Prepared.Refused k)
       unfolding _>>=_
       add-field-refused k e =
           let g : roomFrom (n .dimension) m ≡ refused k = room-from-flat ∙ rw (field-refused k e, _>>=_) in barred g
 
-      pub add-field-flat : (g : Grid) → r ≡ Traced.Made g → length w′ ≡ length w → length f′ ≡ length f → Preparing (roomFrom (n .dimension) m) case w′ f′ (Prepared.Ready (Flat (record { counts = n; sizes = s; grid = g })))
+      pub add-field-flat : (g : Grid) → r ≡ Traced.Made g → length w′ ≡ length w → length f′ ≡ length f → PrepareExit (roomFrom (n .dimension) m) case w′ f′ (Prepared.Ready (Flat (record { counts = n; sizes = s; grid = g })))
       unfolding _>>=_ roomIn Servable countsIn tracerField
       add-field-flat g e lw lf =
           let whole : roomFrom (n .dimension) m ≡ fine (flat (fieldIn g s w′ f′)) = room-from-flat ∙ rw (t .field g e, _>>=_) in
@@ -154,8 +154,8 @@ module _ (case : List ℕ) (n : Counts) (s : Sizes) (w : List ℕ) (f : List Flo
 -- ---- 8 to 17
 
 module _ (case : List ℕ) (n : Counts) (defs : List Definition) (k : ℕ) (w : List ℕ) (f : List Float) (x : Built)
-    (b : Building (fromCells (n .dimension) (pointsIn case (n .points)) defs) k (pointsIn case (n .points)) w f x) where
-  pub built-refused : (k : ℕ) → x ≡ Built.Refused k → Preparing (roomOf case (record { counts = n; definitions = defs })) case w f (Prepared.Refused k)
+    (b : BuildExit (fromCells (n .dimension) (pointsIn case (n .points)) defs) k (pointsIn case (n .points)) w f x) where
+  pub built-refused : (k : ℕ) → x ≡ Built.Refused k → PrepareExit (roomOf case (record { counts = n; definitions = defs })) case w f (Prepared.Refused k)
   unfolding roomOf meshOf _>>=_
   built-refused k e =
       let g : roomOf case (record { counts = n; definitions = defs }) ≡ refused k = rw (building-refused k b e, _>>=_) in barred g
@@ -165,7 +165,7 @@ module _ (case : List ℕ) (n : Counts) (defs : List Definition) (k : ℕ) (w : 
     unfolding roomOf meshOf _>>=_
     built-room = rw (building-mesh s b e .mesh, _>>=_)
 
-    pub field-ready : opened case ≡ Case n → definitions (n .cells) (wordsOf case n) ≡ fine defs → FieldReady case n s w f
+    pub field-ready : opened case ≡ Case n → definitions (n .cells) (wordsOf case n) ≡ fine defs → AddFieldEntry case n s w f
     unfolding meshIn
     field-ready o r =
         let p = building-mesh s b e in
@@ -179,13 +179,13 @@ module _ (case : List ℕ) (n : Counts) (defs : List Definition) (k : ℕ) (w : 
         }
 
 -- the room of a definition is that of another
-pub prepared-as : {r r′ : Result Room} {case w : List ℕ} {f : List Float} {x : Prepared} → r ≡ r′ → Preparing r case w f x → Preparing r′ case w f x
-prepared-as {case} {w} {f} {x} e p = subst (λ (r : Result Room). Preparing r case w f x) e p
+pub prepared-as : {r r′ : Result Room} {case w : List ℕ} {f : List Float} {x : Prepared} → r ≡ r′ → PrepareExit r case w f x → PrepareExit r′ case w f x
+prepared-as {case} {w} {f} {x} e p = subst (λ (r : Result Room). PrepareExit r case w f x) e p
 
 -- ---- 1 to 7, then the room
 
 module _ (case : List ℕ) (n : Counts) (faces requests : ℕ) (lent : Lent) (s : Surveys case n faces) (k : ℕ) (h : Shortage n faces requests lent k) where
-  abbrev c : Surveyed-case
+  abbrev c : CaseSurvey
   c = record { counts = n; definitions = s .ds }
 
   short : shortage c requests lent ≡ acceptedAs k
@@ -200,7 +200,7 @@ module _ (case : List ℕ) (n : Counts) (faces requests : ℕ) (lent : Lent) (s 
   refused-as zero h = absurd (h refl)
   refused-as (suc k) h = refl
 
-  pub prepare-short : (w : List ℕ) (f : List Float) → (k ≡ 0 → ⊥) → Preparing (prepared case requests lent) case w f (Prepared.Refused k)
+  pub prepare-short : (w : List ℕ) (f : List Float) → (k ≡ 0 → ⊥) → PrepareExit (prepared case requests lent) case w f (Prepared.Refused k)
   unfolding _>>=_
   prepare-short w f z =
       let g : prepared case requests lent ≡ refused k = prepared-then case requests lent c there ∙ rw (short, refused-as k z, _>>=_) in barred g
@@ -214,14 +214,14 @@ module _ (case : List ℕ) (n : Counts) (faces requests : ℕ) (lent : Lent) (s 
     unfolding _>>=_
     prepare-room = sym (prepared-then case requests lent c there ∙ rw (fitting, _>>=_))
 
-    pub prepare-ready : {w : List ℕ} {f : List Float} {x : Prepared} → Preparing (roomOf case c) case w f x → Preparing (prepared case requests lent) case w f x
+    pub prepare-ready : {w : List ℕ} {f : List Float} {x : Prepared} → PrepareExit (roomOf case c) case w f x → PrepareExit (prepared case requests lent) case w f x
     prepare-ready p = prepared-as prepare-room p
 
     long : areaShort c (lent .words) (lent .floats) ≡ false
     unfolding shortage
     long = let b = bound _ _ _ fitting in not-due 4 _ _ (b .had)
 
-    pub buildable : (w : List ℕ) (f : List Float) → lent .words ≡ length w → lent .floats ≡ length f → Buildable case n faces w f
+    pub buildable : (w : List ℕ) (f : List Float) → lent .words ≡ length w → lent .floats ≡ length f → BuildEntry case n faces w f
     buildable w f ew ef =
         let a = area-long n faces (lent .words) (lent .floats) (s .ds) (s .count) long in
         record {

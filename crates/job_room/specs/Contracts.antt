@@ -9,15 +9,15 @@ use Rattle.case_file.specs.declared.Counts.{Counts}
 use Rattle.case_file.specs.declared.Opened.the-variants.{Case}
 use Rattle.case_file.specs.Trailer.{opened}
 use Rattle.mesh_area.specs.Layout.{pointsIn, meshIn, LentWords, LentFloats}
-use Rattle.lines_velocity.specs.Contracts.{tracerField, Ready}
+use Rattle.lines_velocity.specs.Contracts.{tracerField, TracerEntry}
 use Rattle.job_room.specs.Room.{Room, flat, solid, Lent, shortage}
 use Rattle.job_room.specs.declared.Place.{Place}
 use Rattle.job_room.specs.declared.Place.the-variants.{Flat, Solid}
 use Rattle.job_room.specs.declared.Prepared.{Prepared}
 use Rattle.case_definitions.specs.Faces.{Definition, facesCounted}
 use Rattle.mesh_area.specs.declared.Sizes.{Sizes}
-use Rattle.lines_field.specs.Contracts.{Few}
-use Rattle.planes_crossings.specs.Contracts.{Bounded}
+use Rattle.lines_field.specs.Contracts.{VertexLimit}
+use Rattle.planes_crossings.specs.Contracts.{MeshLimits}
 use Rattle.mesh_coordinates.specs.Coordinates.{acceptedAs}
 use Rattle.planes_samples.specs.Contracts as Planes
 use Rattle.job_room.specs.declared.Prepared.the-variants as Prepared
@@ -34,18 +34,18 @@ countsIn (Solid n s) = n
 
 -- what the tracer, or the planes, ask of it
 unfoldable pub Servable : List ℕ → List ℕ → List Float → Place → Type 0
-Servable file words floats (Flat t) = Ready file words floats t
-Servable file words floats (Solid n s) = (marks : List ℕ) → n .cells ≤ length marks → Planes.Ready file n s words marks
+Servable file words floats (Flat t) = TracerEntry file words floats t
+Servable file words floats (Solid n s) = (marks : List ℕ) → n .cells ≤ length marks → Planes.SampleEntry file n s words marks
 
 -- the case is open, and what serves its requests stands in the area
-pub record Stands (file words : List ℕ) (floats : List Float) (p : Place) : Type 0 where
+pub record RoomStands (file words : List ℕ) (floats : List Float) (p : Place) : Type 0 where
   pub opens : opened file ≡ Case (countsIn p)
   pub servable : Servable file words floats p
 
 -- the room stands in the area, or the refusal
-pub data Preparing (r : Result Room) (file words : List ℕ) (floats : List Float) : Prepared → Type 0 where
-  standing : {p : Place} → r ≡ fine (roomIn file words floats p) → Stands file words floats p → Preparing r file words floats (Prepared.Ready p)
-  barred : {k : ℕ} → r ≡ refused k → Preparing r file words floats (Prepared.Refused k)
+pub data PrepareExit (r : Result Room) (file words : List ℕ) (floats : List Float) : Prepared → Type 0 where
+  standing : {p : Place} → r ≡ fine (roomIn file words floats p) → RoomStands file words floats p → PrepareExit r file words floats (Prepared.Ready p)
+  barred : {k : ℕ} → r ≡ refused k → PrepareExit r file words floats (Prepared.Refused k)
 
 -- 5, 6 and 7 were not due
 pub record Fits (cells requests : ℕ) (lent : Lent) : Type 0 where
@@ -59,10 +59,10 @@ unfoldable pub Shortage : Counts → ℕ → ℕ → Lent → ℕ → Type 0
 Shortage n faces requests lent r = (defs : List Definition) → faces ≡ facesCounted defs → shortage (record { counts = n; definitions = defs }) requests lent ≡ acceptedAs r
 
 -- the mesh of a case stands in the area
-pub record FieldReady (case : List ℕ) (n : Counts) (s : Sizes) (words : List ℕ) (floats : List Float) : Type 0 where
+pub record AddFieldEntry (case : List ℕ) (n : Counts) (s : Sizes) (words : List ℕ) (floats : List Float) : Type 0 where
   pub opens : opened case ≡ Case n
   pub lent-words : LentWords s words
   pub lent-floats : LentFloats s floats
   pub cells : s .cells ≡ n .cells
-  pub few : n .dimension ≡ 2 → Few (meshIn (pointsIn case (n .points)) s words floats)
-  pub bounded : Bounded (meshIn (pointsIn case (n .points)) s words floats)
+  pub few : n .dimension ≡ 2 → VertexLimit (meshIn (pointsIn case (n .points)) s words floats)
+  pub bounded : MeshLimits (meshIn (pointsIn case (n .points)) s words floats)

@@ -5,7 +5,7 @@ use mathlib.Core.List.{List}
 use lib.Dec.{ltb, eqb}
 use Rattle.reading.specs.Result.{Result, fine, _>>=_, refuse}
 use Rattle.mesh_area.specs.Tables.{Mesh}
-use Rattle.mesh.specs.Case.{Surveyed-case, surveyOf, areaShort, meshOf}
+use Rattle.mesh.specs.Case.{CaseSurvey, surveyOf, areaShort, meshOf}
 use Rattle.lines_locate.specs.Field.{StreamlineField}
 use Rattle.lines_field.specs.Field.{fieldOf}
 
@@ -27,7 +27,7 @@ roomFrom dimension m =
     elim (eqb dimension 2) as (λ _. Result Room) [ true ↦ fieldOf m >>= λ f. fine (flat f) | false ↦ fine (solid m) ]
 
 -- 8 to 19
-unfoldable pub roomOf : List ℕ → Surveyed-case → Result Room
+unfoldable pub roomOf : List ℕ → CaseSurvey → Result Room
 roomOf file c = meshOf file c >>= λ m. roomFrom (c .counts .dimension) m
 
 -- 6: "request bytes no multiple of 128, or over 4,096 requests"
@@ -35,7 +35,7 @@ unfoldable pub requestsWrong : ℕ → Bool
 requestsWrong bytes = not (eqb (bytes % 128) 0) || ltb 524288 bytes
 
 -- 4 "work area under ..", 5 "marks shorter than C", 6, 7 "answers under 2 words per request"
-unfoldable pub shortage : Surveyed-case → ℕ → Lent → Result (Unit {0})
+unfoldable pub shortage : CaseSurvey → ℕ → Lent → Result (Unit {0})
 shortage c requests lent =
     refuse 4 (areaShort c (lent .words) (lent .floats)) >>= λ _.
     refuse 5 (ltb (lent .marks) (c .counts .cells)) >>= λ _.

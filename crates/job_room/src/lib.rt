@@ -13,9 +13,9 @@ ghost use Rattle.case_definitions.specs.Faces.{Definition};
 ghost use Rattle.case_definitions.specs.Definitions.{definitions};
 ghost use Rattle.case_file.specs.Trailer.{wordsOf};
 ghost use Rattle.mesh_area.specs.Layout.{pointsIn, meshIn};
-ghost use Rattle.mesh.specs.Contracts.{Buildable};
+ghost use Rattle.mesh.specs.Contracts.{BuildEntry};
 ghost use Rattle.job_room.specs.Room as Room;
-ghost use Rattle.job_room.specs.Contracts.{Preparing, Shortage, FieldReady};
+ghost use Rattle.job_room.specs.Contracts.{PrepareExit, Shortage, AddFieldEntry};
 
 // Where a room stands in the work area.
 pub enum Place {
@@ -31,8 +31,8 @@ pub enum Prepared {
 
 // The field of a 2D mesh; a 3D one needs none.
 fn add_field(case: &[u8], n: Counts, s: Sizes, words: &mut [u32], floats: &mut [f64]) -> Prepared
-    requires { ⌜ FieldReady (now case) n s (now words) (now floats) ⌝ }
-    ensures { λ r. ⌜ Preparing (Room.roomFrom (n .dimension)
+    requires { ⌜ AddFieldEntry (now case) n s (now words) (now floats) ⌝ }
+    ensures { λ r. ⌜ PrepareExit (Room.roomFrom (n .dimension)
         (meshIn (pointsIn (now (case .entry)) (n .points)) s (now (words .entry)) (now (floats .entry))))
         (now (case .entry)) (now (words .exit)) (now (floats .exit)) r ⌝ }
 {
@@ -60,9 +60,9 @@ fn build_room(
     words: &mut [u32],
     floats: &mut [f64],
 ) -> Prepared
-    requires { ⌜ Buildable (now case) n faces (now words) (now floats) ⌝ }
+    requires { ⌜ BuildEntry (now case) n faces (now words) (now floats) ⌝ }
     ensures { λ r. ⌜ ((defs : List Definition) → definitions (n .cells) (wordsOf (now (case .entry)) n) ≡ fine defs
-        → Preparing (Room.roomOf (now (case .entry)) (record { counts = n; definitions = defs })) (now (case .entry))
+        → PrepareExit (Room.roomOf (now (case .entry)) (record { counts = n; definitions = defs })) (now (case .entry))
         (now (words .exit)) (now (floats .exit)) r) ⌝ }
 {
     match mesh::build(case, n, faces, words, floats) {
@@ -119,7 +119,7 @@ pub fn prepare(
     requests: usize,
     answers: usize,
 ) -> Prepared
-    ensures { λ r. ⌜ Preparing (Room.prepared (now (case .entry)) requests
+    ensures { λ r. ⌜ PrepareExit (Room.prepared (now (case .entry)) requests
         (record {
           words = length (now (words .entry));
           floats = length (now (floats .entry));

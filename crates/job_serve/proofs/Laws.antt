@@ -28,7 +28,7 @@ use Rattle.lines_velocity.specs.declared.Vector.{Vector}
 use Rattle.lines_velocity.specs.declared.Vector.the-variants.{Here, Nowhere}
 use Rattle.lines_velocity.specs.declared.Tracer.{Tracer}
 use Rattle.lines_velocity.specs.Velocity.{locateIn, velocityAt}
-use Rattle.lines_velocity.specs.Contracts.{tracerField, Ready}
+use Rattle.lines_velocity.specs.Contracts.{tracerField, TracerEntry}
 use Rattle.lines.specs.declared.Rake as declared
 use Rattle.lines.specs.declared.StreamlineSettings.{StreamlineSettings}
 use Rattle.lines.specs.Line.{integrate}
@@ -37,7 +37,7 @@ use Rattle.planes.specs.Answers.{sectionOf, statisticsOf, integralsOf, probeOf}
 use Rattle.answers.specs.Words.{vecWords}
 use Rattle.answers.specs.declared.Answered.{Answered}
 use Rattle.answers.specs.declared.Answered.the-variants as Answered
-use Rattle.answers.specs.Contracts.{answerOf, lengthOf, decided, replied, Replied}
+use Rattle.answers.specs.Contracts.{answerOf, lengthOf, decided, replied, Reply}
 use Rattle.planes_sums.specs.Words.{sampleWords}
 use Rattle.planes_samples.specs.Contracts as Planes
 use Rattle.planes_samples.specs.Sampling.{taken}
@@ -48,7 +48,7 @@ use Rattle.job_requests.specs.Bounds.{Allowed}
 use Rattle.job_room.specs.Room.{Room, flat, solid}
 use Rattle.job_room.specs.declared.Place.{Place}
 use Rattle.job_room.specs.declared.Place.the-variants.{Flat, Solid}
-use Rattle.job_room.specs.Contracts.{roomIn, countsIn, Servable, Stands}
+use Rattle.job_room.specs.Contracts.{roomIn, countsIn, Servable, RoomStands}
 use Rattle.job_requests.proofs.Request.{the-type}
 use types.Run.{OneOf}
 use denote.Enum.Declared.{tagOf}
@@ -58,11 +58,11 @@ use Rattle.job_serve.specs.Contracts.{leftUnder}
 -- ---- an answer, or a refusal, that is decided before any value is read
 
 module _ {f : ℕ → Values} {o m : List ℕ} where
-  pub replied-no : (n : ℕ) → Replied (give (refused n)) f o (Answered.Refused n) o o m m
+  pub replied-no : (n : ℕ) → Reply (give (refused n)) f o (Answered.Refused n) o o m m
   unfolding answerOf lengthOf replied
   replied-no n = record { result = refl; answers = refl; marks = refl }
 
-  pub replied-yes : {left o′ : List ℕ} (ws : List ℕ) (n : ℕ) → length ws ≡ n → o′ ≡ sets o 0 ws → Replied (give (fine ws)) f left (Answered.Words n) o o′ m m
+  pub replied-yes : {left o′ : List ℕ} (ws : List ℕ) (n : ℕ) → length ws ≡ n → o′ ≡ sets o 0 ws → Reply (give (fine ws)) f left (Answered.Words n) o o′ m m
   unfolding answerOf lengthOf replied
   replied-yes ws n e h = record { result = rw e; answers = h; marks = refl }
 
@@ -80,12 +80,12 @@ velocity-four Nowhere = refl
 
 module _ {v : ℕ → Values} {o o′ m : List ℕ} where
   pub locate-reply : (F : StreamlineField) (p : Vec3) (r : Found) → r ≡ locateIn F p → o′ ≡ sets o 0 (foundWords r)
-      → Replied (serveFlat F (Locate p)) v o (Answered.Words 1) o o′ m m
+      → Reply (serveFlat F (Locate p)) v o (Answered.Words 1) o o′ m m
   unfolding serveFlat
   locate-reply F p r e h = rw (sym e) (replied-yes (foundWords r) 1 (found-one r) h)
 
   pub velocity-reply : (F : StreamlineField) {m′ : List ℕ} (p : Vec3) (r : Vector) → Served (velocityAt F p) v m m′ r → o′ ≡ sets o 0 (velocityWords r)
-      → Replied (serveFlat F (Velocity p)) v o (Answered.Words 4) o o′ m m′
+      → Reply (serveFlat F (Velocity p)) v o (Answered.Words 4) o o′ m m′
   unfolding serveFlat answerOf lengthOf replied
   velocity-reply F p r t h =
       let tail : Vector → Asks (Result (List ℕ)) = λ u. give (fine (velocityWords u)) in
@@ -123,11 +123,11 @@ high x (inr (inr (inl e))) = omega arith
 high x (inr (inr (inr e))) = omega arith
 
 module _ (F : StreamlineField) {v : ℕ → Values} {o m : List ℕ} where
-  pub flat-refused : (q : Request) (n : ℕ) → q ≡ Refused n → Replied (serveFlat F q) v o (Answered.Refused n) o o m m
+  pub flat-refused : (q : Request) (n : ℕ) → q ≡ Refused n → Reply (serveFlat F q) v o (Answered.Refused n) o o m m
   unfolding serveFlat
   flat-refused q n e = rw e (replied-no n)
 
-  pub flat-other : (q : Request) → OneOf (5 ∷ 6 ∷ 7 ∷ 8 ∷ []) (tag q) → Replied (serveFlat F q) v o (Answered.Refused 31) o o m m
+  pub flat-other : (q : Request) → OneOf (5 ∷ 6 ∷ 7 ∷ 8 ∷ []) (tag q) → Reply (serveFlat F q) v o (Answered.Refused 31) o o m m
   unfolding serveFlat
   flat-other (Refused n) h = absurd (let k = high 0 h in omega arith)
   flat-other (Locate p) h = absurd (let k = high 1 h in omega arith)
@@ -139,24 +139,24 @@ module _ (F : StreamlineField) {v : ℕ → Values} {o m : List ℕ} where
   flat-other (Integrals s) h = replied-no 31
   flat-other (Probe s p) h = replied-no 31
 
-  pub flat-code : {r : Answered} {o′ m′ : List ℕ} (q k : Request) → q ≡ k → Replied (serveFlat F k) v o r o o′ m m′ → Replied (serveFlat F q) v o r o o′ m m′
+  pub flat-code : {r : Answered} {o′ m′ : List ℕ} (q k : Request) → q ≡ k → Reply (serveFlat F k) v o r o o′ m m′ → Reply (serveFlat F q) v o r o o′ m m′
   flat-code q k e h = rw e h
 
   module _ {r : Answered} {o′ m′ : List ℕ} (q : Request) (s : StreamlineSettings) where
-    pub flat-streamline : (p : Vec3) → q ≡ Streamline p s → Replied (decided (integrate F p s)) v o r o o′ m m′ → Replied (serveFlat F q) v o r o o′ m m′
+    pub flat-streamline : (p : Vec3) → q ≡ Streamline p s → Reply (decided (integrate F p s)) v o r o o′ m m′ → Reply (serveFlat F q) v o r o o′ m m′
     unfolding serveFlat
     flat-streamline p e h = rw e h
 
-    pub flat-rake : (k : declared.Rake) → q ≡ Rake k s → Replied (decided (integrateRake F k s)) v o r o o′ m m′ → Replied (serveFlat F q) v o r o o′ m m′
+    pub flat-rake : (k : declared.Rake) → q ≡ Rake k s → Reply (decided (integrateRake F k s)) v o r o o′ m m′ → Reply (serveFlat F q) v o r o o′ m m′
     unfolding serveFlat
     flat-rake k e h = rw e h
 
 module _ (M : Mesh) (v : ℕ → Values) (o : List ℕ) {m : List ℕ} where
-  pub solid-refused : (q : Request) (n : ℕ) → q ≡ Refused n → Replied (serveSolid M q) v (leftUnder (solid M) q v o) (Answered.Refused n) o o m m
+  pub solid-refused : (q : Request) (n : ℕ) → q ≡ Refused n → Reply (serveSolid M q) v (leftUnder (solid M) q v o) (Answered.Refused n) o o m m
   unfolding serveSolid leftUnder
   solid-refused q n e = rw e (replied-no n)
 
-  pub solid-other : (q : Request) → OneOf (1 ∷ 2 ∷ 3 ∷ 4 ∷ []) (tag q) → Replied (serveSolid M q) v (leftUnder (solid M) q v o) (Answered.Refused 31) o o m m
+  pub solid-other : (q : Request) → OneOf (1 ∷ 2 ∷ 3 ∷ 4 ∷ []) (tag q) → Reply (serveSolid M q) v (leftUnder (solid M) q v o) (Answered.Refused 31) o o m m
   unfolding serveSolid leftUnder
   solid-other (Refused n) h = absurd (let k = low 0 h in omega arith)
   solid-other (Locate p) h = replied-no 31
@@ -169,42 +169,42 @@ module _ (M : Mesh) (v : ℕ → Values) (o : List ℕ) {m : List ℕ} where
   solid-other (Probe s p) h = absurd (let k = low 8 h in omega arith)
 
   module _ {r : Answered} {o′ m′ : List ℕ} (q : Request) (s : Plane) where
-    pub solid-section : q ≡ Section s → Replied (sectionOf M s) v (leftBy v (intersect M s) o) r o o′ m m′ → Replied (serveSolid M q) v (leftUnder (solid M) q v o) r o o′ m m′
+    pub solid-section : q ≡ Section s → Reply (sectionOf M s) v (leftBy v (intersect M s) o) r o o′ m m′ → Reply (serveSolid M q) v (leftUnder (solid M) q v o) r o o′ m m′
     unfolding serveSolid leftUnder
     solid-section e h = rw e h
 
-    pub solid-statistics : (field : ℕ) → q ≡ Statistics s field → Replied (statisticsOf M s field) v o r o o′ m m′ → Replied (serveSolid M q) v (leftUnder (solid M) q v o) r o o′ m m′
+    pub solid-statistics : (field : ℕ) → q ≡ Statistics s field → Reply (statisticsOf M s field) v o r o o′ m m′ → Reply (serveSolid M q) v (leftUnder (solid M) q v o) r o o′ m m′
     unfolding serveSolid leftUnder
     solid-statistics field e h = rw e h
 
-    pub solid-integrals : q ≡ Integrals s → Replied (integralsOf M s) v o r o o′ m m′ → Replied (serveSolid M q) v (leftUnder (solid M) q v o) r o o′ m m′
+    pub solid-integrals : q ≡ Integrals s → Reply (integralsOf M s) v o r o o′ m m′ → Reply (serveSolid M q) v (leftUnder (solid M) q v o) r o o′ m m′
     unfolding serveSolid leftUnder
     solid-integrals e h = rw e h
 
-    pub solid-probe : (p : Vec3) → q ≡ Probe s p → Replied (probeOf M s p) v o r o o′ m m′ → Replied (serveSolid M q) v (leftUnder (solid M) q v o) r o o′ m m′
+    pub solid-probe : (p : Vec3) → q ≡ Probe s p → Reply (probeOf M s p) v o r o o′ m m′ → Reply (serveSolid M q) v (leftUnder (solid M) q v o) r o o′ m m′
     unfolding serveSolid leftUnder
     solid-probe p e h = rw e h
 
 -- ---- which room it is
 
 module _ (file words : List ℕ) (floats : List Float) (p : Place) where
-  pub stands-flat : (t : Tracer) → p ≡ Flat t → Stands file words floats p → Ready file words floats t
+  pub stands-flat : (t : Tracer) → p ≡ Flat t → RoomStands file words floats p → TracerEntry file words floats t
   unfolding Servable
   stands-flat t e h = rw e at (h .servable)
 
-  pub stands-solid : (n : Counts) (s : Sizes) (marks : List ℕ) → p ≡ Solid n s → Stands file words floats p → countsIn p .cells ≤ length marks → Planes.Ready file n s words marks
+  pub stands-solid : (n : Counts) (s : Sizes) (marks : List ℕ) → p ≡ Solid n s → RoomStands file words floats p → countsIn p .cells ≤ length marks → Planes.SampleEntry file n s words marks
   unfolding Servable countsIn
   stands-solid n s marks e h b = (rw e at (h .servable)) marks (rw e at b)
 
   module _ (v : ℕ → Values) {r : Answered} (o : List ℕ) {o′ m m′ : List ℕ} (q : Request) where
-    pub in-flat : (t : Tracer) → p ≡ Flat t → Replied (serveFlat (tracerField t words floats) q) v o r o o′ m m′
-        → Replied (serve (roomIn file words floats p) q) v (leftUnder (roomIn file words floats p) q v o) r o o′ m m′
+    pub in-flat : (t : Tracer) → p ≡ Flat t → Reply (serveFlat (tracerField t words floats) q) v o r o o′ m m′
+        → Reply (serve (roomIn file words floats p) q) v (leftUnder (roomIn file words floats p) q v o) r o o′ m m′
     unfolding serve roomIn leftUnder
     in-flat t e h = rw e h
 
     pub in-solid : (n : Counts) (s : Sizes) → p ≡ Solid n s
-        → Replied (serveSolid (meshIn (pointsIn file (n .points)) s words floats) q) v (leftUnder (solid (meshIn (pointsIn file (n .points)) s words floats)) q v o) r o o′ m m′
-        → Replied (serve (roomIn file words floats p) q) v (leftUnder (roomIn file words floats p) q v o) r o o′ m m′
+        → Reply (serveSolid (meshIn (pointsIn file (n .points)) s words floats) q) v (leftUnder (solid (meshIn (pointsIn file (n .points)) s words floats)) q v o) r o o′ m m′
+        → Reply (serve (roomIn file words floats p) q) v (leftUnder (roomIn file words floats p) q v o) r o o′ m m′
     unfolding serve roomIn
     in-solid n s e h = rw e h
 

@@ -19,15 +19,15 @@ ghost use lib.ListN.{length};
 ghost use lib.Seq.{sets};
 ghost use lib.Ieee.{Float};
 ghost use Rattle.reading.specs.declared.Values.{Values};
-ghost use Rattle.answers.specs.Contracts.{Replied};
+ghost use Rattle.answers.specs.Contracts.{Reply};
 ghost use Rattle.mesh_area.specs.Layout.{pointsIn, meshIn};
 ghost use Rattle.case_file.specs.Field.{valuesOf};
-ghost use Rattle.lines_velocity.specs.Contracts.{tracerField, Locatable, Ready};
+ghost use Rattle.lines_velocity.specs.Contracts.{tracerField, LocateEntry, TracerEntry};
 ghost use Rattle.planes_samples.specs.Contracts as Planes;
 ghost use Rattle.job_requests.specs.declared.Request.the-variants as Code;
 ghost use Rattle.job_requests.specs.Bounds.{Allowed};
 ghost use Rattle.job_room.specs.Room.{solid};
-ghost use Rattle.job_room.specs.Contracts.{roomIn, countsIn, Stands};
+ghost use Rattle.job_room.specs.Contracts.{roomIn, countsIn, RoomStands};
 ghost use Rattle.job_serve.specs.Serve as Serve;
 ghost use Rattle.job_serve.specs.Contracts.{leftUnder};
 
@@ -59,8 +59,8 @@ fn put_velocity(r: Vector, out: &mut [u64])
 
 // Code 1.
 fn serve_locate(words: &[u32], floats: &[f64], t: Tracer, out: &mut [u64], p: Vec3) -> Answered
-    requires { ⌜ Locatable (now words) (now floats) t ⌝ }
-    ensures { λ r. ⌜ ((f : ℕ → Values) (m : List ℕ) → Replied
+    requires { ⌜ LocateEntry (now words) (now floats) t ⌝ }
+    ensures { λ r. ⌜ ((f : ℕ → Values) (m : List ℕ) → Reply
         (Serve.serveFlat (tracerField t (now (words .entry)) (now (floats .entry))) (Code.Locate p)) f
         (now (out .entry)) r (now (out .entry)) (now (out .exit)) m m) ⌝ }
 {
@@ -78,8 +78,8 @@ fn serve_velocity(
     out: &mut [u64],
     p: Vec3,
 ) -> Answered
-    requires { ⌜ Ready (now case) (now words) (now floats) t ⌝ }
-    ensures { λ r. ⌜ Replied (Serve.serveFlat (tracerField t (now (words .entry)) (now (floats .entry)))
+    requires { ⌜ TracerEntry (now case) (now words) (now floats) t ⌝ }
+    ensures { λ r. ⌜ Reply (Serve.serveFlat (tracerField t (now (words .entry)) (now (floats .entry)))
         (Code.Velocity p)) (valuesOf (now (case .entry))) (now (out .entry)) r (now (out .entry)) (now (out .exit))
         (now (marks .entry)) (now (marks .exit)) ⌝ }
 {
@@ -98,9 +98,9 @@ fn serve_flat(
     out: &mut [u64],
     q: Request,
 ) -> Answered
-    requires { ⌜ Ready (now case) (now words) (now floats) t ⌝ }
+    requires { ⌜ TracerEntry (now case) (now words) (now floats) t ⌝ }
     requires { ⌜ Allowed q ⌝ }
-    ensures { λ r. ⌜ Replied (Serve.serveFlat (tracerField t (now (words .entry)) (now (floats .entry))) q)
+    ensures { λ r. ⌜ Reply (Serve.serveFlat (tracerField t (now (words .entry)) (now (floats .entry))) q)
         (valuesOf (now (case .entry))) (now (out .entry)) r (now (out .entry)) (now (out .exit)) (now (marks .entry))
         (now (marks .exit)) ⌝ }
 {
@@ -128,8 +128,8 @@ fn serve_solid(
     out: &mut [u64],
     q: Request,
 ) -> Answered
-    requires { ⌜ Planes.Ready (now case) n s (now words) (now marks) ⌝ }
-    ensures { λ r. ⌜ ((floats : List Float) → Replied
+    requires { ⌜ Planes.SampleEntry (now case) n s (now words) (now marks) ⌝ }
+    ensures { λ r. ⌜ ((floats : List Float) → Reply
         (Serve.serveSolid (meshIn (pointsIn (now (case .entry)) (n .points)) s (now (words .entry)) floats) q)
         (valuesOf (now (case .entry))) (leftUnder (solid (meshIn (pointsIn (now (case .entry)) (n .points)) s
         (now (words .entry)) floats)) q (valuesOf (now (case .entry))) (now (out .entry))) r (now (out .entry))
@@ -157,9 +157,9 @@ pub fn serve(
     out: &mut [u64],
     q: Request,
 ) -> Answered
-    requires { ⌜ Stands (now case) (now words) (now floats) place × (countsIn place .cells ≤ length (now marks))
+    requires { ⌜ RoomStands (now case) (now words) (now floats) place × (countsIn place .cells ≤ length (now marks))
         × Allowed q ⌝ }
-    ensures { λ r. ⌜ Replied (Serve.serve (roomIn (now (case .entry)) (now (words .entry)) (now (floats .entry)) place)
+    ensures { λ r. ⌜ Reply (Serve.serve (roomIn (now (case .entry)) (now (words .entry)) (now (floats .entry)) place)
         q) (valuesOf (now (case .entry))) (leftUnder (roomIn (now (case .entry)) (now (words .entry))
         (now (floats .entry)) place) q (valuesOf (now (case .entry))) (now (out .entry))) r (now (out .entry))
         (now (out .exit)) (now (marks .entry)) (now (marks .exit)) ⌝ }

@@ -8,7 +8,7 @@ ghost use mathlib.Core.Path.{_≡_};
 ghost use lib.ListN.{length};
 ghost use Rattle.job_requests.specs.Encode.{bytesOf};
 ghost use Rattle.job_promise.specs.Job.{numberOf, outcomeOf};
-ghost use Rattle.job_promise.specs.Promise.{Promised};
+ghost use Rattle.job_promise.specs.Promise.{JobPromise};
 ghost use Rattle.job_encoding.specs.Single.{locateWords, velocityWords, streamlineWords, rakeWords, sectionWords, statisticsWords, integralsWords, probeWords};
 
 // The cell at a point.
@@ -20,7 +20,7 @@ pub fn locate(
     marks: &mut [u8],
     answers: &mut [u64],
 ) -> Outcome
-    ensures { λ r. ⌜ Promised (now (case .entry)) (bytesOf (locateWords p))
+    ensures { λ r. ⌜ JobPromise (now (case .entry)) (bytesOf (locateWords p))
         (length (now (words .entry))) (length (now (floats .entry))) (now (answers .entry)) (now (marks .entry))
         (record { result = numberOf r; answers = now (answers .exit); marks = now (marks .exit) }) ⌝ }
     ensures { λ r. ⌜ r ≡ outcomeOf (numberOf r) ⌝ }
@@ -38,7 +38,7 @@ pub fn velocity(
     marks: &mut [u8],
     answers: &mut [u64],
 ) -> Outcome
-    ensures { λ r. ⌜ Promised (now (case .entry)) (bytesOf (velocityWords p))
+    ensures { λ r. ⌜ JobPromise (now (case .entry)) (bytesOf (velocityWords p))
         (length (now (words .entry))) (length (now (floats .entry))) (now (answers .entry)) (now (marks .entry))
         (record { result = numberOf r; answers = now (answers .exit); marks = now (marks .exit) }) ⌝ }
     ensures { λ r. ⌜ r ≡ outcomeOf (numberOf r) ⌝ }
@@ -57,7 +57,7 @@ pub fn streamline(
     marks: &mut [u8],
     answers: &mut [u64],
 ) -> Outcome
-    ensures { λ r. ⌜ Promised (now (case .entry)) (bytesOf (streamlineWords seed settings))
+    ensures { λ r. ⌜ JobPromise (now (case .entry)) (bytesOf (streamlineWords seed settings))
         (length (now (words .entry))) (length (now (floats .entry))) (now (answers .entry)) (now (marks .entry))
         (record { result = numberOf r; answers = now (answers .exit); marks = now (marks .exit) }) ⌝ }
     ensures { λ r. ⌜ r ≡ outcomeOf (numberOf r) ⌝ }
@@ -76,7 +76,7 @@ pub fn rake(
     marks: &mut [u8],
     answers: &mut [u64],
 ) -> Outcome
-    ensures { λ r. ⌜ Promised (now (case .entry)) (bytesOf (rakeWords seeds settings))
+    ensures { λ r. ⌜ JobPromise (now (case .entry)) (bytesOf (rakeWords seeds settings))
         (length (now (words .entry))) (length (now (floats .entry))) (now (answers .entry)) (now (marks .entry))
         (record { result = numberOf r; answers = now (answers .exit); marks = now (marks .exit) }) ⌝ }
     ensures { λ r. ⌜ r ≡ outcomeOf (numberOf r) ⌝ }
@@ -94,7 +94,7 @@ pub fn section(
     marks: &mut [u8],
     answers: &mut [u64],
 ) -> Outcome
-    ensures { λ r. ⌜ Promised (now (case .entry)) (bytesOf (sectionWords plane))
+    ensures { λ r. ⌜ JobPromise (now (case .entry)) (bytesOf (sectionWords plane))
         (length (now (words .entry))) (length (now (floats .entry))) (now (answers .entry)) (now (marks .entry))
         (record { result = numberOf r; answers = now (answers .exit); marks = now (marks .exit) }) ⌝ }
     ensures { λ r. ⌜ r ≡ outcomeOf (numberOf r) ⌝ }
@@ -113,7 +113,7 @@ pub fn statistics(
     marks: &mut [u8],
     answers: &mut [u64],
 ) -> Outcome
-    ensures { λ r. ⌜ Promised (now (case .entry)) (bytesOf (statisticsWords plane field))
+    ensures { λ r. ⌜ JobPromise (now (case .entry)) (bytesOf (statisticsWords plane field))
         (length (now (words .entry))) (length (now (floats .entry))) (now (answers .entry)) (now (marks .entry))
         (record { result = numberOf r; answers = now (answers .exit); marks = now (marks .exit) }) ⌝ }
     ensures { λ r. ⌜ r ≡ outcomeOf (numberOf r) ⌝ }
@@ -131,7 +131,7 @@ pub fn integrals(
     marks: &mut [u8],
     answers: &mut [u64],
 ) -> Outcome
-    ensures { λ r. ⌜ Promised (now (case .entry)) (bytesOf (integralsWords plane))
+    ensures { λ r. ⌜ JobPromise (now (case .entry)) (bytesOf (integralsWords plane))
         (length (now (words .entry))) (length (now (floats .entry))) (now (answers .entry)) (now (marks .entry))
         (record { result = numberOf r; answers = now (answers .exit); marks = now (marks .exit) }) ⌝ }
     ensures { λ r. ⌜ r ≡ outcomeOf (numberOf r) ⌝ }
@@ -150,7 +150,7 @@ pub fn probe(
     marks: &mut [u8],
     answers: &mut [u64],
 ) -> Outcome
-    ensures { λ r. ⌜ Promised (now (case .entry)) (bytesOf (probeWords plane p))
+    ensures { λ r. ⌜ JobPromise (now (case .entry)) (bytesOf (probeWords plane p))
         (length (now (words .entry))) (length (now (floats .entry))) (now (answers .entry)) (now (marks .entry))
         (record { result = numberOf r; answers = now (answers .exit); marks = now (marks .exit) }) ⌝ }
     ensures { λ r. ⌜ r ≡ outcomeOf (numberOf r) ⌝ }

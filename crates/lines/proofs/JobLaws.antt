@@ -24,12 +24,12 @@ use Rattle.reading.specs.Result.{Result, fine, refused, refuse}
 use Rattle.lines_locate.specs.Field.{StreamlineField}
 use Rattle.lines_velocity.specs.Velocity.{locateIn}
 use Rattle.answers.specs.declared.Answered.the-variants.{Words, Refused}
-use Rattle.answers.specs.Contracts.{answerOf, lengthOf, decided, replied, Replied}
+use Rattle.answers.specs.Contracts.{answerOf, lengthOf, decided, replied, Reply}
 use Rattle.lines.specs.declared.StreamlineSettings.{StreamlineSettings}
 use Rattle.lines.specs.declared.Rake.{Rake}
 use Rattle.lines.specs.Line.{isNowhere, nowhere, lineAnswer}
 use Rattle.lines.specs.Rake.{seedAt, seeds, linesWords}
-use Rattle.lines.specs.Contracts.{Written}
+use Rattle.lines.specs.Contracts.{TraceExit}
 use Rattle.answers.proofs.WordLaws.{sets-append, sets-set}
 use Rattle.lines.proofs.LineLaws.{give-then}
 
@@ -47,11 +47,11 @@ module _ (F : StreamlineField) (p : Vec3) (r : Found) (e : r ≡ locateIn F p) w
 -- ---- the answer of a job
 
 module _ {j : Result (Asks (List ℕ))} {f : ℕ → Values} {m o : List ℕ} where
-  pub answered-refused : (k : ℕ) → j ≡ refused k → Replied (decided j) f o (Refused k) o o m m
+  pub answered-refused : (k : ℕ) → j ≡ refused k → Reply (decided j) f o (Refused k) o o m m
   unfolding answerOf lengthOf decided replied
   answered-refused k e = rw e (record { result = refl; answers = refl; marks = refl })
 
-  pub answered-fine : {m′ o′ : List ℕ} {r : ℕ} (t : Asks (List ℕ)) → j ≡ fine t → Written t f m m′ o o′ 0 r → Replied (decided j) f o (Words r) o o′ m m′
+  pub answered-fine : {m′ o′ : List ℕ} {r : ℕ} (t : Asks (List ℕ)) → j ≡ fine t → TraceExit t f m m′ o o′ 0 r → Reply (decided j) f o (Words r) o o′ m m′
   unfolding answerOf lengthOf decided replied
   answered-fine t e w =
       let answer : run (t >>= λ ws. give (fine ws)) f ≡ fine (run t f) = run-bind t (λ ws. give (fine ws)) f in
@@ -134,7 +134,7 @@ module _ (F : StreamlineField) (s : StreamlineSettings) where
 
   module _ {w : Asks (List ℕ)} {f : ℕ → Values} {m₀ m : List ℕ} (k : Rake) (done : List ℕ) (i : ℕ)
       (g : Going w f m₀ (left done (drop i (seeds k))) m) where
-    pub lines-turned : {m′ b b′ : List ℕ} {at r : ℕ} (p : Vec3) → i < k .count → p ≡ seedAt k i → Written (lineAnswer F s p) f m m′ b b′ at r
+    pub lines-turned : {m′ b b′ : List ℕ} {at r : ℕ} (p : Vec3) → i < k .count → p ≡ seedAt k i → TraceExit (lineAnswer F s p) f m m′ b b′ at r
         → Going w f m₀ (left (done ++ run (lineAnswer F s p) f) (drop (i + 1) (seeds k))) m′
     lines-turned p h e t =
         going-part (λ l. left (done ++ l) (drop (i + 1) (seeds k)))
@@ -145,22 +145,22 @@ module _ (F : StreamlineField) (s : StreamlineSettings) where
     lines-ended h = going-end (rw append-nil at (rw (seeds-end k i h) at g))
 
 pub lines-written : {w : Asks (List ℕ)} {f : ℕ → Values} {m₀ m o o′ : List ℕ} {at n : ℕ} {done : List ℕ} →
-    Served w f m₀ m done → o′ ≡ sets o at done → n ≡ length done → Written w f m₀ m o o′ at n
+    Served w f m₀ m done → o′ ≡ sets o at done → n ≡ length done → TraceExit w f m₀ m o o′ at n
 lines-written {o} {at} s wr e = record { marks = s .marks; words = wr ∙ ap (λ l. sets o at l) (s .answer); count = e ∙ ap length (s .answer) }
 
 -- the words of one more line
-abbrev pub written-words : {t : Asks (List ℕ)} {f : ℕ → Values} {m m′ o o′ : List ℕ} {at r : ℕ} → Written t f m m′ o o′ at r → List ℕ
+abbrev pub written-words : {t : Asks (List ℕ)} {f : ℕ → Values} {m m′ o o′ : List ℕ} {at r : ℕ} → TraceExit t f m m′ o o′ at r → List ℕ
 written-words {t} {f} w = run t f
 
 pub words-more : {t : Asks (List ℕ)} {f : ℕ → Values} {m m′ : List ℕ} (o o′ o″ done : List ℕ) (n r : ℕ) → n ≡ length done → o′ ≡ sets o 1 done
-    → Written t f m m′ o′ o″ (n + 1) r → o″ ≡ sets o 1 (done ++ run t f)
+    → TraceExit t f m m′ o′ o″ (n + 1) r → o″ ≡ sets o 1 (done ++ run t f)
 words-more {t} {f} o o′ o″ done n r e h w =
     let at : n + 1 ≡ 1 + length done = omega arith in
     w .words ∙ rw (h, at) (sym (sets-append o 1 done (run t f)))
 
 -- the count before them
-pub rake-written : (t : Asks (List ℕ)) {f : ℕ → Values} {m m′ : List ℕ} (o o′ o″ : List ℕ) (count r : ℕ) → Written t f m m′ o o′ 1 r → o″ ≡ set o′ 0 count
-    → Written (t >>= λ ws. give (count ∷ ws)) f m m′ o o″ 0 (r + 1)
+pub rake-written : (t : Asks (List ℕ)) {f : ℕ → Values} {m m′ : List ℕ} (o o′ o″ : List ℕ) (count r : ℕ) → TraceExit t f m m′ o o′ 1 r → o″ ≡ set o′ 0 count
+    → TraceExit (t >>= λ ws. give (count ∷ ws)) f m m′ o o″ 0 (r + 1)
 rake-written t {f} {m} o o′ o″ count r w e =
     let answer : run (t >>= λ ws. give (count ∷ ws)) f ≡ count ∷ run t f = run-bind t (λ ws. give (count ∷ ws)) f in
     let asked : reads (t >>= λ ws. give (count ∷ ws)) f ≡ reads t f = reads-bind t (λ ws. give (count ∷ ws)) f ∙ append-nil _ in

@@ -25,7 +25,7 @@ use Rattle.lines_step.specs.declared.StreamlineOptions.{StreamlineOptions}
 use Rattle.lines_step.specs.Step.{step}
 use Rattle.lines.specs.declared.StreamlineSettings.{StreamlineSettings}
 use Rattle.lines.specs.Line.{sign, signedStep, onward, lineFrom, pointsAfter, line, lineWords, lineAnswer}
-use Rattle.lines.specs.Contracts.{Drawn, Written}
+use Rattle.lines.specs.Contracts.{PointsAfterExit, TraceExit}
 
 pub give-then : {A B : Type 0} (a : A) (k : A → Asks B) → (give a >>= k) ≡ k a
 unfolding _>>=_
@@ -87,7 +87,7 @@ ended done g = going-end (rw append-nil at g)
 -- what a drawing promises, from what was served; x is the sign
 pub drawn : (F : StreamlineField) (s : StreamlineSettings) (seed : Vec3) {x : Float} {f : ℕ → Values} {m₀ m o o′ : List ℕ} {at n : ℕ} {done : List Vec3} → x ≡ sign (s .direction)
     → Served (lineFrom F (s .options) (s .options .«step_size» ⊗ x) (s .options .«max_steps») seed 0·0) f m₀ m done → o′ ≡ sets o at (pointWords done) → n ≡ length done
-    → Drawn (pointsAfter F s seed) f m₀ m o o′ at n
+    → PointsAfterExit (pointsAfter F s seed) f m₀ m o o′ at n
 unfolding pointsAfter signedStep
 drawn F s seed {o} {at} ex t wr e =
     let u = rw ex at t in record { marks = u .marks; words = wr ∙ ap (λ l. sets o at (pointWords l)) (u .answer); count = e ∙ ap length (u .answer) }
@@ -105,7 +105,7 @@ front b at c p l =
     rw (sets-set (vecWords p) b at (suc at) c (omega arith), sets-append (set b at c) (suc at) (vecWords p) (pointWords l), length-vec p)
 
 pub traced : (F : StreamlineField) (s : StreamlineSettings) (f : ℕ → Values) (m m′ b b₁ b₂ b₃ : List ℕ) (at count : ℕ) (seed : Vec3) → b₁ ≡ sets b (at + 1) (vecWords seed)
-    → Drawn (pointsAfter F s seed) f m m′ b₁ b₂ (at + 4) count → b₃ ≡ set b₂ at (count + 1) → Written (lineAnswer F s seed) f m m′ b b₃ at (3 * count + 4)
+    → PointsAfterExit (pointsAfter F s seed) f m m′ b₁ b₂ (at + 4) count → b₃ ≡ set b₂ at (count + 1) → TraceExit (lineAnswer F s seed) f m m′ b b₃ at (3 * count + 4)
 traced F s f m m′ b b₁ b₂ b₃ at count seed e₁ t e₃ =
     let pts = run (pointsAfter F s seed) f in
     let answer : run (lineAnswer F s seed) f ≡ lineWords (seed ∷ pts) = unfold lineAnswer line in run-bind (pointsAfter F s seed >>= λ l. give (seed ∷ l)) (λ l. give (lineWords l)) f ∙ ap lineWords (run-bind (pointsAfter F s seed) (λ l. give (seed ∷ l)) f) in

@@ -11,13 +11,13 @@ use Rattle.reading.specs.Marks.{markAll}
 use Rattle.answers.specs.Words.{pointWords}
 
 -- the words of the answer stand from `at` on, as far as they fit; their number is r; the cells that were read are marked
-pub record Written (t : Asks (List ℕ)) (f : ℕ → Values) (m m′ o o′ : List ℕ) (at r : ℕ) : Type 0 where
+pub record TraceExit (t : Asks (List ℕ)) (f : ℕ → Values) (m m′ o o′ : List ℕ) (at r : ℕ) : Type 0 where
   pub marks : m′ ≡ markAll m (reads t f)
   pub words : o′ ≡ sets o at (run t f)
   pub count : r ≡ length (run t f)
 
 -- the same of the points of a line, r in number
-pub record Drawn (t : Asks (List Vec3)) (f : ℕ → Values) (m m′ o o′ : List ℕ) (at r : ℕ) : Type 0 where
+pub record PointsAfterExit (t : Asks (List Vec3)) (f : ℕ → Values) (m m′ o o′ : List ℕ) (at r : ℕ) : Type 0 where
   pub marks : m′ ≡ markAll m (reads t f)
   pub words : o′ ≡ sets o at (pointWords (run t f))
   pub count : r ≡ length (run t f)

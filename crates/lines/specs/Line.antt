@@ -60,8 +60,8 @@ unfoldable pub isSpeed : Float → Bool
 isSpeed x = finite x && (0·0 ≼ x)
 
 -- 34 "an option that `integrate` refuses" is not there
-unfoldable pub areGood : StreamlineOptions → Bool
-areGood o = isLength (o .«step_size») && (ltb 0 (o .«max_steps») && (isLength (o .«max_length») && isSpeed (o .«stagnation_speed»)))
+unfoldable pub areAccepted : StreamlineOptions → Bool
+areAccepted o = isLength (o .«step_size») && (ltb 0 (o .«max_steps») && (isLength (o .«max_length») && isSpeed (o .«stagnation_speed»)))
 
 -- no cell was found
 unfoldable pub isNowhere : Found → Bool
@@ -83,6 +83,6 @@ lineAnswer f s seed = line f s seed >>= λ l. give (lineWords l)
 -- `integrate`
 unfoldable pub integrate : StreamlineField → Vec3 → StreamlineSettings → Result (Asks (List ℕ))
 integrate f seed s =
-    result._>>=_ (refuse 34 (not (areGood (s .options)))) (λ _.
+    result._>>=_ (refuse 34 (not (areAccepted (s .options)))) (λ _.
     result._>>=_ (refuse 35 (nowhere f seed)) (λ _.
     fine (lineAnswer f s seed)))

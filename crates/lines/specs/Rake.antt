@@ -14,7 +14,7 @@ use Rattle.reading.specs.Result.{Result, fine, refuse}
 use Rattle.lines_locate.specs.Field.{StreamlineField}
 use Rattle.lines.specs.declared.Rake.{Rake}
 use Rattle.lines.specs.declared.StreamlineSettings.{StreamlineSettings}
-use Rattle.lines.specs.Line.{lineAnswer, areGood, nowhere}
+use Rattle.lines.specs.Line.{lineAnswer, areAccepted, nowhere}
 
 -- `start + (end - start) * t`, seed i of count
 unfoldable pub seedAt : Rake → ℕ → Vec3
@@ -32,6 +32,6 @@ linesWords f s (p ∷ ps) = lineAnswer f s p >>= λ l. linesWords f s ps >>= λ 
 -- "4: line count, each line as in 3"; "35 seed (of a rake: any seed) locates nowhere"
 unfoldable pub integrateRake : StreamlineField → Rake → StreamlineSettings → Result (Asks (List ℕ))
 integrateRake f r s =
-    result._>>=_ (refuse 34 (not (areGood (s .options)))) (λ _.
+    result._>>=_ (refuse 34 (not (areAccepted (s .options)))) (λ _.
     result._>>=_ (refuse 35 (anyOf (nowhere f) (seeds r))) (λ _.
     fine (linesWords f s (seeds r) >>= λ ws. give (r .count ∷ ws))))

@@ -11,8 +11,8 @@ use lines_velocity::interpolate;
 ghost use mathlib.Core.Path.{_≡_};
 ghost use Prim.Native.Nat.{_≤_};
 ghost use Rattle.case_file.specs.Field.{valuesOf};
-ghost use Rattle.answers.specs.Contracts.{decided, Replied};
-ghost use Rattle.lines_velocity.specs.Contracts.{tracerField, Locatable, Ready};
+ghost use Rattle.answers.specs.Contracts.{decided, Reply};
+ghost use Rattle.lines_velocity.specs.Contracts.{tracerField, LocateEntry, TracerEntry};
 ghost use Rattle.lines.specs.Line as Line;
 
 // A finite length above 0.
@@ -30,8 +30,8 @@ fn is_speed(x: f64) -> bool
 }
 
 // No option is refused.
-pub(crate) fn are_good(options: StreamlineOptions) -> bool
-    ensures { λ r. ⌜ r ≡ Line.areGood options ⌝ }
+pub(crate) fn are_accepted(options: StreamlineOptions) -> bool
+    ensures { λ r. ⌜ r ≡ Line.areAccepted options ⌝ }
 {
     if is_length(options.step_size) {
         if 0 < options.max_steps {
@@ -45,7 +45,7 @@ pub(crate) fn are_good(options: StreamlineOptions) -> bool
 
 // A point locates nowhere.
 pub(crate) fn is_nowhere(words: &[u32], floats: &[f64], t: Tracer, p: Vec3) -> bool
-    requires { ⌜ Locatable (now words) (now floats) t ⌝ }
+    requires { ⌜ LocateEntry (now words) (now floats) t ⌝ }
     ensures { λ r. ⌜ r ≡ Line.nowhere (tracerField t (now (words .entry)) (now (floats .entry))) p ⌝ }
 {
     match interpolate::locate(words, floats, t, p) {
@@ -65,13 +65,13 @@ pub fn integrate(
     seed: Vec3,
     settings: StreamlineSettings,
 ) -> Answered
-    requires { ⌜ Ready (now case) (now words) (now floats) t ⌝ }
+    requires { ⌜ TracerEntry (now case) (now words) (now floats) t ⌝ }
     requires { ⌜ settings .options .«max_steps» ≤ 65536 ⌝ }
-    ensures { λ r. ⌜ Replied (decided (Line.integrate (tracerField t (now (words .entry)) (now (floats .entry))) seed
+    ensures { λ r. ⌜ Reply (decided (Line.integrate (tracerField t (now (words .entry)) (now (floats .entry))) seed
         settings)) (valuesOf (now (case .entry))) (now (out .entry)) r (now (out .entry)) (now (out .exit))
         (now (marks .entry)) (now (marks .exit)) ⌝ }
 {
-    if are_good(settings.options) {
+    if are_accepted(settings.options) {
         if is_nowhere(words, floats, t, seed) {
             return Answered::Refused(35);
         }

@@ -7,9 +7,9 @@ use lines_velocity::Tracer;
 ghost use mathlib.Core.Path.{_≡_};
 ghost use Prim.Native.Nat.{_+_, _*_, _<_, _≤_};
 ghost use Rattle.case_file.specs.Field.{valuesOf};
-ghost use Rattle.lines_velocity.specs.Contracts.{tracerField, Ready};
+ghost use Rattle.lines_velocity.specs.Contracts.{tracerField, TracerEntry};
 ghost use Rattle.lines.specs.Line as Line;
-ghost use Rattle.lines.specs.Contracts.{Drawn, Written};
+ghost use Rattle.lines.specs.Contracts.{PointsAfterExit, TraceExit};
 
 // The sign of a direction.
 fn sign(d: StreamlineDirection) -> f64
@@ -33,9 +33,9 @@ fn points_after(
     seed: Vec3,
     settings: StreamlineSettings,
 ) -> usize
-    requires { ⌜ Ready (now case) (now words) (now floats) t ⌝ }
+    requires { ⌜ TracerEntry (now case) (now words) (now floats) t ⌝ }
     requires { ⌜ (at ≤ 16777216) × (settings .options .«max_steps» ≤ 65536) ⌝ }
-    ensures { λ r. ⌜ Drawn (Line.pointsAfter (tracerField t (now (words .entry)) (now (floats .entry))) settings seed)
+    ensures { λ r. ⌜ PointsAfterExit (Line.pointsAfter (tracerField t (now (words .entry)) (now (floats .entry))) settings seed)
         (valuesOf (now (case .entry))) (now (marks .entry)) (now (marks .exit)) (now (out .entry)) (now (out .exit)) at
         r × (r ≤ settings .options .«max_steps») ⌝ }
 {
@@ -75,9 +75,9 @@ pub fn trace(
     seed: Vec3,
     settings: StreamlineSettings,
 ) -> usize
-    requires { ⌜ Ready (now case) (now words) (now floats) t ⌝ }
+    requires { ⌜ TracerEntry (now case) (now words) (now floats) t ⌝ }
     requires { ⌜ (at ≤ 16000000) × (settings .options .«max_steps» ≤ 65536) ⌝ }
-    ensures { λ r. ⌜ Written (Line.lineAnswer (tracerField t (now (words .entry)) (now (floats .entry))) settings seed)
+    ensures { λ r. ⌜ TraceExit (Line.lineAnswer (tracerField t (now (words .entry)) (now (floats .entry))) settings seed)
         (valuesOf (now (case .entry))) (now (marks .entry)) (now (marks .exit)) (now (out .entry)) (now (out .exit)) at
         r × (r ≤ 196612) ⌝ }
 {

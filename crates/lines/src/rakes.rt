@@ -10,11 +10,11 @@ ghost use mathlib.Core.Path.{_≡_};
 ghost use Prim.Native.Nat.{_≤_, _<_, _*_, _+_};
 ghost use Rattle.arith.specs.Lists.{anyOf};
 ghost use Rattle.case_file.specs.Field.{valuesOf};
-ghost use Rattle.answers.specs.Contracts.{decided, Replied};
-ghost use Rattle.lines_velocity.specs.Contracts.{tracerField, Locatable, Ready};
+ghost use Rattle.answers.specs.Contracts.{decided, Reply};
+ghost use Rattle.lines_velocity.specs.Contracts.{tracerField, LocateEntry, TracerEntry};
 ghost use Rattle.lines.specs.Line.{nowhere};
 ghost use Rattle.lines.specs.Rake as Rakes;
-ghost use Rattle.lines.specs.Contracts.{Written};
+ghost use Rattle.lines.specs.Contracts.{TraceExit};
 
 // Seed i of a rake.
 fn seed_at(rake: Rake, i: usize) -> Vec3
@@ -27,7 +27,7 @@ fn seed_at(rake: Rake, i: usize) -> Vec3
 
 // Some seed locates nowhere.
 fn any_nowhere(words: &[u32], floats: &[f64], t: Tracer, rake: Rake) -> bool
-    requires { ⌜ Locatable (now words) (now floats) t ⌝ }
+    requires { ⌜ LocateEntry (now words) (now floats) t ⌝ }
     requires { ⌜ (2 ≤ rake .count) × (rake .count ≤ 64) ⌝ }
     ensures { λ r. ⌜ r ≡ anyOf (nowhere (tracerField t (now (words .entry)) (now (floats .entry))))
         (Rakes.seeds rake) ⌝ }
@@ -54,9 +54,9 @@ fn trace_all(
     rake: Rake,
     settings: StreamlineSettings,
 ) -> usize
-    requires { ⌜ Ready (now case) (now words) (now floats) t ⌝ }
+    requires { ⌜ TracerEntry (now case) (now words) (now floats) t ⌝ }
     requires { ⌜ (2 ≤ rake .count) × (rake .count ≤ 64) × (settings .options .«max_steps» ≤ 65536) ⌝ }
-    ensures { λ r. ⌜ Written (Rakes.linesWords (tracerField t (now (words .entry)) (now (floats .entry))) settings
+    ensures { λ r. ⌜ TraceExit (Rakes.linesWords (tracerField t (now (words .entry)) (now (floats .entry))) settings
         (Rakes.seeds rake)) (valuesOf (now (case .entry))) (now (marks .entry)) (now (marks .exit))
         (now (out .entry)) (now (out .exit)) 1 r × (r ≤ 12583168) ⌝ }
 {
@@ -93,13 +93,13 @@ pub fn integrate_rake(
     rake: Rake,
     settings: StreamlineSettings,
 ) -> Answered
-    requires { ⌜ Ready (now case) (now words) (now floats) t ⌝ }
+    requires { ⌜ TracerEntry (now case) (now words) (now floats) t ⌝ }
     requires { ⌜ (2 ≤ rake .count) × (rake .count ≤ 64) × (settings .options .«max_steps» ≤ 65536) ⌝ }
-    ensures { λ r. ⌜ Replied (decided (Rakes.integrateRake (tracerField t (now (words .entry)) (now (floats .entry)))
+    ensures { λ r. ⌜ Reply (decided (Rakes.integrateRake (tracerField t (now (words .entry)) (now (floats .entry)))
         rake settings)) (valuesOf (now (case .entry))) (now (out .entry)) r (now (out .entry)) (now (out .exit))
         (now (marks .entry)) (now (marks .exit)) ⌝ }
 {
-    if integrate::are_good(settings.options) {
+    if integrate::are_accepted(settings.options) {
         if any_nowhere(words, floats, t, rake) {
             return Answered::Refused(35);
         }

@@ -12,12 +12,12 @@ use lib.Dec.{eqb, ltb, leb, lit≤}
 use lib.ListN.{length, getD, set}
 use lib.Seq.{getD-set-same, getD-set-other, take-set-le}
 use Rattle.arith.proofs.RecordLaws.{stride-le, lt-or-ge, same-below}
-use Rattle.lines_bins.specs.Index.{slotIn, reaches, inBin, place, poolIn, headIn, Same, Chain, none, node, passed, within}
-use Rattle.lines_bins.specs.Contracts.{PoolSet, FlagSet, Pushed, Chains, Ranged, Indexed, Grown, Filled, Built}
+use Rattle.lines_bins.specs.Index.{rangeWord, reaches, inBin, poolPlace, poolIn, headIn, Same, Chain, none, node, passed, within}
+use Rattle.lines_bins.specs.Contracts.{SetPoolExit, SetFlagExit, PushExit, Chains, BinRanges, BinIndex, ListCellExit, FillExit, BuildExit}
 
 -- ---- the records
 
-pub slots : (w w′ : List ℕ) (base n : ℕ) → Same w w′ base n → (i k : ℕ) → i < n → k < 8 → slotIn w′ base i k ≡ slotIn w base i k
+pub slots : (w w′ : List ℕ) (base n : ℕ) → Same w w′ base n → (i k : ℕ) → i < n → k < 8 → rangeWord w′ base i k ≡ rangeWord w base i k
 slots w w′ base n s i k hi hk = same-below w w′ (base + 8 * n) (base + 8 * i + k) 0 s (omega arith)
 
 pub same-cells : (w w₁ w₂ : List ℕ) (base n : ℕ) → Same w w₁ base n → Same w₁ w₂ base n → Same w w₂ base n
@@ -29,29 +29,29 @@ pub pool-read : (w : List ℕ) (base n p r : ℕ) → r ≡ getD w (base + 8 * n
 unfolding poolIn
 pool-read w base n p r e = e
 
-apart : (base n p q : ℕ) → q ≢ p → place base n q ≢ place base n p
+apart : (base n p q : ℕ) → q ≢ p → poolPlace base n q ≢ poolPlace base n p
 apart base n p q ne e = ne (omega arith)
 
-pub pool-set : (w : List ℕ) (base n p v x : ℕ) → base + 88 * n ≤ length w → p < 72 * n → x ≡ v → PoolSet w (set w (place base n p) x) base n p v
+pub pool-set : (w : List ℕ) (base n p v x : ℕ) → base + 88 * n ≤ length w → p < 72 * n → x ≡ v → SetPoolExit w (set w (poolPlace base n p) x) base n p v
 unfolding poolIn
 pool-set w base n p v x room l e =
     record {
-      here = getD-set-same w (place base n p) x 0 (omega arith) ∙ e;
-      others = λ q ne. getD-set-other w (place base n p) (place base n q) x 0 (apart base n p q ne);
-      cells = take-set-le (base + 8 * n) w (place base n p) x (omega arith);
+      here = getD-set-same w (poolPlace base n p) x 0 (omega arith) ∙ e;
+      others = λ q ne. getD-set-other w (poolPlace base n p) (poolPlace base n q) x 0 (apart base n p q ne);
+      cells = take-set-le (base + 8 * n) w (poolPlace base n p) x (omega arith);
     }
 
-pub flag-set : (w : List ℕ) (base n x : ℕ) → base + 88 * n ≤ length w → 0 < n → FlagSet w (set w (base + 8 * n) x) base n x
+pub flag-set : (w : List ℕ) (base n x : ℕ) → base + 88 * n ≤ length w → 0 < n → SetFlagExit w (set w (base + 8 * n) x) base n x
 unfolding poolIn
 flag-set w base n x room some =
     record {
       here = getD-set-same w (base + 8 * n) x 0 (omega arith);
-      pool = λ q. getD-set-other w (base + 8 * n) (place base n q) x 0 (λ e. lt-irrefl (base + 8 * n) (omega arith));
+      pool = λ q. getD-set-other w (base + 8 * n) (poolPlace base n q) x 0 (λ e. lt-irrefl (base + 8 * n) (omega arith));
       cells = take-set-le (base + 8 * n) w (base + 8 * n) x (le-refl (base + 8 * n));
     }
 
 pub pushed : (w w₁ w₂ w₃ : List ℕ) (base n bin cell top old : ℕ) → old ≡ poolIn w base n bin → bin < top
-    → PoolSet w w₁ base n top cell → PoolSet w₁ w₂ base n (top + 1) old → PoolSet w₂ w₃ base n bin top → Pushed w w₃ base n bin cell top
+    → SetPoolExit w w₁ base n top cell → SetPoolExit w₁ w₂ base n (top + 1) old → SetPoolExit w₂ w₃ base n bin top → PushExit w w₃ base n bin cell top
 pushed w w₁ w₂ w₃ base n bin cell top old eo l a b c =
     record {
       node = c .others top (omega arith) ∙ b .others top (omega arith) ∙ a .here;
@@ -98,30 +98,30 @@ off-4 true false d e = refl
 off-4 false c d e = refl
 
 module _ (w : List ℕ) (base x y i : ℕ) where
-  pub left-of : x < slotIn w base i 0 → inBin w base x y i ≡ false
+  pub left-of : x < rangeWord w base i 0 → inBin w base x y i ≡ false
   unfolding inBin reaches
   left-of h = rw (lt-leb _ _ h)
 
-  pub right-of : slotIn w base i 2 < x → inBin w base x y i ≡ false
+  pub right-of : rangeWord w base i 2 < x → inBin w base x y i ≡ false
   unfolding inBin reaches
-  right-of h = off-2 (leb (slotIn w base i 0) x) _ _ (lt-leb _ _ h)
+  right-of h = off-2 (leb (rangeWord w base i 0) x) _ _ (lt-leb _ _ h)
 
-  pub under : y < slotIn w base i 1 → inBin w base x y i ≡ false
+  pub under : y < rangeWord w base i 1 → inBin w base x y i ≡ false
   unfolding inBin reaches
-  under h = off-3 (leb (slotIn w base i 0) x && leb x (slotIn w base i 2)) _ _ (lt-leb _ _ h)
+  under h = off-3 (leb (rangeWord w base i 0) x && leb x (rangeWord w base i 2)) _ _ (lt-leb _ _ h)
 
-  pub over : slotIn w base i 3 < y → inBin w base x y i ≡ false
+  pub over : rangeWord w base i 3 < y → inBin w base x y i ≡ false
   unfolding inBin reaches
-  over h = off-4 (leb (slotIn w base i 0) x && leb x (slotIn w base i 2)) (leb (slotIn w base i 1) y) _ (lt-leb _ _ h)
+  over h = off-4 (leb (rangeWord w base i 0) x && leb x (rangeWord w base i 2)) (leb (rangeWord w base i 1) y) _ (lt-leb _ _ h)
 
-  pub inside : slotIn w base i 0 ≤ x → x ≤ slotIn w base i 2 → slotIn w base i 1 ≤ y → inBin w base x y i ≡ leb y (slotIn w base i 3)
+  pub inside : rangeWord w base i 0 ≤ x → x ≤ rangeWord w base i 2 → rangeWord w base i 1 ≤ y → inBin w base x y i ≡ leb y (rangeWord w base i 3)
   unfolding inBin reaches
   inside a b c = rw (le-leb _ _ a, le-leb _ _ b, le-leb _ _ c)
 
   same-bin : (w′ : List ℕ) (n : ℕ) → i < n → Same w w′ base n → inBin w′ base x y i ≡ inBin w base x y i
   unfolding inBin reaches
   same-bin w′ n h s =
-      let e : (k : ℕ) → k < 8 → slotIn w′ base i k ≡ slotIn w base i k = λ k l. slots w w′ base n s i k h l in
+      let e : (k : ℕ) → k < 8 → rangeWord w′ base i k ≡ rangeWord w base i k = λ k l. slots w w′ base n s i k h l in
       rw (e 0 (lit≤ tt), e 1 (lit≤ tt), e 2 (lit≤ tt), e 3 (lit≤ tt))
 
 -- ---- one chain
@@ -172,7 +172,7 @@ restart w base n nx ny top start start′ cs h =
     by x y hx hy (inr q) = chain-lower w base (nx * ny) top (inBin w base x y) n (rw (q .0) at (cs .chain x y hx hy)) (q .1)
 
 -- one more node
-chains-push : (w w′ : List ℕ) (base n nx ny top i xx yy : ℕ) (start start′ : ℕ → ℕ → ℕ) → Chains w base n nx ny top start → Pushed w w′ base n (nx * yy + xx) i top
+chains-push : (w w′ : List ℕ) (base n nx ny top i xx yy : ℕ) (start start′ : ℕ → ℕ → ℕ) → Chains w base n nx ny top start → PushExit w w′ base n (nx * yy + xx) i top
     → 0 < nx * ny → xx < nx → yy < ny → i < n → top + 2 ≤ 72 * n → inBin w base xx yy i ≡ true → start xx yy ≡ i + 1 → start′ xx yy ≡ i
     → ((x y : ℕ) → ((x ≡ xx) × (y ≡ yy) → ⊥) → start′ x y ≡ start x y) → Chains w′ base n nx ny (top + 2) start′
 chains-push w w′ base n nx ny top i xx yy start start′ cs pu some hxx hyy hi room on e e′ others =
@@ -255,7 +255,7 @@ down r a b i ea eb off = inr (rw eb ea, rw eb off)
 
 -- ---- the same area with another pool
 
-pub ranged-kept : (w w′ : List ℕ) (base n nx ny : ℕ) → Ranged w base n nx ny → Same w w′ base n → length w′ ≡ length w → Ranged w′ base n nx ny
+pub ranged-kept : (w w′ : List ℕ) (base n nx ny : ℕ) → BinRanges w base n nx ny → Same w w′ base n → length w′ ≡ length w → BinRanges w′ base n nx ny
 ranged-kept w w′ base n nx ny ra s long =
     record {
       some = ra .some;
@@ -272,20 +272,20 @@ same-self w base n = refl
 -- ---- a row of bins
 
 pub record Rowing (w₀ w : List ℕ) (base n nx ny i y x0 x1 x t : ℕ) : Type 0 where
-  pub ranged : Ranged w base n nx ny
+  pub ranged : BinRanges w base n nx ny
   pub cells : Same w₀ w base n
   pub chains : Chains w base n nx ny t (within i y x)
   pub cell : i < n
-  pub left : x0 ≡ slotIn w base i 0
-  pub right : x1 ≡ slotIn w base i 2
-  pub low : slotIn w base i 1 ≤ y
-  pub high : y ≤ slotIn w base i 3
+  pub left : x0 ≡ rangeWord w base i 0
+  pub right : x1 ≡ rangeWord w base i 2
+  pub low : rangeWord w base i 1 ≤ y
+  pub high : y ≤ rangeWord w base i 3
   pub from : x0 ≤ x
   pub narrow : x1 < nx
   pub short : y < ny
 
-pub row-start : (w : List ℕ) (base n nx ny i y x0 x1 t : ℕ) → Ranged w base n nx ny → Chains w base n nx ny t (within i y 0) → i < n → slotIn w base i 1 ≤ y → y ≤ slotIn w base i 3
-    → x0 ≡ slotIn w base i 0 → x1 ≡ slotIn w base i 2 → Rowing w w base n nx ny i y x0 x1 x0 t
+pub row-start : (w : List ℕ) (base n nx ny i y x0 x1 t : ℕ) → BinRanges w base n nx ny → Chains w base n nx ny t (within i y 0) → i < n → rangeWord w base i 1 ≤ y → y ≤ rangeWord w base i 3
+    → x0 ≡ rangeWord w base i 0 → x1 ≡ rangeWord w base i 2 → Rowing w w base n nx ny i y x0 x1 x0 t
 row-start w base n nx ny i y x0 x1 t ra cs hi lo hg el er =
     record {
       ranged = ra;
@@ -309,10 +309,10 @@ row-start w base n nx ny i y x0 x1 t ra cs hi lo hg el er =
     by x′ y′ (inr (inr q)) = stay _ _ _ (i + 1) (row-out i y x′ y′ (let e = q .0 in omega arith)) (within-out i y x0 x′ y′ (inr q))
 
 module _ (w₀ w : List ℕ) (base n nx ny i y x0 x1 x t : ℕ) (g : Rowing w₀ w base n nx ny i y x0 x1 x t) where
-  pub row-turn : (w′ : List ℕ) (b : ℕ) → x ≤ x1 → Pushed w w′ base n b i t → b ≡ nx * y + x → 2 ≤ 72 * n - t → length w′ ≡ length w
+  pub row-turn : (w′ : List ℕ) (b : ℕ) → x ≤ x1 → PushExit w w′ base n b i t → b ≡ nx * y + x → 2 ≤ 72 * n - t → length w′ ≡ length w
       → Rowing w₀ w′ base n nx ny i y x0 x1 (x + 1) (t + 2)
   row-turn w′ b le pu eb room long =
-      let pu′ : Pushed w w′ base n (nx * y + x) i t = rw eb at pu in
+      let pu′ : PushExit w w′ base n (nx * y + x) i t = rw eb at pu in
       let s = pu .cells in
       record {
         ranged = ranged-kept w w′ base n nx ny (g .ranged) s long;
@@ -347,7 +347,7 @@ module _ (w₀ w : List ℕ) (base n nx ny i y x0 x1 x t : ℕ) (g : Rowing w₀
           beyond (inl l) = omega arith
           beyond (inr l) = absurd (ne ((let k = q .1 in omega arith), q .0))
 
-  pub row-done : x1 < x → Grown w₀ w base n nx ny t (within i (y + 1) 0)
+  pub row-done : x1 < x → ListCellExit w₀ w base n nx ny t (within i (y + 1) 0)
   row-done past =
       record {
         cells = g .cells;
@@ -363,7 +363,7 @@ module _ (w₀ w : List ℕ) (base n nx ny i y x0 x1 x t : ℕ) (g : Rowing w₀
           (right-of w base x′ y′ i (let l = q .1 in let e = g .right in omega arith))
 
 -- no room
-pub row-full : (w₀ w : List ℕ) (base n nx ny : ℕ) (start : ℕ → ℕ → ℕ) → Same w₀ w base n → Grown w₀ w base n nx ny 0 start
+pub row-full : (w₀ w : List ℕ) (base n nx ny : ℕ) (start : ℕ → ℕ → ℕ) → Same w₀ w base n → ListCellExit w₀ w base n nx ny 0 start
 row-full w₀ w base n nx ny start s = record { cells = s; chains = λ nz. absurd (nz refl) }
 
 pub ruleset rows = (row-start, row-turn, row-done, row-full)
@@ -371,15 +371,15 @@ pub ruleset rows = (row-start, row-turn, row-done, row-full)
 -- ---- the rows of a cell
 
 pub record Celling (w₀ w : List ℕ) (base n nx ny i y0 y1 y t : ℕ) : Type 0 where
-  pub ranged : Ranged w base n nx ny
+  pub ranged : BinRanges w base n nx ny
   pub cells : Same w₀ w base n
   pub chains : Chains w base n nx ny t (within i y 0)
   pub cell : i < n
-  pub bottom : y0 ≡ slotIn w base i 1
-  pub top : y1 ≡ slotIn w base i 3
+  pub bottom : y0 ≡ rangeWord w base i 1
+  pub top : y1 ≡ rangeWord w base i 3
   pub from : y0 ≤ y
 
-pub cell-start : (w : List ℕ) (base n nx ny i y0 y1 t : ℕ) → Ranged w base n nx ny → Chains w base n nx ny t (λ x y. i + 1) → i < n → y0 ≡ slotIn w base i 1 → y1 ≡ slotIn w base i 3
+pub cell-start : (w : List ℕ) (base n nx ny i y0 y1 t : ℕ) → BinRanges w base n nx ny → Chains w base n nx ny t (λ x y. i + 1) → i < n → y0 ≡ rangeWord w base i 1 → y1 ≡ rangeWord w base i 3
     → Celling w w base n nx ny i y0 y1 y0 t
 cell-start w base n nx ny i y0 y1 t ra cs hi eb et =
     record {
@@ -397,13 +397,13 @@ cell-start w base n nx ny i y0 y1 t ra cs hi eb et =
     by x y (inr h) = stay _ _ _ (i + 1) refl (row-out i y0 x y h)
 
 module _ (w₀ w : List ℕ) (base n nx ny i y0 y1 y t : ℕ) (g : Celling w₀ w base n nx ny i y0 y1 y t) where
-  pub cell-low : slotIn w base i 1 ≤ y
+  pub cell-low : rangeWord w base i 1 ≤ y
   cell-low = let a = g .bottom in let b = g .from in omega arith
 
-  pub cell-high : y ≤ y1 → y ≤ slotIn w base i 3
+  pub cell-high : y ≤ y1 → y ≤ rangeWord w base i 3
   cell-high h = let a = g .top in omega arith
 
-  pub cell-turn : (w′ : List ℕ) (r : ℕ) → Grown w w′ base n nx ny r (within i (y + 1) 0) → (r ≡ 0 → ⊥) → length w′ ≡ length w
+  pub cell-turn : (w′ : List ℕ) (r : ℕ) → ListCellExit w w′ base n nx ny r (within i (y + 1) 0) → (r ≡ 0 → ⊥) → length w′ ≡ length w
       → Celling w₀ w′ base n nx ny i y0 y1 (y + 1) r
   cell-turn w′ r gr nz long =
       record {
@@ -416,10 +416,10 @@ module _ (w₀ w : List ℕ) (base n nx ny i y0 y1 y t : ℕ) (g : Celling w₀ 
         from = let a = g .from in omega arith;
       }
 
-  pub cell-full : (w′ : List ℕ) (r : ℕ) (start start′ : ℕ → ℕ → ℕ) → Grown w w′ base n nx ny r start → Grown w₀ w′ base n nx ny 0 start′
+  pub cell-full : (w′ : List ℕ) (r : ℕ) (start start′ : ℕ → ℕ → ℕ) → ListCellExit w w′ base n nx ny r start → ListCellExit w₀ w′ base n nx ny 0 start′
   cell-full w′ r start start′ gr = row-full w₀ w′ base n nx ny start′ (same-cells w₀ w w′ base n (g .cells) (gr .cells))
 
-  pub cell-done : y1 < y → Grown w₀ w base n nx ny t (λ x y. i)
+  pub cell-done : y1 < y → ListCellExit w₀ w base n nx ny t (λ x y. i)
   cell-done past =
       record {
         cells = g .cells;
@@ -441,7 +441,7 @@ pub record Clearing (w₀ w : List ℕ) (base n b : ℕ) : Type 0 where
 pub clear-start : (w : List ℕ) (base n : ℕ) → Clearing w w base n 0
 clear-start w base n = record { cells = same-self w base n; zeros = λ k h. absurd (not-suc-le-zero h) }
 
-pub clear-turn : (w₀ w w′ : List ℕ) (base n b : ℕ) → Clearing w₀ w base n b → PoolSet w w′ base n b 0 → Clearing w₀ w′ base n (b + 1)
+pub clear-turn : (w₀ w w′ : List ℕ) (base n b : ℕ) → Clearing w₀ w base n b → SetPoolExit w w′ base n b 0 → Clearing w₀ w′ base n (b + 1)
 clear-turn w₀ w w′ base n b g st =
     record { cells = same-cells w₀ w w′ base n (g .cells) (st .cells); zeros = λ k h. by k h (ℕ-discrete k b) }
   where
@@ -449,7 +449,7 @@ clear-turn w₀ w w′ base n b g st =
     by k h (yes e) = rw e (st .here)
     by k h (no ne) = st .others k ne ∙ g .zeros k (omega arith)
 
-pub clear-done : (w₀ w : List ℕ) (base n nx ny b : ℕ) → Clearing w₀ w base n b → nx * ny ≤ b → nx * ny ≤ 72 * n → Grown w₀ w base n nx ny (nx * ny) (λ x y. n)
+pub clear-done : (w₀ w : List ℕ) (base n nx ny b : ℕ) → Clearing w₀ w base n b → nx * ny ≤ b → nx * ny ≤ 72 * n → ListCellExit w₀ w base n nx ny (nx * ny) (λ x y. n)
 clear-done w₀ w base n nx ny b g ge fits =
     record {
       cells = g .cells;
@@ -462,18 +462,18 @@ clear-done w₀ w base n nx ny b g ge fits =
     }
 
 pub record Building (w₀ w : List ℕ) (base n nx ny i t : ℕ) : Type 0 where
-  pub ranged : Ranged w base n nx ny
+  pub ranged : BinRanges w base n nx ny
   pub cells : Same w₀ w base n
   pub chains : Chains w base n nx ny t (λ x y. i)
 
-pub build-start : (w : List ℕ) (base n nx ny t : ℕ) → Ranged w base n nx ny → Chains w base n nx ny t (λ x y. n) → Building w w base n nx ny n t
+pub build-start : (w : List ℕ) (base n nx ny t : ℕ) → BinRanges w base n nx ny → Chains w base n nx ny t (λ x y. n) → Building w w base n nx ny n t
 build-start w base n nx ny t ra cs = record { ranged = ra; cells = same-self w base n; chains = cs }
 
 module _ (w₀ w : List ℕ) (base n nx ny i t : ℕ) (g : Building w₀ w base n nx ny i t) where
   pub build-ready : 0 < i → Chains w base n nx ny t (λ x y. i - 1 + 1)
   build-ready h = let e : i ≡ i - 1 + 1 = omega arith in rw e at (g .chains)
 
-  pub build-turn : (w′ : List ℕ) (r : ℕ) → Grown w w′ base n nx ny r (λ x y. i - 1) → (r ≡ 0 → ⊥) → length w′ ≡ length w → Building w₀ w′ base n nx ny (i - 1) r
+  pub build-turn : (w′ : List ℕ) (r : ℕ) → ListCellExit w w′ base n nx ny r (λ x y. i - 1) → (r ≡ 0 → ⊥) → length w′ ≡ length w → Building w₀ w′ base n nx ny (i - 1) r
   build-turn w′ r gr nz long =
       record {
         ranged = ranged-kept w w′ base n nx ny (g .ranged) (gr .cells) long;
@@ -481,31 +481,31 @@ module _ (w₀ w : List ℕ) (base n nx ny i t : ℕ) (g : Building w₀ w base 
         chains = gr .chains nz;
       }
 
-  pub build-full : (w′ : List ℕ) (r : ℕ) (start : ℕ → ℕ → ℕ) → Grown w w′ base n nx ny r start → Filled w₀ w′ base n nx ny false
+  pub build-full : (w′ : List ℕ) (r : ℕ) (start : ℕ → ℕ → ℕ) → ListCellExit w w′ base n nx ny r start → FillExit w₀ w′ base n nx ny false
   build-full w′ r start gr = record { cells = same-cells w₀ w w′ base n (g .cells) (gr .cells); index = λ e. absurd (clash e) }
 
-  pub build-done : i ≤ 0 → Filled w₀ w base n nx ny true
+  pub build-done : i ≤ 0 → FillExit w₀ w base n nx ny true
   build-done h = let e : i ≡ 0 = omega arith in record { cells = g .cells; index = λ q. record { top = t; chains = rw e at (g .chains) } }
 
-pub build-none : (w : List ℕ) (base n nx ny : ℕ) → Filled w w base n nx ny false
+pub build-none : (w : List ℕ) (base n nx ny : ℕ) → FillExit w w base n nx ny false
 build-none w base n nx ny = record { cells = same-self w base n; index = λ e. absurd (clash e) }
 
 -- after the heads were cleared
-pub fill-ranged : (w w₁ : List ℕ) (base n nx ny top : ℕ) (start : ℕ → ℕ → ℕ) → Grown w w₁ base n nx ny top start → Ranged w base n nx ny → length w₁ ≡ length w → Ranged w₁ base n nx ny
+pub fill-ranged : (w w₁ : List ℕ) (base n nx ny top : ℕ) (start : ℕ → ℕ → ℕ) → ListCellExit w w₁ base n nx ny top start → BinRanges w base n nx ny → length w₁ ≡ length w → BinRanges w₁ base n nx ny
 fill-ranged w w₁ base n nx ny top start gr ra long = ranged-kept w w₁ base n nx ny ra (gr .cells) long
 
-pub fill-chains : (w w₁ : List ℕ) (base n nx ny : ℕ) (start : ℕ → ℕ → ℕ) → Grown w w₁ base n nx ny (nx * ny) start → Ranged w base n nx ny → Chains w₁ base n nx ny (nx * ny) start
+pub fill-chains : (w w₁ : List ℕ) (base n nx ny : ℕ) (start : ℕ → ℕ → ℕ) → ListCellExit w w₁ base n nx ny (nx * ny) start → BinRanges w base n nx ny → Chains w₁ base n nx ny (nx * ny) start
 fill-chains w w₁ base n nx ny start gr ra = gr .chains (let s = ra .some in omega arith)
 
-pub filled : (w w₁ w₂ : List ℕ) (base n nx ny top : ℕ) (start : ℕ → ℕ → ℕ) (r : Bool) → Grown w w₁ base n nx ny top start → Filled w₁ w₂ base n nx ny r → Filled w w₂ base n nx ny r
+pub filled : (w w₁ w₂ : List ℕ) (base n nx ny top : ℕ) (start : ℕ → ℕ → ℕ) (r : Bool) → ListCellExit w w₁ base n nx ny top start → FillExit w₁ w₂ base n nx ny r → FillExit w w₂ base n nx ny r
 filled w w₁ w₂ base n nx ny top start r gr bu = record { cells = same-cells w w₁ w₂ base n (gr .cells) (bu .cells); index = bu .index }
 
 -- the index under the word that says whether it stands
-chain-flag : (w w′ : List ℕ) (base heads top : ℕ) (r r′ : ℕ → Bool) (n v : ℕ) → FlagSet w w′ base n v → ((c : ℕ) → c < n → r′ c ≡ r c) → {i h : ℕ} → Chain w base heads top r n i h
+chain-flag : (w w′ : List ℕ) (base heads top : ℕ) (r r′ : ℕ → Bool) (n v : ℕ) → SetFlagExit w w′ base n v → ((c : ℕ) → c < n → r′ c ≡ r c) → {i h : ℕ} → Chain w base heads top r n i h
     → Chain w′ base heads top r′ n i h
 chain-flag w w′ base heads top r r′ n v fl alike ch = chain-kept w w′ base heads top top r r′ n (le-refl top) (λ p a b. fl .pool p) alike ch
 
-pub indexed-flag : (w w′ : List ℕ) (base n nx ny v : ℕ) → FlagSet w w′ base n v → Indexed w base n nx ny → Indexed w′ base n nx ny
+pub indexed-flag : (w w′ : List ℕ) (base n nx ny v : ℕ) → SetFlagExit w w′ base n v → BinIndex w base n nx ny → BinIndex w′ base n nx ny
 indexed-flag w w′ base n nx ny v fl ix =
     record {
       top = ix .top;
@@ -518,11 +518,11 @@ indexed-flag w w′ base n nx ny v fl ix =
           };
     }
 
-pub build-done-one : (w w₁ w₂ : List ℕ) (base n nx ny : ℕ) (r : Bool) → Filled w w₁ base n nx ny r → r ≡ true → FlagSet w₁ w₂ base n 1 → Built w w₂ base n nx ny
+pub build-done-one : (w w₁ w₂ : List ℕ) (base n nx ny : ℕ) (r : Bool) → FillExit w w₁ base n nx ny r → r ≡ true → SetFlagExit w₁ w₂ base n 1 → BuildExit w w₂ base n nx ny
 build-done-one w w₁ w₂ base n nx ny r fi e fl =
     record { cells = same-cells w w₁ w₂ base n (fi .cells) (fl .cells); index = λ q. indexed-flag w₁ w₂ base n nx ny 1 fl (fi .index e) }
 
-pub build-done-zero : (w w₁ w₂ : List ℕ) (base n nx ny : ℕ) (r : Bool) → Filled w w₁ base n nx ny r → FlagSet w₁ w₂ base n 0 → Built w w₂ base n nx ny
+pub build-done-zero : (w w₁ w₂ : List ℕ) (base n nx ny : ℕ) (r : Bool) → FillExit w w₁ base n nx ny r → SetFlagExit w₁ w₂ base n 0 → BuildExit w w₂ base n nx ny
 build-done-zero w w₁ w₂ base n nx ny r fi fl =
     record { cells = same-cells w w₁ w₂ base n (fi .cells) (fl .cells); index = λ q. let z = fl .here in absurd (omega arith) }
 
@@ -549,8 +549,8 @@ pub closed : {w : List ℕ} {base heads top : ℕ} {r : ℕ → Bool} {n i h : �
 closed some (none i h e f) z = f
 closed some (node i h c lo hi ec ic cn gap rc dn rest) z = absurd (omega arith)
 
-pub heads-fit : (w : List ℕ) (base n nx ny b : ℕ) → Indexed w base n nx ny → b < nx * ny → b < 72 * n
+pub heads-fit : (w : List ℕ) (base n nx ny b : ℕ) → BinIndex w base n nx ny → b < nx * ny → b < 72 * n
 heads-fit w base n nx ny b ix l = let a = ix .chains .above in let f = ix .chains .fits in omega arith
 
-pub few-heads : (w : List ℕ) (base n nx ny : ℕ) → Indexed w base n nx ny → n ≤ 16384 → nx * ny ≤ 1179648
+pub few-heads : (w : List ℕ) (base n nx ny : ℕ) → BinIndex w base n nx ny → n ≤ 16384 → nx * ny ≤ 1179648
 few-heads w base n nx ny ix few = let a = ix .chains .above in let b = ix .chains .fits in omega arith

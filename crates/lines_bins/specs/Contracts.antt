@@ -5,22 +5,22 @@ use mathlib.Core.List.{List}
 use mathlib.Core.Logic.{_≢_}
 use Prim.Native.Nat.{ℕ, _+_, _*_, _<_, _≤_}
 use lib.ListN.{length}
-use Rattle.lines_bins.specs.Index.{slotIn, inBin, flagIn, poolIn, headIn, Same, Chain, node, within}
+use Rattle.lines_bins.specs.Index.{rangeWord, inBin, flagIn, poolIn, headIn, Same, Chain, node, within}
 
 -- one word of the pool stored
-pub record PoolSet (w w′ : List ℕ) (base n p v : ℕ) : Type 0 where
+pub record SetPoolExit (w w′ : List ℕ) (base n p v : ℕ) : Type 0 where
   pub here : poolIn w′ base n p ≡ v
   pub others : (q : ℕ) → q ≢ p → poolIn w′ base n q ≡ poolIn w base n q
   pub cells : Same w w′ base n
 
 -- the word that says whether the index stands, stored
-pub record FlagSet (w w′ : List ℕ) (base n v : ℕ) : Type 0 where
+pub record SetFlagExit (w w′ : List ℕ) (base n v : ℕ) : Type 0 where
   pub here : flagIn w′ base n ≡ v
   pub pool : (q : ℕ) → poolIn w′ base n q ≡ poolIn w base n q
   pub cells : Same w w′ base n
 
 -- a node for this cell before the chain of the bin
-pub record Pushed (w w′ : List ℕ) (base n bin cell top : ℕ) : Type 0 where
+pub record PushExit (w w′ : List ℕ) (base n bin cell top : ℕ) : Type 0 where
   pub node : poolIn w′ base n top ≡ cell
   pub next : poolIn w′ base n (top + 1) ≡ poolIn w base n bin
   pub head : poolIn w′ base n bin ≡ top
@@ -34,30 +34,30 @@ pub record Chains (w : List ℕ) (base n nx ny top : ℕ) (start : ℕ → ℕ �
   pub fits : top ≤ 72 * n
 
 -- the ranges are within the bins, and the area has its room
-pub record Ranged (w : List ℕ) (base n nx ny : ℕ) : Type 0 where
+pub record BinRanges (w : List ℕ) (base n nx ny : ℕ) : Type 0 where
   pub some : 0 < nx * ny
   pub room : base + 88 * n ≤ length w
   pub few : n ≤ 16384
   pub low : base ≤ 16908288
-  pub wide : (i : ℕ) → i < n → slotIn w base i 2 < nx
-  pub high : (i : ℕ) → i < n → slotIn w base i 3 < ny
+  pub wide : (i : ℕ) → i < n → rangeWord w base i 2 < nx
+  pub high : (i : ℕ) → i < n → rangeWord w base i 3 < ny
 
 -- the whole index
-pub record Indexed (w : List ℕ) (base n nx ny : ℕ) : Type 0 where
+pub record BinIndex (w : List ℕ) (base n nx ny : ℕ) : Type 0 where
   pub top : ℕ
   pub chains : Chains w base n nx ny top (λ x y. 0)
 
 -- what listing a cell in some bins leaves; 0: there was no room
-pub record Grown (w w′ : List ℕ) (base n nx ny top : ℕ) (start : ℕ → ℕ → ℕ) : Type 0 where
+pub record ListCellExit (w w′ : List ℕ) (base n nx ny top : ℕ) (start : ℕ → ℕ → ℕ) : Type 0 where
   pub cells : Same w w′ base n
   pub chains : (top ≡ 0 → ⊥) → Chains w′ base n nx ny top start
 
 -- what the fill leaves; false: there was no room
-pub record Filled (w w′ : List ℕ) (base n nx ny : ℕ) (r : Bool) : Type 0 where
+pub record FillExit (w w′ : List ℕ) (base n nx ny : ℕ) (r : Bool) : Type 0 where
   pub cells : Same w w′ base n
-  pub index : r ≡ true → Indexed w′ base n nx ny
+  pub index : r ≡ true → BinIndex w′ base n nx ny
 
 -- what the build leaves
-pub record Built (w w′ : List ℕ) (base n nx ny : ℕ) : Type 0 where
+pub record BuildExit (w w′ : List ℕ) (base n nx ny : ℕ) : Type 0 where
   pub cells : Same w w′ base n
-  pub index : flagIn w′ base n ≡ 1 → Indexed w′ base n nx ny
+  pub index : flagIn w′ base n ≡ 1 → BinIndex w′ base n nx ny

@@ -9,8 +9,8 @@ use lib.Dec.{eqb, ltb, leb}
 use lib.ListN.{getD, take}
 
 -- word k of the eight of cell i
-abbrev pub slotIn : List ℕ → ℕ → ℕ → ℕ → ℕ
-slotIn w base i k = getD w (base + 8 * i + k) 0
+abbrev pub rangeWord : List ℕ → ℕ → ℕ → ℕ → ℕ
+rangeWord w base i k = getD w (base + 8 * i + k) 0
 
 -- from first to last: "a range that ends below its start lists nothing"
 unfoldable pub reaches : ℕ → ℕ → ℕ → Bool
@@ -18,19 +18,19 @@ reaches first last b = leb first b && leb b last
 
 -- bin x, y is in the range of cell i
 unfoldable pub inBin : List ℕ → ℕ → ℕ → ℕ → ℕ → Bool
-inBin w base x y i = reaches (slotIn w base i 0) (slotIn w base i 2) x && reaches (slotIn w base i 1) (slotIn w base i 3) y
+inBin w base x y i = reaches (rangeWord w base i 0) (rangeWord w base i 2) x && reaches (rangeWord w base i 1) (rangeWord w base i 3) y
 
 -- 1 where the index stands
 abbrev pub flagIn : List ℕ → ℕ → ℕ → ℕ
 flagIn w base n = getD w (base + 8 * n) 0
 
 -- pool word p
-abbrev pub place : ℕ → ℕ → ℕ → ℕ
-place base n p = base + 8 * n + 1 + p
+abbrev pub poolPlace : ℕ → ℕ → ℕ → ℕ
+poolPlace base n p = base + 8 * n + 1 + p
 
 -- what stands there
 unfoldable pub poolIn : List ℕ → ℕ → ℕ → ℕ → ℕ
-poolIn w base n p = getD w (place base n p) 0
+poolIn w base n p = getD w (poolPlace base n p) 0
 
 -- the start of the chain of bin (x, y)
 abbrev pub headIn : List ℕ → ℕ → ℕ → ℕ → ℕ → ℕ → ℕ

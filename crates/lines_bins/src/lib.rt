@@ -6,13 +6,13 @@ use arith::number::wide;
 ghost use mathlib.Core.Path.{_≡_};
 ghost use Prim.Native.Nat.{_+_, _*_, _≤_, _<_};
 ghost use lib.ListN.{length};
-ghost use Rattle.lines_bins.specs.Index.{slotIn, flagIn, poolIn, within};
-ghost use Rattle.lines_bins.specs.Contracts.{PoolSet, FlagSet, Pushed, Chains, Ranged, Grown, Filled, Built};
+ghost use Rattle.lines_bins.specs.Index.{rangeWord, flagIn, poolIn, within};
+ghost use Rattle.lines_bins.specs.Contracts.{SetPoolExit, SetFlagExit, PushExit, Chains, BinRanges, ListCellExit, FillExit, BuildExit};
 
 // Word k of cell i's record.
 fn slot(words: &[u32], base: usize, i: usize, k: usize) -> usize
     requires { ⌜ (base + 8 * i + 8 ≤ length (now words)) × (base ≤ 16908288) × (i < 16384) × (k < 4) ⌝ }
-    ensures { λ r. ⌜ (r ≡ slotIn (now (words .entry)) base i k) × (r < 4294967296) ⌝ }
+    ensures { λ r. ⌜ (r ≡ rangeWord (now (words .entry)) base i k) × (r < 4294967296) ⌝ }
 {
     wide(words[base + 8 * i + k])
 }
@@ -28,7 +28,7 @@ pub fn pool(words: &[u32], base: usize, n: usize, p: usize) -> usize
 fn set_pool(words: &mut [u32], base: usize, n: usize, p: usize, v: usize)
     requires { ⌜ (base + 88 * n ≤ length (now words)) × (base ≤ 16908288) × (n ≤ 16384) × (p < 72 * n)
         × (v < 4294967296) ⌝ }
-    ensures { λ _. ⌜ PoolSet (now (words .entry)) (now (words .exit)) base n p v ⌝ }
+    ensures { λ _. ⌜ SetPoolExit (now (words .entry)) (now (words .exit)) base n p v ⌝ }
 {
     words[base + 8 * n + 1 + p] = narrow(v);
 }
@@ -43,7 +43,7 @@ pub fn flag(words: &[u32], base: usize, n: usize) -> usize
 
 fn set_flag(words: &mut [u32], base: usize, n: usize, v: u32)
     requires { ⌜ (base + 88 * n ≤ length (now words)) × (base ≤ 16908288) × (n ≤ 16384) × (0 < n) ⌝ }
-    ensures { λ _. ⌜ FlagSet (now (words .entry)) (now (words .exit)) base n v ⌝ }
+    ensures { λ _. ⌜ SetFlagExit (now (words .entry)) (now (words .exit)) base n v ⌝ }
 {
     words[base + 8 * n] = v;
 }
@@ -52,7 +52,7 @@ fn set_flag(words: &mut [u32], base: usize, n: usize, v: u32)
 fn push(words: &mut [u32], base: usize, n: usize, bin: usize, cell: usize, top: usize)
     requires { ⌜ (base + 88 * n ≤ length (now words)) × (base ≤ 16908288) × (n ≤ 16384) × (top + 2 ≤ 72 * n)
         × (bin < top) × (cell < n) ⌝ }
-    ensures { λ _. ⌜ Pushed (now (words .entry)) (now (words .exit)) base n bin cell top ⌝ }
+    ensures { λ _. ⌜ PushExit (now (words .entry)) (now (words .exit)) base n bin cell top ⌝ }
 {
     let old = pool(words, base, n, bin);
     set_pool(words, base, n, top, cell);
@@ -70,9 +70,9 @@ pub fn bin_of(nx: usize, ny: usize, x: usize, y: usize) -> usize
 
 // Empties the chain of every bin.
 fn clear(words: &mut [u32], base: usize, n: usize, nx: usize, ny: usize)
-    requires { ⌜ Ranged (now words) base n nx ny ⌝ }
+    requires { ⌜ BinRanges (now words) base n nx ny ⌝ }
     requires { ⌜ nx * ny ≤ 72 * n ⌝ }
-    ensures { λ _. ⌜ Grown (now (words .entry)) (now (words .exit)) base n nx ny (nx * ny) (λ x y. n) ⌝ }
+    ensures { λ _. ⌜ ListCellExit (now (words .entry)) (now (words .exit)) base n nx ny (nx * ny) (λ x y. n) ⌝ }
 {
     let heads = nx * ny;
     let mut b = 0;
@@ -93,10 +93,10 @@ fn list_row(
     y: usize,
     top: usize,
 ) -> usize
-    requires { ⌜ Ranged (now words) base n nx ny ⌝ }
+    requires { ⌜ BinRanges (now words) base n nx ny ⌝ }
     requires { ⌜ Chains (now words) base n nx ny top (within i y 0) ⌝ }
-    requires { ⌜ (i < n) × (slotIn (now words) base i 1 ≤ y) × (y ≤ slotIn (now words) base i 3) ⌝ }
-    ensures { λ r. ⌜ Grown (now (words .entry)) (now (words .exit)) base n nx ny r (within i (y + 1) 0) ⌝ }
+    requires { ⌜ (i < n) × (rangeWord (now words) base i 1 ≤ y) × (y ≤ rangeWord (now words) base i 3) ⌝ }
+    ensures { λ r. ⌜ ListCellExit (now (words .entry)) (now (words .exit)) base n nx ny r (within i (y + 1) 0) ⌝ }
 {
     let x0 = slot(words, base, i, 0);
     let x1 = slot(words, base, i, 2);
@@ -123,10 +123,10 @@ fn list_cell(
     i: usize,
     top: usize,
 ) -> usize
-    requires { ⌜ Ranged (now words) base n nx ny ⌝ }
+    requires { ⌜ BinRanges (now words) base n nx ny ⌝ }
     requires { ⌜ Chains (now words) base n nx ny top (λ x y. i + 1) ⌝ }
     requires { ⌜ i < n ⌝ }
-    ensures { λ r. ⌜ Grown (now (words .entry)) (now (words .exit)) base n nx ny r (λ x y. i) ⌝ }
+    ensures { λ r. ⌜ ListCellExit (now (words .entry)) (now (words .exit)) base n nx ny r (λ x y. i) ⌝ }
 {
     let y0 = slot(words, base, i, 1);
     let y1 = slot(words, base, i, 3);
@@ -144,9 +144,9 @@ fn list_cell(
 
 // Lists every cell, from the last down, so that each chain rises; false where the pool does not suffice.
 fn fill(words: &mut [u32], base: usize, n: usize, nx: usize, ny: usize, top: usize) -> bool
-    requires { ⌜ Ranged (now words) base n nx ny ⌝ }
+    requires { ⌜ BinRanges (now words) base n nx ny ⌝ }
     requires { ⌜ Chains (now words) base n nx ny top (λ x y. n) ⌝ }
-    ensures { λ r. ⌜ Filled (now (words .entry)) (now (words .exit)) base n nx ny r ⌝ }
+    ensures { λ r. ⌜ FillExit (now (words .entry)) (now (words .exit)) base n nx ny r ⌝ }
 {
     let mut t = top;
     let mut i = n;
@@ -162,9 +162,9 @@ fn fill(words: &mut [u32], base: usize, n: usize, nx: usize, ny: usize, top: usi
 
 // The chains of all bins; false where the pool does not suffice.
 fn chain_all(words: &mut [u32], base: usize, n: usize, nx: usize, ny: usize) -> bool
-    requires { ⌜ Ranged (now words) base n nx ny ⌝ }
+    requires { ⌜ BinRanges (now words) base n nx ny ⌝ }
     requires { ⌜ nx * ny < 18446744073709551616 ⌝ }
-    ensures { λ r. ⌜ Filled (now (words .entry)) (now (words .exit)) base n nx ny r ⌝ }
+    ensures { λ r. ⌜ FillExit (now (words .entry)) (now (words .exit)) base n nx ny r ⌝ }
 {
     let heads = nx * ny;
     if heads > 72 * n {
@@ -176,9 +176,9 @@ fn chain_all(words: &mut [u32], base: usize, n: usize, nx: usize, ny: usize) -> 
 
 // The index of all cells, where it fits.
 pub fn build(words: &mut [u32], base: usize, n: usize, nx: usize, ny: usize)
-    requires { ⌜ Ranged (now words) base n nx ny ⌝ }
+    requires { ⌜ BinRanges (now words) base n nx ny ⌝ }
     requires { ⌜ (nx * ny < 18446744073709551616) × (0 < n) ⌝ }
-    ensures { λ _. ⌜ Built (now (words .entry)) (now (words .exit)) base n nx ny ⌝ }
+    ensures { λ _. ⌜ BuildExit (now (words .entry)) (now (words .exit)) base n nx ny ⌝ }
 {
     if chain_all(words, base, n, nx, ny) {
         set_flag(words, base, n, 1);

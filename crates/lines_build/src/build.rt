@@ -1,5 +1,5 @@
 // `StreamlineField::from_dataset`: every cell's polygon, in angle order, then the grid and the bins.
-use crate::corners;
+use crate::vertices;
 use arith::Vec2;
 use arith::Vec3;
 use arith_angles::angles;
@@ -18,11 +18,11 @@ ghost use Rattle.arith.specs.Lists as Lists;
 ghost use Rattle.arith.specs.Records.{puts};
 ghost use Rattle.mesh_area.specs.Tables.{cellAt};
 ghost use Rattle.mesh_area.specs.Layout.{floatsEnd, LentWords, LentFloats, pointsIn, meshIn, cellsIn};
-ghost use Rattle.lines_field.specs.Corners.{turnsAbout, cornersOf, polygonOf};
-ghost use Rattle.lines_field.specs.Contracts.{Few, cornerIn, cornersIn, polygonsIn, AnglesAbout, Placed, Stored, Kept, LimitStored, Traceable};
+ghost use Rattle.lines_field.specs.Vertices.{turnsAbout, cellVertices, polygonOf};
+ghost use Rattle.lines_field.specs.Contracts.{VertexLimit, vertexIn, verticesIn, polygonsIn, AnglesAboutExit, PolygonExit, PutPolygonExit, MeshKept, LimitCellExit, FromDatasetExit};
 ghost use Rattle.lines_field.specs.Field.{polygonsOf};
 ghost use Rattle.lines_polygon.specs.Vertices.{pairsFrom};
-ghost use Rattle.lines_locate.specs.Contracts.{Limited};
+ghost use Rattle.lines_locate.specs.Contracts.{HasLimits};
 
 // The quarters and slopes of the first n points about a centre.
 fn angles_about(
@@ -35,7 +35,7 @@ fn angles_about(
 )
     requires { ⌜ (n ≤ 24) × (length (now xs) ≡ 24) × (length (now ys) ≡ 24) × (length (now quarters) ≡ 24)
         × (length (now slopes) ≡ 24) ⌝ }
-    ensures { λ _. ⌜ AnglesAbout centre (now (xs .entry)) (now (ys .entry)) (now (quarters .exit)) (now (slopes .exit))
+    ensures { λ _. ⌜ AnglesAboutExit centre (now (xs .entry)) (now (ys .entry)) (now (quarters .exit)) (now (slopes .exit))
         n ⌝ }
 {
     let mut k = 0;
@@ -51,10 +51,10 @@ fn angles_about(
 }
 
 // The places of the first n points in angle order about a centre.
-fn sort_corners(xs: &[f64], ys: &[f64], n: usize, centre: Vec3, places: &mut [usize])
+fn sort_vertices(xs: &[f64], ys: &[f64], n: usize, centre: Vec3, places: &mut [usize])
     requires { ⌜ (n ≤ 24) × (length (now xs) ≡ 24) × (length (now ys) ≡ 24) × (length (now places) ≡ 24) ⌝ }
-    ensures { λ _. ⌜ (map (cornerIn (now (xs .entry)) (now (ys .entry))) (take n (now (places .exit))) ≡ Lists.sort
-        (turnsAbout centre) (cornersIn (now (xs .entry)) (now (ys .entry)) n))
+    ensures { λ _. ⌜ (map (vertexIn (now (xs .entry)) (now (ys .entry))) (take n (now (places .exit))) ≡ Lists.sort
+        (turnsAbout centre) (verticesIn (now (xs .entry)) (now (ys .entry)) n))
         × ((k : ℕ) → k < n → getD (now (places .exit)) k 0 < n) ⌝ }
 {
     let mut quarters = [0u64; 24];
@@ -64,10 +64,10 @@ fn sort_corners(xs: &[f64], ys: &[f64], n: usize, centre: Vec3, places: &mut [us
 }
 
 // Stores the points at their places, as x and y from `at` on.
-fn store_corners(floats: &mut [f64], at: usize, xs: &[f64], ys: &[f64], places: &[usize], n: usize)
+fn store_vertices(floats: &mut [f64], at: usize, xs: &[f64], ys: &[f64], places: &[usize], n: usize)
     requires { ⌜ (at + 48 ≤ length (now floats)) × (n ≤ 24) × (length (now xs) ≡ 24) × (length (now ys) ≡ 24)
         × (length (now places) ≡ 24) × ((k : ℕ) → k < n → getD (now places) k 0 < n) ⌝ }
-    ensures { λ _. ⌜ (pairsFrom (now (floats .exit)) at n ≡ map (cornerIn (now (xs .entry)) (now (ys .entry)))
+    ensures { λ _. ⌜ (pairsFrom (now (floats .exit)) at n ≡ map (vertexIn (now (xs .entry)) (now (ys .entry)))
         (take n (now (places .entry))))
         × (take at (now (floats .exit)) ≡ take at (now (floats .entry))) ⌝ }
 {
@@ -96,14 +96,14 @@ fn polygon(
     requires { ⌜ (points ≤ 65536) × (24 * points ≤ length (now case)) × LentWords s (now words)
         × LentFloats s (now floats) ⌝ }
     requires { ⌜ (length (now xs) ≡ 24) × (length (now ys) ≡ 24) × (length (now places) ≡ 24) ⌝ }
-    requires { ⌜ length (cornersOf (meshIn (pointsIn (now case) points) s (now words) (now floats))
+    requires { ⌜ length (cellVertices (meshIn (pointsIn (now case) points) s (now words) (now floats))
         (cellAt (cellsIn s (now words) (now floats)) i)) ≤ 24 ⌝ }
-    ensures { λ r. ⌜ Placed (polygonOf (meshIn (pointsIn (now (case .entry)) points) s (now (words .entry))
+    ensures { λ r. ⌜ PolygonExit (polygonOf (meshIn (pointsIn (now (case .entry)) points) s (now (words .entry))
         (now (floats .entry))) (cellAt (cellsIn s (now (words .entry)) (now (floats .entry))) i)) (now (xs .exit))
         (now (ys .exit)) (now (places .exit)) r ⌝ }
 {
-    let n = corners::corners(case, points, words, s, i, xs, ys);
-    sort_corners(xs, ys, n, mesh_area::centre_of(floats, s, i), places);
+    let n = vertices::cell_vertices(case, points, words, s, i, xs, ys);
+    sort_vertices(xs, ys, n, mesh_area::centre_of(floats, s, i), places);
     n
 }
 
@@ -121,10 +121,10 @@ fn store_polygon(
     requires { ⌜ LentWords s (now words) × LentFloats s (now floats) × (i < s .cells) ⌝ }
     requires { ⌜ (length (now xs) ≡ 24) × (length (now ys) ≡ 24) × (length (now places) ≡ 24) × (n ≤ 24)
         × ((k : ℕ) → k < n → getD (now places) k 0 < n) ⌝ }
-    ensures { λ _. ⌜ Stored (map (cornerIn (now (xs .entry)) (now (ys .entry))) (take n (now (places .entry)))) s
+    ensures { λ _. ⌜ PutPolygonExit (map (vertexIn (now (xs .entry)) (now (ys .entry))) (take n (now (places .entry)))) s
         (now (words .entry)) (now (words .exit)) (now (floats .entry)) (now (floats .exit)) i ⌝ }
 {
-    store_corners(floats, lines_locate::floats_at(s, i), xs, ys, places, n);
+    store_vertices(floats, lines_locate::floats_at(s, i), xs, ys, places, n);
     let at = lines_locate::words_at(s, i);
     words[at + 4] = n as u32;
 }
@@ -140,9 +140,9 @@ fn put_polygon(
 )
     requires { ⌜ (points ≤ 65536) × (24 * points ≤ length (now case)) × LentWords s (now words)
         × LentFloats s (now floats) × (i < s .cells) ⌝ }
-    requires { ⌜ length (cornersOf (meshIn (pointsIn (now case) points) s (now words) (now floats))
+    requires { ⌜ length (cellVertices (meshIn (pointsIn (now case) points) s (now words) (now floats))
         (cellAt (cellsIn s (now words) (now floats)) i)) ≤ 24 ⌝ }
-    ensures { λ _. ⌜ Stored (polygonOf (meshIn (pointsIn (now (case .entry)) points) s (now (words .entry))
+    ensures { λ _. ⌜ PutPolygonExit (polygonOf (meshIn (pointsIn (now (case .entry)) points) s (now (words .entry))
         (now (floats .entry))) (cellAt (cellsIn s (now (words .entry)) (now (floats .entry))) i)) s (now (words .entry))
         (now (words .exit)) (now (floats .entry)) (now (floats .exit)) i ⌝ }
 {
@@ -167,10 +167,10 @@ fn put_polygon(
 fn put_polygons(case: &[u8], points: usize, words: &mut [u32], floats: &mut [f64], s: Sizes)
     requires { ⌜ (points ≤ 65536) × (24 * points ≤ length (now case)) × LentWords s (now words)
         × LentFloats s (now floats) ⌝ }
-    requires { ⌜ Few (meshIn (pointsIn (now case) points) s (now words) (now floats)) ⌝ }
+    requires { ⌜ VertexLimit (meshIn (pointsIn (now case) points) s (now words) (now floats)) ⌝ }
     ensures { λ _. ⌜ (polygonsIn s (now (words .exit)) (now (floats .exit)) ≡ polygonsOf
         (meshIn (pointsIn (now (case .entry)) points) s (now (words .entry)) (now (floats .entry))))
-        × Kept s (now (words .entry)) (now (words .exit)) (now (floats .entry)) (now (floats .exit)) ⌝ }
+        × MeshKept s (now (words .entry)) (now (words .exit)) (now (floats .entry)) (now (floats .exit)) ⌝ }
 {
     let mut i = 0;
     while i < s.cells {
@@ -192,7 +192,7 @@ fn put_limits(floats: &mut [f64], at: usize, l: Limits)
 // Stores the limits of cell i's polygon with it.
 fn limit_cell(words: &[u32], floats: &mut [f64], s: Sizes, i: usize)
     requires { ⌜ LentWords s (now words) × LentFloats s (now floats) × (i < s .cells) ⌝ }
-    ensures { λ _. ⌜ LimitStored s (now (words .entry)) (now (floats .entry)) (now (floats .exit)) i ⌝ }
+    ensures { λ _. ⌜ LimitCellExit s (now (words .entry)) (now (floats .entry)) (now (floats .exit)) i ⌝ }
 {
     let at = lines_locate::floats_at(s, i);
     let l = extent::limits_of(floats, at, lines_locate::count_in(words, s, i));
@@ -205,7 +205,7 @@ fn limit_cells(words: &[u32], floats: &mut [f64], s: Sizes)
     ensures { λ _. ⌜ (polygonsIn s (now (words .entry)) (now (floats .exit)) ≡ polygonsIn s (now (words .entry))
         (now (floats .entry)))
         × (take (floatsEnd s) (now (floats .exit)) ≡ take (floatsEnd s) (now (floats .entry)))
-        × Limited s (now (words .entry)) (now (floats .exit)) ⌝ }
+        × HasLimits s (now (words .entry)) (now (floats .exit)) ⌝ }
 {
     let mut i = 0;
     while i < s.cells {
@@ -218,11 +218,11 @@ fn limit_cells(words: &[u32], floats: &mut [f64], s: Sizes)
 fn put_cells(case: &[u8], points: usize, words: &mut [u32], floats: &mut [f64], s: Sizes)
     requires { ⌜ (points ≤ 65536) × (24 * points ≤ length (now case)) × LentWords s (now words)
         × LentFloats s (now floats) ⌝ }
-    requires { ⌜ Few (meshIn (pointsIn (now case) points) s (now words) (now floats)) ⌝ }
+    requires { ⌜ VertexLimit (meshIn (pointsIn (now case) points) s (now words) (now floats)) ⌝ }
     ensures { λ _. ⌜ (polygonsIn s (now (words .exit)) (now (floats .exit)) ≡ polygonsOf
         (meshIn (pointsIn (now (case .entry)) points) s (now (words .entry)) (now (floats .entry))))
-        × Kept s (now (words .entry)) (now (words .exit)) (now (floats .entry)) (now (floats .exit))
-        × Limited s (now (words .exit)) (now (floats .exit)) ⌝ }
+        × MeshKept s (now (words .entry)) (now (words .exit)) (now (floats .entry)) (now (floats .exit))
+        × HasLimits s (now (words .exit)) (now (floats .exit)) ⌝ }
 {
     put_polygons(case, points, words, floats, s);
     limit_cells(words, floats, s);
@@ -238,10 +238,10 @@ pub fn from_dataset(
 ) -> Built
     requires { ⌜ (points ≤ 65536) × (24 * points ≤ length (now case)) × LentWords s (now words)
         × LentFloats s (now floats) ⌝ }
-    requires { ⌜ Few (meshIn (pointsIn (now case) points) s (now words) (now floats)) ⌝ }
-    ensures { λ r. ⌜ Traceable (meshIn (pointsIn (now (case .entry)) points) s (now (words .entry))
+    requires { ⌜ VertexLimit (meshIn (pointsIn (now case) points) s (now words) (now floats)) ⌝ }
+    ensures { λ r. ⌜ FromDatasetExit (meshIn (pointsIn (now (case .entry)) points) s (now (words .entry))
         (now (floats .entry))) s (now (words .exit)) (now (floats .exit)) r
-        × Kept s (now (words .entry)) (now (words .exit)) (now (floats .entry)) (now (floats .exit)) ⌝ }
+        × MeshKept s (now (words .entry)) (now (words .exit)) (now (floats .entry)) (now (floats .exit)) ⌝ }
 {
     put_cells(case, points, words, floats, s);
     let b = bounds::all_bounds(words, floats, s);

@@ -22,21 +22,21 @@ use Rattle.lines_locate.specs.declared.Bin.{Bin}
 use Rattle.lines_locate.specs.declared.Grid.{Grid}
 use Rattle.lines_field.specs.declared.Built.{Built}
 use Rattle.lines_field.specs.declared.Built.the-variants.{Made, Refused}
-use Rattle.lines_field.specs.Corners.{turnsAbout, cornersOf, polygonOf}
+use Rattle.lines_field.specs.Vertices.{turnsAbout, cellVertices, polygonOf}
 use Rattle.lines_field.specs.Bounds.{boundsOf}
 use Rattle.lines_field.specs.Bins.{binCounts, listedIn}
-use Rattle.lines_field.specs.Contracts.{Few, polygonsIn, cornerIn, cornersIn, Placed, Stored, Kept, Traceable}
+use Rattle.lines_field.specs.Contracts.{VertexLimit, polygonsIn, vertexIn, verticesIn, PolygonExit, PutPolygonExit, MeshKept, FromDatasetExit}
 use Rattle.lines_field.specs.Field.{polygonsOf, gridFor, gridOf, fieldOf, builtGrid}
 use Rattle.lines_locate.specs.Layout.{wordsAt, floatsAt, countIn, polygonIn, cellPolygonsIn, fieldIn}
-use Rattle.lines_locate.specs.Contracts.{Searchable}
+use Rattle.lines_locate.specs.Contracts.{LocateCellEntry}
 use Rattle.lines_polygon.specs.Vertices.{pairFrom, pairsFrom}
-use Rattle.lines_field.proofs.CornerLaws.{cell-corners-any}
+use Rattle.lines_field.proofs.VertexLaws.{cell-vertices-any}
 use Rattle.lines_field.proofs.GridLaws.{map-tab}
 
 -- ---- one cell
 
 pub store-polygon : (polygon : List Vec2) (s : Sizes) (w : List ℕ) (f f′ : List Float) (i at wat n : ℕ) → at ≡ floatsAt s i → wat ≡ wordsAt s i → pairsFrom f′ at n ≡ polygon
-    → take at f′ ≡ take at f → n ≤ 24 → wordsAt s i + 4 < length w → Stored polygon s w (set w (wat + 4) n) f f′ i
+    → take at f′ ≡ take at f → n ≤ 24 → wordsAt s i + 4 < length w → PutPolygonExit polygon s w (set w (wat + 4) n) f f′ i
 store-polygon polygon s w f f′ i at wat n ea ew e t few room =
     rw ew
     (record {
@@ -49,15 +49,15 @@ store-polygon polygon s w f f′ i at wat n ea ew e t few room =
     least = omega arith
 
 module _ (ps : List Vec3) (s : Sizes) (w : List ℕ) (f : List Float) (i : ℕ) where
-  pub few-corners : length (cornersOf (meshIn ps s w f) (cellAt (cellsIn s w f) i)) ≤ 24 → length (cornersOf (meshIn ps s w []) (cellAt (cellsIn s w []) i)) ≤ 24
-  few-corners h = rw (← (cell-corners-any ps s w f i)) h
+  pub few-polygon-vertices : length (cellVertices (meshIn ps s w f) (cellAt (cellsIn s w f) i)) ≤ 24 → length (cellVertices (meshIn ps s w []) (cellAt (cellsIn s w []) i)) ≤ 24
+  few-polygon-vertices h = rw (← (cell-vertices-any ps s w f i)) h
 
-  pub placed : (xs ys : List Float) (places : List ℕ) (n : ℕ) (centre : Vec3) → cornersIn xs ys n ≡ cornersOf (meshIn ps s w []) (cellAt (cellsIn s w []) i)
-      → centre ≡ cellAt (cellsIn s w f) i .centre → map (cornerIn xs ys) (take n places) ≡ sort (turnsAbout centre) (cornersIn xs ys n) → ((k : ℕ) → k < n → getD places k 0 < n) → n ≤ 24
-      → Placed (polygonOf (meshIn ps s w f) (cellAt (cellsIn s w f) i)) xs ys places n
+  pub placed : (xs ys : List Float) (places : List ℕ) (n : ℕ) (centre : Vec3) → verticesIn xs ys n ≡ cellVertices (meshIn ps s w []) (cellAt (cellsIn s w []) i)
+      → centre ≡ cellAt (cellsIn s w f) i .centre → map (vertexIn xs ys) (take n places) ≡ sort (turnsAbout centre) (verticesIn xs ys n) → ((k : ℕ) → k < n → getD places k 0 < n) → n ≤ 24
+      → PolygonExit (polygonOf (meshIn ps s w f) (cellAt (cellsIn s w f) i)) xs ys places n
   placed xs ys places n centre e ec h b few =
       record {
-        points = h ∙ (unfold polygonOf in ap₂ (λ (c : Vec3) (l : List Vec2). sort (turnsAbout c) l) ec (e ∙ sym (cell-corners-any ps s w f i)));
+        points = h ∙ (unfold polygonOf in ap₂ (λ (c : Vec3) (l : List Vec2). sort (turnsAbout c) l) ec (e ∙ sym (cell-vertices-any ps s w f i)));
         below = b;
         few = few;
       }
@@ -107,11 +107,11 @@ module _ (ps : List Vec3) (s : Sizes) (w₀ w : List ℕ) (f₀ f : List Float) 
   unfolding cellsIn meshWords meshFloats
   cells-same ew ef = rw (ew, ef)
 
-  pub building-fits : (i : ℕ) → Building ps s w₀ w f₀ f i → Few (meshIn ps s w₀ f₀) → length (cornersOf (meshIn ps s w f) (cellAt (cellsIn s w f) i)) ≤ 24
-  building-fits i b few = rw (mesh-same ps s w₀ w f₀ f (b .words) (b .floats), cells-same (b .words) (b .floats)) (unfold meshIn in few .corners i)
+  pub building-fits : (i : ℕ) → Building ps s w₀ w f₀ f i → VertexLimit (meshIn ps s w₀ f₀) → length (cellVertices (meshIn ps s w f) (cellAt (cellsIn s w f) i)) ≤ 24
+  building-fits i b few = rw (mesh-same ps s w₀ w f₀ f (b .words) (b .floats), cells-same (b .words) (b .floats)) (unfold meshIn in few .vertices i)
 
   pub building-turn : (w′ : List ℕ) (f′ : List Float) (i : ℕ) → Building ps s w₀ w f₀ f i → i < s .cells → length w′ ≡ length w → length f′ ≡ length f
-      → Stored (polygonOf (meshIn ps s w f) (cellAt (cellsIn s w f) i)) s w w′ f f′ i → Building ps s w₀ w′ f₀ f′ (i + 1)
+      → PutPolygonExit (polygonOf (meshIn ps s w f) (cellAt (cellsIn s w f) i)) s w w′ f f′ i → Building ps s w₀ w′ f₀ f′ (i + 1)
   building-turn w′ f′ i b h lw lf d =
       record {
         within = omega arith;
@@ -131,7 +131,7 @@ module _ (ps : List Vec3) (s : Sizes) (w₀ w : List ℕ) (f₀ f : List Float) 
             sym (take-take (floatsEnd s) (floatsAt s i) f′ less) ∙ ap (take (floatsEnd s)) (d .floats) ∙ take-take (floatsEnd s) (floatsAt s i) f less ∙ b .floats;
       }
 
-  pub building-end : (i : ℕ) → Building ps s w₀ w f₀ f i → s .cells ≤ i → (polygonsIn s w f ≡ polygonsOf (meshIn ps s w₀ f₀)) × Kept s w₀ w f₀ f
+  pub building-end : (i : ℕ) → Building ps s w₀ w f₀ f i → s .cells ≤ i → (polygonsIn s w f ≡ polygonsOf (meshIn ps s w₀ f₀)) × MeshKept s w₀ w f₀ f
   building-end i b h =
       let e : i ≡ s .cells = le-antisymm (b .within) h in
       let d : tab (polygonIn s w f) (s .cells) ≡ tab (λ j. polygonOf (meshIn ps s w₀ f₀) (cellAt (cellsIn s w₀ f₀) j)) (s .cells) =
@@ -151,21 +151,21 @@ pub lent-floats : (s : Sizes) (f f′ : List Float) → LentFloats s f → lengt
 lent-floats s f f′ l e = record { few-slots = l .few-slots; few-faces = l .few-faces; few-cells = l .few-cells; long = rw e (l .long) }
 
 module _ (ps : List Vec3) (s : Sizes) (w₀ w : List ℕ) (f₀ f : List Float) (b : Box) (n : Bin) (r : Built)
-    (polygons : polygonsIn s w f ≡ polygonsOf (meshIn ps s w₀ f₀)) (kept : Kept s w₀ w f₀ f) (eb : b ≡ boundsOf (flatten (polygonsIn s w f))) (en : n ≡ binCounts (s .cells) b)
+    (polygons : polygonsIn s w f ≡ polygonsOf (meshIn ps s w₀ f₀)) (kept : MeshKept s w₀ w f₀ f) (eb : b ≡ boundsOf (flatten (polygonsIn s w f))) (en : n ≡ binCounts (s .cells) b)
     (grid : builtGrid r ≡ gridFor b n) where
   result : builtGrid r ≡ gridOf (s .cells) (polygonsOf (meshIn ps s w₀ f₀))
   unfolding gridOf
   result = grid ∙ rw (en, eb, polygons)
 
-  pub refused-field : (k : ℕ) → r ≡ Refused k → Traceable (meshIn ps s w₀ f₀) s w f r × Kept s w₀ w f₀ f
+  pub refused-field : (k : ℕ) → r ≡ Refused k → FromDatasetExit (meshIn ps s w₀ f₀) s w f r × MeshKept s w₀ w f₀ f
   refused-field k e =
       (record { result = result; field = λ g q. absurd (never g q); searchable = λ g q. absurd (never g q) }, kept)
     where
       never : (g : Grid) → r ≡ Made g → ⊥
       never g q = let z : _≡_ {A = ℕ} 0 1 = cc in omega arith
 
-  pub made-field : (g : Grid) (w′ : List ℕ) → r ≡ Made g → cellPolygonsIn s w′ f ≡ map (listedIn g) (polygonsIn s w f) → take (wordsEnd s) w′ ≡ take (wordsEnd s) w → Searchable g s w′ f
-      → Traceable (meshIn ps s w₀ f₀) s w′ f (Made g) × Kept s w₀ w′ f₀ f
+  pub made-field : (g : Grid) (w′ : List ℕ) → r ≡ Made g → cellPolygonsIn s w′ f ≡ map (listedIn g) (polygonsIn s w f) → take (wordsEnd s) w′ ≡ take (wordsEnd s) w → LocateCellEntry g s w′ f
+      → FromDatasetExit (meshIn ps s w₀ f₀) s w′ f (Made g) × MeshKept s w₀ w′ f₀ f
   made-field g w′ e l t se =
       let tw : take (wordsEnd s) w′ ≡ take (wordsEnd s) w₀ = t ∙ kept .words in
       rw (← e)

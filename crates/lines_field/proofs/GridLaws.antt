@@ -26,11 +26,11 @@ use Rattle.lines_field.specs.declared.Built.{Built}
 use Rattle.lines_field.specs.declared.Built.the-variants.{Made, Refused}
 use Rattle.lines_field.specs.Bounds.{boundless, widened, boundsOf, lowCorner, highCorner}
 use Rattle.lines_locate.specs.Bins.{CellPolygon, binFor}
-use Rattle.lines_locate.specs.Contracts.{Binned}
+use Rattle.lines_locate.specs.Contracts.{HasBins}
 use Rattle.lines_field.specs.Bins.{listedIn, areFlat, areMany}
 use Rattle.lines_field.specs.Field.{gridFor, builtGrid}
 use Rattle.lines_locate.specs.Layout.{wordsAt, floatsAt, countIn, polygonIn, binFrom, cellPolygonIn, cellPolygonsIn}
-use Rattle.lines_field.specs.Contracts.{polygonsIn, Listed}
+use Rattle.lines_field.specs.Contracts.{polygonsIn, ListCellExit}
 use Rattle.lines_polygon.specs.Vertices.{pairFrom, pairsFrom}
 use Rattle.lines_polygon.proofs.Laws.{length-pairs, pairs-at}
 
@@ -38,26 +38,26 @@ use Rattle.lines_polygon.proofs.Laws.{length-pairs, pairs-at}
 
 -- what the answer says
 pub Answer : Built → Box → Bin → Type 0
-Answer r b n = (builtGrid r ≡ gridFor b n) × ((g : Grid) → r ≡ Made g → Binned g)
+Answer r b n = (builtGrid r ≡ gridFor b n) × ((g : Grid) → r ≡ Made g → HasBins g)
 
-never : (k : ℕ) (g : Grid) → Refused k ≡ Made g → Binned g
+never : (k : ℕ) (g : Grid) → Refused k ≡ Made g → HasBins g
 never k g e = absurd (let z : _≡_ {A = ℕ} 0 1 = cc in omega arith)
 
 module _ (b : Box) (n : Bin) where
-  pub grid-flat : areFlat b ≡ true → (builtGrid (Refused 18) ≡ gridFor b n) × ((g : Grid) → Refused 18 ≡ Made g → Binned g)
+  pub grid-flat : areFlat b ≡ true → (builtGrid (Refused 18) ≡ gridFor b n) × ((g : Grid) → Refused 18 ≡ Made g → HasBins g)
   unfolding gridFor builtGrid refuse _>>=_
   grid-flat e = (rw e, never 18)
 
-  pub grid-wide : areFlat b ≡ false → 65536 < n .x → (builtGrid (Refused 19) ≡ gridFor b n) × ((g : Grid) → Refused 19 ≡ Made g → Binned g)
+  pub grid-wide : areFlat b ≡ false → 65536 < n .x → (builtGrid (Refused 19) ≡ gridFor b n) × ((g : Grid) → Refused 19 ≡ Made g → HasBins g)
   unfolding gridFor builtGrid refuse _>>=_ areMany
   grid-wide e h = (rw (e, lt-ltb 65536 (n .x) h), never 19)
 
-  pub grid-high : areFlat b ≡ false → n .x ≤ 65536 → 65536 < n .y → (builtGrid (Refused 19) ≡ gridFor b n) × ((g : Grid) → Refused 19 ≡ Made g → Binned g)
+  pub grid-high : areFlat b ≡ false → n .x ≤ 65536 → 65536 < n .y → (builtGrid (Refused 19) ≡ gridFor b n) × ((g : Grid) → Refused 19 ≡ Made g → HasBins g)
   unfolding gridFor builtGrid refuse _>>=_ areMany
   grid-high e k h = (rw (e, le-ltb 65536 (n .x) k, lt-ltb 65536 (n .y) h), never 19)
 
   pub grid-made : areFlat b ≡ false → n .x ≤ 65536 → n .y ≤ 65536 → 0 < n .x → 0 < n .y
-      → (builtGrid (Made (record { bounds = b; bins = n })) ≡ gridFor b n) × ((g : Grid) → Made (record { bounds = b; bins = n }) ≡ Made g → Binned g)
+      → (builtGrid (Made (record { bounds = b; bins = n })) ≡ gridFor b n) × ((g : Grid) → Made (record { bounds = b; bins = n }) ≡ Made g → HasBins g)
   unfolding gridFor builtGrid refuse _>>=_ areMany
   grid-made e k h x y = (
     rw (e, le-ltb 65536 (n .x) k, le-ltb 65536 (n .y) h),
@@ -142,7 +142,7 @@ module _ (g : Grid) (s : Sizes) (w : List ℕ) (f : List Float) (i : ℕ) (first
       let b3 : getD stored (wordsAt s i + 2 + 1) 0 ≡ last .y = subst (λ (n : ℕ). getD stored n 0 ≡ last .y) t (at-bin 3 (omega arith)) in
       (rw (b0, b1), rw (b2, b3))
 
-  pub listed-cell : first ≡ binFor g (lowCorner (boundsOf (polygonIn s w f i))) → last ≡ binFor g (highCorner (boundsOf (polygonIn s w f i))) → Listed g s w stored f i
+  pub listed-cell : first ≡ binFor g (lowCorner (boundsOf (polygonIn s w f i))) → last ≡ binFor g (highCorner (boundsOf (polygonIn s w f i))) → ListCellExit g s w stored f i
   listed-cell ef el =
       record {
         here = unfold cellPolygonIn listedIn in rw (polygon-kept i, bins-here .0, bins-here .1, ← ef, ← el);
@@ -152,7 +152,7 @@ module _ (g : Grid) (s : Sizes) (w : List ℕ) (f : List Float) (i : ℕ) (first
 
 pub listed-by : (g : Grid) (s : Sizes) (w w′ : List ℕ) (f : List Float) (i : ℕ) (own b : Box) (at n wat : ℕ) (first last : Bin) → b ≡ boundless → at ≡ floatsAt s i
     → n ≡ countIn s w i → own ≡ fold widened b (pairsFrom f at n) → first ≡ binFor g (lowCorner own) → last ≡ binFor g (highCorner own) → wat ≡ wordsAt s i
-    → w′ ≡ puts w wat (first .x ∷ first .y ∷ last .x ∷ last .y ∷ []) → wordsAt s i + 4 ≤ length w → Listed g s w w′ f i
+    → w′ ≡ puts w wat (first .x ∷ first .y ∷ last .x ∷ last .y ∷ []) → wordsAt s i + 4 ≤ length w → ListCellExit g s w w′ f i
 listed-by g s w w′ f i own b at n wat first last eb ea en eo ef el ew e room =
     let o : own ≡ boundsOf (polygonIn s w f i) = unfold boundsOf polygonIn in eo ∙ rw (eb, ea, en) in
     rw (e, ew) (listed-cell g s w f i first last room (ef ∙ ap (λ (x : Box). binFor g (lowCorner x)) o) (el ∙ ap (λ (x : Box). binFor g (highCorner x)) o))
@@ -174,7 +174,7 @@ pub listing-start : (g : Grid) (s : Sizes) (w : List ℕ) (f : List Float) → L
 unfolding tab
 listing-start g s w f = record { within = omega arith; as-long = refl; done = refl; polygons = refl; before = refl }
 
-pub listing-turn : (g : Grid) (s : Sizes) (w₀ w w′ : List ℕ) (f : List Float) (i : ℕ) → Listing g s w₀ w f i → i < s .cells → length w′ ≡ length w → Listed g s w w′ f i
+pub listing-turn : (g : Grid) (s : Sizes) (w₀ w w′ : List ℕ) (f : List Float) (i : ℕ) → Listing g s w₀ w f i → i < s .cells → length w′ ≡ length w → ListCellExit g s w w′ f i
     → Listing g s w₀ w′ f (i + 1)
 listing-turn g s w₀ w w′ f i l h e d =
     record {

@@ -1,6 +1,6 @@
 pub mod LimitLaws
 pub mod GridLaws
 pub mod RangeLaws
-pub mod CornerLaws
+pub mod VertexLaws
 pub mod PolygonLaws
 pub mod BuildLaws

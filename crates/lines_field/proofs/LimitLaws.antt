@@ -18,8 +18,8 @@ use Rattle.lines_polygon.specs.Vertices.{pairFrom, pairsFrom}
 use Rattle.lines_polygon.specs.Extent.{Outside, limitsFrom, limitsOf}
 use Rattle.lines_polygon.proofs.LimitLaws.{limits-outside}
 use Rattle.lines_locate.specs.Layout.{wordsAt, floatsAt, countIn, polygonIn}
-use Rattle.lines_locate.specs.Contracts.{Limited}
-use Rattle.lines_field.specs.Contracts.{polygonsIn, Kept, LimitStored}
+use Rattle.lines_locate.specs.Contracts.{HasLimits}
+use Rattle.lines_field.specs.Contracts.{polygonsIn, MeshKept, LimitCellExit}
 
 -- ---- a cell
 
@@ -69,7 +69,7 @@ module _ (s : Sizes) (w : List ℕ) (f : List Float) (i : ℕ) (l : Limits) (roo
       let a : getD stored (floatsAt s i + 48) nan ≡ l .low = subst (λ (m : ℕ). getD stored m nan ≡ l .low) z (at-limit 0 (omega arith)) in
       rw (a, at-limit 1 (omega arith), at-limit 2 (omega arith))
 
-  pub limit-stored : (at n : ℕ) (f′ : List Float) → at ≡ floatsAt s i → n ≡ countIn s w i → l ≡ limitsOf (pairsFrom f at n) → f′ ≡ puts f (at + 48) vs → LimitStored s w f f′ i
+  pub limit-stored : (at n : ℕ) (f′ : List Float) → at ≡ floatsAt s i → n ≡ countIn s w i → l ≡ limitsOf (pairsFrom f at n) → f′ ≡ puts f (at + 48) vs → LimitCellExit s w f f′ i
   limit-stored at n f′ ea en el e =
       rw (e, ea)
       (record {
@@ -96,7 +96,7 @@ pub limiting-start : (s : Sizes) (w : List ℕ) (f : List Float) → Limiting s 
 limiting-start s w f = record { within = omega arith; long = refl; done = λ j h. absurd (omega arith); polygons = λ j. refl; mesh = refl }
 
 module _ (s : Sizes) (w : List ℕ) (f₀ f : List Float) (i : ℕ) (g : Limiting s w f₀ f i) where
-  pub limiting-turn : (f′ : List Float) → i < s .cells → length f′ ≡ length f → LimitStored s w f f′ i → Limiting s w f₀ f′ (i + 1)
+  pub limiting-turn : (f′ : List Float) → i < s .cells → length f′ ≡ length f → LimitCellExit s w f f′ i → Limiting s w f₀ f′ (i + 1)
   limiting-turn f′ h e t =
       record {
         within = omega arith;
@@ -110,17 +110,17 @@ module _ (s : Sizes) (w : List ℕ) (f₀ f : List Float) (i : ℕ) (g : Limitin
       by j (inl a) k = rw (t .polygons j, t .others j a) (g .done j a)
       by j (inr a) k = let e : j ≡ i = omega arith in rw e (t .here)
 
-  pub limiting-end : s .cells ≤ i → (polygonsIn s w f ≡ polygonsIn s w f₀) × (take (floatsEnd s) f ≡ take (floatsEnd s) f₀) × Limited s w f
+  pub limiting-end : s .cells ≤ i → (polygonsIn s w f ≡ polygonsIn s w f₀) × (take (floatsEnd s) f ≡ take (floatsEnd s) f₀) × HasLimits s w f
   limiting-end h =
       let e : i ≡ s .cells = le-antisymm (g .within) h in
       (unfold polygonsIn in tab-same _ _ (s .cells) (λ j k. g .polygons j), g .mesh, record { each = λ j k. g .done j (omega arith) })
 
 -- ---- the polygons and their limits
 
-pub cells-put : {P : List (List Vec2)} (s : Sizes) (w₀ w : List ℕ) (f₀ f f′ : List Float) → polygonsIn s w f ≡ P → Kept s w₀ w f₀ f → polygonsIn s w f′ ≡ polygonsIn s w f
-    → take (floatsEnd s) f′ ≡ take (floatsEnd s) f → Limited s w f′ → (polygonsIn s w f′ ≡ P) × Kept s w₀ w f₀ f′ × Limited s w f′
+pub cells-put : {P : List (List Vec2)} (s : Sizes) (w₀ w : List ℕ) (f₀ f f′ : List Float) → polygonsIn s w f ≡ P → MeshKept s w₀ w f₀ f → polygonsIn s w f′ ≡ polygonsIn s w f
+    → take (floatsEnd s) f′ ≡ take (floatsEnd s) f → HasLimits s w f′ → (polygonsIn s w f′ ≡ P) × MeshKept s w₀ w f₀ f′ × HasLimits s w f′
 cells-put s w₀ w f₀ f f′ p k e t l = (e ∙ p, record { words = k .words; floats = t ∙ k .floats }, l)
 
 -- other words that have the same polygons
-pub limited-words : (s : Sizes) (w w′ : List ℕ) (f : List Float) → ((i : ℕ) → i < s .cells → polygonIn s w′ f i ≡ polygonIn s w f i) → Limited s w f → Limited s w′ f
+pub limited-words : (s : Sizes) (w w′ : List ℕ) (f : List Float) → ((i : ℕ) → i < s .cells → polygonIn s w′ f i ≡ polygonIn s w f i) → HasLimits s w f → HasLimits s w′ f
 limited-words s w w′ f same l = record { each = λ i h. rw (same i h) (l .each i h) }

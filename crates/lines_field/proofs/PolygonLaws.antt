@@ -23,19 +23,19 @@ use Rattle.arith.proofs.All.{All}
 use Rattle.arith.proofs.RecordLaws.{length-tab, tab-next, tab-same}
 use Rattle.arith.proofs.SortLaws.{sort-snoc, length-sort, all-insert, map-sort}
 use Rattle.arith_angles.proofs.PlaceLaws.{place-below}
-use Rattle.lines_field.specs.Corners.{about, turnsAbout}
-use Rattle.lines_field.specs.Contracts.{cornerIn, cornersIn, AnglesAbout}
+use Rattle.lines_field.specs.Vertices.{about, turnsAbout}
+use Rattle.lines_field.specs.Contracts.{vertexIn, verticesIn, AnglesAboutExit}
 use Rattle.lines_polygon.specs.Vertices.{pairFrom, pairsFrom}
 use Rattle.lines_field.proofs.GridLaws.{map-tab}
 
 -- ---- the angles, one point after another
 
-pub angles-start : (c : Vec3) (xs ys : List Float) (q : List ℕ) (s : List Float) → AnglesAbout c xs ys q s 0
+pub angles-start : (c : Vec3) (xs ys : List Float) (q : List ℕ) (s : List Float) → AnglesAboutExit c xs ys q s 0
 angles-start c xs ys q s = record { each = λ k h. absurd (omega arith) }
 
-pub angles-turn : (c : Vec3) (xs ys : List Float) (q : List ℕ) (s : List Float) (k : ℕ) (a : Angle) → AnglesAbout c xs ys q s k
+pub angles-turn : (c : Vec3) (xs ys : List Float) (q : List ℕ) (s : List Float) (k : ℕ) (a : Angle) → AnglesAboutExit c xs ys q s k
     → a ≡ angleOf (pair (getD xs k nan ⊖ c .x) (getD ys k nan ⊖ c .y)) → k < length q → k < length s
-    → AnglesAbout c xs ys (set q k (a .quarter)) (set s k (a .slope)) (k + 1)
+    → AnglesAboutExit c xs ys (set q k (a .quarter)) (set s k (a .slope)) (k + 1)
 unfolding angleAt about
 angles-turn c xs ys q s k a inv e lq ls = record { each = λ j h. by j h (ℕ-discrete j k) }
   where
@@ -71,42 +71,42 @@ module _ (r r′ : ℕ → ℕ → Bool) (n : ℕ) (same : (i j : ℕ) → i < n
 
 -- ---- the places sorted by angle give the points sorted
 
-corners-map : (xs ys : List Float) (n : ℕ) → map (cornerIn xs ys) (upTo n) ≡ cornersIn xs ys n
-unfolding upTo cornersIn
-corners-map xs ys n = map-tab (cornerIn xs ys) (λ i. i) n
+vertices-map : (xs ys : List Float) (n : ℕ) → map (vertexIn xs ys) (upTo n) ≡ verticesIn xs ys n
+unfolding upTo verticesIn
+vertices-map xs ys n = map-tab (vertexIn xs ys) (λ i. i) n
 
-module _ (c : Vec3) (xs ys : List Float) (q : List ℕ) (s : List Float) (n : ℕ) (ang : AnglesAbout c xs ys q s n) where
-  angle-of-place : (i : ℕ) → i < n → angleAt (take n q) (take n s) i ≡ angleOf (about c (cornerIn xs ys i))
+module _ (c : Vec3) (xs ys : List Float) (q : List ℕ) (s : List Float) (n : ℕ) (ang : AnglesAboutExit c xs ys q s n) where
+  angle-of-place : (i : ℕ) → i < n → angleAt (take n q) (take n s) i ≡ angleOf (about c (vertexIn xs ys i))
   unfolding angleAt
   angle-of-place i h = rw (getD-take n q i 0 h, getD-take n s i nan h) (ang .each i h)
 
-  agree : (i j : ℕ) → i < n → j < n → earlier (take n q) (take n s) i j ≡ turnsAbout c (cornerIn xs ys i) (cornerIn xs ys j)
+  agree : (i j : ℕ) → i < n → j < n → earlier (take n q) (take n s) i j ≡ turnsAbout c (vertexIn xs ys i) (vertexIn xs ys j)
   unfolding earlier turnsAbout turnsBefore
   agree i j hi hj = rw (angle-of-place i hi, angle-of-place j hj)
 
-  pub sorted-corners : (places : List ℕ) → take n places ≡ sortedPlaces (take n q) (take n s) n → map (cornerIn xs ys) (take n places) ≡ sort (turnsAbout c) (cornersIn xs ys n)
+  pub sorted-vertices : (places : List ℕ) → take n places ≡ sortedPlaces (take n q) (take n s) n → map (vertexIn xs ys) (take n places) ≡ sort (turnsAbout c) (verticesIn xs ys n)
   unfolding sortedPlaces
-  sorted-corners places e =
-      ap (map (cornerIn xs ys)) (e ∙ sort-same (earlier (take n q) (take n s)) (λ i j. turnsAbout c (cornerIn xs ys i) (cornerIn xs ys j)) n agree n (omega arith))
-      ∙ map-sort (cornerIn xs ys) (turnsAbout c) (upTo n)
-      ∙ ap (sort (turnsAbout c)) (corners-map xs ys n)
+  sorted-vertices places e =
+      ap (map (vertexIn xs ys)) (e ∙ sort-same (earlier (take n q) (take n s)) (λ i j. turnsAbout c (vertexIn xs ys i) (vertexIn xs ys j)) n agree n (omega arith))
+      ∙ map-sort (vertexIn xs ys) (turnsAbout c) (upTo n)
+      ∙ ap (sort (turnsAbout c)) (vertices-map xs ys n)
 
   -- after the sort: the first n places
   pub sorted-all : (places part : List ℕ) → length (take n q) ≡ n → part ≡ sortedPlaces (take n q) (take n s) (length (take n q))
-      → (map (cornerIn xs ys) (take n (part ++ drop n places)) ≡ sort (turnsAbout c) (cornersIn xs ys n)) × ((k : ℕ) → k < n → getD (part ++ drop n places) k 0 < n)
+      → (map (vertexIn xs ys) (take n (part ++ drop n places)) ≡ sort (turnsAbout c) (verticesIn xs ys n)) × ((k : ℕ) → k < n → getD (part ++ drop n places) k 0 < n)
   sorted-all places part lq e =
       let l1 : length (sortedPlaces (take n q) (take n s) n) ≡ length (upTo n) = unfold sortedPlaces in length-sort (earlier (take n q) (take n s)) (upTo n) in
       let l2 : length (upTo n) ≡ n = unfold upTo in length-tab (λ i. i) n in
       let lp : length part ≡ n = ap length (rw lq at e) ∙ l1 ∙ l2 in
       let t : take n (part ++ drop n places) ≡ sortedPlaces (take n q) (take n s) n = take-at part (drop n places) n lp ∙ rw lq at e in
-      (sorted-corners (part ++ drop n places) t, λ k h. place-below (take n q) (take n s) (part ++ drop n places) n k t h)
+      (sorted-vertices (part ++ drop n places) t, λ k h. place-below (take n q) (take n s) (part ++ drop n places) n k t h)
 
 -- ---- storing, one point after another
 
 pub record Storing (floats₀ floats xs ys : List Float) (places : List ℕ) (at n k : ℕ) : Type 0 where
   pub within : k ≤ n
   pub as-long : length floats ≡ length floats₀
-  pub stored : pairsFrom floats at k ≡ map (cornerIn xs ys) (take k places)
+  pub stored : pairsFrom floats at k ≡ map (vertexIn xs ys) (take k places)
   pub before : take at floats ≡ take at floats₀
 
 pub storing-start : (floats xs ys : List Float) (places : List ℕ) (at n : ℕ) → Storing floats floats xs ys places at n 0
@@ -142,9 +142,9 @@ storing-turn floats₀ floats xs ys places at n k j s h e long room =
       stored =
           let in-floats : at + 2 * k + 1 < length floats = rw (s .as-long) room in
           pairs-next floats at k (getD xs j nan) (getD ys j nan) in-floats
-          ∙ ap₂ (λ (a : List Vec2) (b : Vec2). a ++ b ∷ []) (s .stored) (ap (cornerIn xs ys) e)
-          ∙ sym (map-append (cornerIn xs ys) (take k places) (getD places k 0 ∷ []))
-          ∙ ap (map (cornerIn xs ys)) (sym (take-suc places k 0 long) ∙ ap (λ (m : ℕ). take m places) (sym (add-one k)));
+          ∙ ap₂ (λ (a : List Vec2) (b : Vec2). a ++ b ∷ []) (s .stored) (ap (vertexIn xs ys) e)
+          ∙ sym (map-append (vertexIn xs ys) (take k places) (getD places k 0 ∷ []))
+          ∙ ap (map (vertexIn xs ys)) (sym (take-suc places k 0 long) ∙ ap (λ (m : ℕ). take m places) (sym (add-one k)));
       before =
           let le1 : at ≤ at + 2 * k = omega arith in
           let le2 : at ≤ at + 2 * k + 1 = omega arith in
@@ -152,7 +152,7 @@ storing-turn floats₀ floats xs ys places at n k j s h e long room =
     }
 
 pub storing-end : (floats₀ floats xs ys : List Float) (places : List ℕ) (at n k : ℕ) → Storing floats₀ floats xs ys places at n k → n ≤ k
-    → (pairsFrom floats at n ≡ map (cornerIn xs ys) (take n places)) × (take at floats ≡ take at floats₀)
+    → (pairsFrom floats at n ≡ map (vertexIn xs ys) (take n places)) × (take at floats ≡ take at floats₀)
 storing-end floats₀ floats xs ys places at n k s h =
     let e : k ≡ n = le-antisymm (s .within) h in
-    (subst (λ (m : ℕ). pairsFrom floats at m ≡ map (cornerIn xs ys) (take m places)) e (s .stored), s .before)
+    (subst (λ (m : ℕ). pairsFrom floats at m ≡ map (vertexIn xs ys) (take m places)) e (s .stored), s .before)

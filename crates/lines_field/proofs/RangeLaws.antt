@@ -10,12 +10,12 @@ use lib.Ieee.{Float}
 use Rattle.arith.proofs.RecordLaws.{tab-same, getD-tab}
 use Rattle.mesh_area.specs.declared.Sizes.{Sizes}
 use Rattle.mesh_area.specs.Layout.{wordsEnd, LentWords}
-use Rattle.lines_bins.specs.Index.{slotIn}
-use Rattle.lines_bins.specs.Contracts.{Ranged, Built}
+use Rattle.lines_bins.specs.Index.{rangeWord}
+use Rattle.lines_bins.specs.Contracts.{BinRanges, BuildExit}
 use Rattle.lines_bins.proofs.Laws.{bin-low}
 use Rattle.lines_locate.specs.declared.Grid.{Grid}
 use Rattle.lines_locate.specs.Bins.{CellPolygon, binAlong, binFor}
-use Rattle.lines_locate.specs.Contracts.{Binned, Limited, Searchable}
+use Rattle.lines_locate.specs.Contracts.{HasBins, HasLimits, LocateCellEntry}
 use Rattle.lines_field.specs.Bins.{listedIn}
 use Rattle.lines_locate.specs.Layout.{binFrom, polygonIn, cellPolygonIn, cellPolygonsIn}
 use Rattle.lines_field.specs.Contracts.{polygonsIn}
@@ -32,7 +32,7 @@ along-low : (low high : Float) (n : ℕ) (a : Float) → 0 < n → binAlong low 
 unfolding binAlong
 along-low low high n a h = mod-lt _ h
 
-module _ (g : Grid) (s : Sizes) (w w′ : List ℕ) (f : List Float) (l : cellPolygonsIn s w′ f ≡ map (listedIn g) (polygonsIn s w f)) (binned : Binned g) where
+module _ (g : Grid) (s : Sizes) (w w′ : List ℕ) (f : List Float) (l : cellPolygonsIn s w′ f ≡ map (listedIn g) (polygonsIn s w f)) (binned : HasBins g) where
   listed-at : (i : ℕ) → i < s .cells → cellPolygonIn s w′ f i ≡ listedIn g (polygonIn s w f i)
   unfolding cellPolygonsIn polygonsIn
   listed-at i h =
@@ -43,21 +43,21 @@ module _ (g : Grid) (s : Sizes) (w w′ : List ℕ) (f : List Float) (l : cellPo
   polygon-then : (i : ℕ) → i < s .cells → polygonIn s w′ f i ≡ polygonIn s w f i
   polygon-then i h = (unfold cellPolygonIn listedIn in ap (λ (c : CellPolygon). c .polygon) (listed-at i h))
 
-  last-x : (i : ℕ) → i < s .cells → slotIn w′ (wordsEnd s) i 2 < g .bins .x
+  last-x : (i : ℕ) → i < s .cells → rangeWord w′ (wordsEnd s) i 2 < g .bins .x
   last-x i h =
       let e : cellPolygonIn s w′ f i .last .x ≡ listedIn g (polygonIn s w f i) .last .x = ap (λ (c : CellPolygon). c .last .x) (listed-at i h) in
-      let d : cellPolygonIn s w′ f i .last .x ≡ slotIn w′ (wordsEnd s) i 2 = (unfold cellPolygonIn binFrom in refl) in
+      let d : cellPolygonIn s w′ f i .last .x ≡ rangeWord w′ (wordsEnd s) i 2 = (unfold cellPolygonIn binFrom in refl) in
       let k : listedIn g (polygonIn s w f i) .last .x < g .bins .x = (unfold listedIn binFor in along-low _ _ (g .bins .x) _ (binned .wide)) in
       rw (← d, e) k
 
-  last-y : (i : ℕ) → i < s .cells → slotIn w′ (wordsEnd s) i 3 < g .bins .y
+  last-y : (i : ℕ) → i < s .cells → rangeWord w′ (wordsEnd s) i 3 < g .bins .y
   last-y i h =
       let e : cellPolygonIn s w′ f i .last .y ≡ listedIn g (polygonIn s w f i) .last .y = ap (λ (c : CellPolygon). c .last .y) (listed-at i h) in
-      let d : cellPolygonIn s w′ f i .last .y ≡ slotIn w′ (wordsEnd s) i 3 = (unfold cellPolygonIn binFrom in last-slot s w′ f i) in
+      let d : cellPolygonIn s w′ f i .last .y ≡ rangeWord w′ (wordsEnd s) i 3 = (unfold cellPolygonIn binFrom in last-slot s w′ f i) in
       let k : listedIn g (polygonIn s w f i) .last .y < g .bins .y = (unfold listedIn binFor in along-low _ _ (g .bins .y) _ (binned .high)) in
       rw (← d, e) k
 
-  pub ranged : LentWords s w′ → Ranged w′ (wordsEnd s) (s .cells) (g .bins .x) (g .bins .y)
+  pub ranged : LentWords s w′ → BinRanges w′ (wordsEnd s) (s .cells) (g .bins .x) (g .bins .y)
   ranged lent =
       record {
         some = mul-some (g .bins .x) (g .bins .y) (binned .wide) (binned .high);
@@ -68,8 +68,8 @@ module _ (g : Grid) (s : Sizes) (w w′ : List ℕ) (f : List Float) (l : cellPo
         high = last-y;
       }
 
-  pub indexed-cells : (w″ : List ℕ) → take (wordsEnd s) w′ ≡ take (wordsEnd s) w → Built w′ w″ (wordsEnd s) (s .cells) (g .bins .x) (g .bins .y) → Limited s w f
-      → (cellPolygonsIn s w″ f ≡ map (listedIn g) (polygonsIn s w f)) × (take (wordsEnd s) w″ ≡ take (wordsEnd s) w) × Searchable g s w″ f
+  pub indexed-cells : (w″ : List ℕ) → take (wordsEnd s) w′ ≡ take (wordsEnd s) w → BuildExit w′ w″ (wordsEnd s) (s .cells) (g .bins .x) (g .bins .y) → HasLimits s w f
+      → (cellPolygonsIn s w″ f ≡ map (listedIn g) (polygonsIn s w f)) × (take (wordsEnd s) w″ ≡ take (wordsEnd s) w) × LocateCellEntry g s w″ f
   indexed-cells w″ t bu lim =
       (kept ∙ l, take-less w″ w′ (bu .cells) ∙ t, record { binned = binned; index = λ some e. bu .index e; limits = limited-words s w w″ f (λ i h. polygon-now i h ∙ polygon-then i h) lim })
     where
@@ -85,10 +85,10 @@ module _ (g : Grid) (s : Sizes) (w w′ : List ℕ) (f : List Float) (l : cellPo
           let less : wordsEnd s ≤ wordsEnd s + 8 * s .cells = omega arith in
           sym (take-take (wordsEnd s) (wordsEnd s + 8 * s .cells) a less) ∙ ap (take (wordsEnd s)) e ∙ take-take (wordsEnd s) (wordsEnd s + 8 * s .cells) b less
 
-  pub none-indexed : s .cells ≤ 0 → take (wordsEnd s) w′ ≡ take (wordsEnd s) w → Limited s w f
-      → (cellPolygonsIn s w′ f ≡ map (listedIn g) (polygonsIn s w f)) × (take (wordsEnd s) w′ ≡ take (wordsEnd s) w) × Searchable g s w′ f
+  pub none-indexed : s .cells ≤ 0 → take (wordsEnd s) w′ ≡ take (wordsEnd s) w → HasLimits s w f
+      → (cellPolygonsIn s w′ f ≡ map (listedIn g) (polygonsIn s w f)) × (take (wordsEnd s) w′ ≡ take (wordsEnd s) w) × LocateCellEntry g s w′ f
   none-indexed few t lim = (l, t, record { binned = binned; index = λ some e. absurd (omega arith); limits = limited-words s w w′ f polygon-then lim })
 
 -- the bins of a grid are not too many to count
-pub bins-count : (g : Grid) → Binned g → g .bins .x * g .bins .y < 18446744073709551616
+pub bins-count : (g : Grid) → HasBins g → g .bins .x * g .bins .y < 18446744073709551616
 bins-count g b = let m = mul-le-mul (b .few-wide) (b .few-high) in omega arith

@@ -17,10 +17,10 @@ use Rattle.mesh_area.specs.Layout.{wordsEnd, floatsEnd}
 use Rattle.lines_polygon.specs.Extent.{Outside, limitsFrom}
 use Rattle.lines_locate.specs.declared.Grid.{Grid}
 use Rattle.lines_locate.specs.Layout.{wordsAt, floatsAt, polygonIn, cellPolygonIn, fieldIn}
-use Rattle.lines_locate.specs.Contracts.{Searchable}
+use Rattle.lines_locate.specs.Contracts.{LocateCellEntry}
 use Rattle.lines_field.specs.declared.Built.{Built}
 use Rattle.lines_field.specs.declared.Built.the-variants.{Made}
-use Rattle.lines_field.specs.Corners.{about, cornersOf}
+use Rattle.lines_field.specs.Vertices.{about, cellVertices}
 use Rattle.lines_field.specs.Bins.{listedIn, binCounts}
 use Rattle.lines_field.specs.Field.{gridOf, polygonsOf, fieldOf, builtGrid}
 use Rattle.lines_locate.specs.declared.Bin.{Bin}
@@ -31,66 +31,66 @@ unfoldable pub polygonsIn : Sizes → List ℕ → List Float → List (List Vec
 polygonsIn s words floats = tab (polygonIn s words floats) (s .cells)
 
 -- point k of those whose x and y stand in two lists
-abbrev pub cornerIn : List Float → List Float → ℕ → Vec2
-cornerIn xs ys k = pair (getD xs k nan) (getD ys k nan)
+abbrev pub vertexIn : List Float → List Float → ℕ → Vec2
+vertexIn xs ys k = pair (getD xs k nan) (getD ys k nan)
 
 -- the first n of them
-unfoldable pub cornersIn : List Float → List Float → ℕ → List Vec2
-cornersIn xs ys n = tab (cornerIn xs ys) n
+unfoldable pub verticesIn : List Float → List Float → ℕ → List Vec2
+verticesIn xs ys n = tab (vertexIn xs ys) n
 
 -- the points of a list are the first n; what stands behind them is as it was
-pub record Collected (l : List Vec2) (xs xs′ ys ys′ : List Float) (n : ℕ) : Type 0 where
-  pub points : cornersIn xs′ ys′ n ≡ l
+pub record VerticesExit (l : List Vec2) (xs xs′ ys ys′ : List Float) (n : ℕ) : Type 0 where
+  pub points : verticesIn xs′ ys′ n ≡ l
   pub few : n ≤ 24
   pub xs-behind : drop n xs′ ≡ drop n xs
   pub ys-behind : drop n ys′ ≡ drop n ys
 
 -- the mesh's part of the area is as it was
-pub record Kept (s : Sizes) (w w′ : List ℕ) (f f′ : List Float) : Type 0 where
+pub record MeshKept (s : Sizes) (w w′ : List ℕ) (f f′ : List Float) : Type 0 where
   pub words : take (wordsEnd s) w′ ≡ take (wordsEnd s) w
   pub floats : take (floatsEnd s) f′ ≡ take (floatsEnd s) f
 
 -- the angle of each of the first n points about a centre
-pub record AnglesAbout (c : Vec3) (xs ys : List Float) (quarters : List ℕ) (slopes : List Float) (n : ℕ) : Type 0 where
-  pub each : (k : ℕ) → k < n → angleAt quarters slopes k ≡ angleOf (about c (cornerIn xs ys k))
+pub record AnglesAboutExit (c : Vec3) (xs ys : List Float) (quarters : List ℕ) (slopes : List Float) (n : ℕ) : Type 0 where
+  pub each : (k : ℕ) → k < n → angleAt quarters slopes k ≡ angleOf (about c (vertexIn xs ys k))
 
 -- the first n places give the points of a polygon
-pub record Placed (polygon : List Vec2) (xs ys : List Float) (places : List ℕ) (n : ℕ) : Type 0 where
-  pub points : map (cornerIn xs ys) (take n places) ≡ polygon
+pub record PolygonExit (polygon : List Vec2) (xs ys : List Float) (places : List ℕ) (n : ℕ) : Type 0 where
+  pub points : map (vertexIn xs ys) (take n places) ≡ polygon
   pub below : (k : ℕ) → k < n → getD places k 0 < n
   pub few : n ≤ 24
 
 -- cell i's polygon stands in the area, and nothing before it is changed
-pub record Stored (polygon : List Vec2) (s : Sizes) (w w′ : List ℕ) (f f′ : List Float) (i : ℕ) : Type 0 where
+pub record PutPolygonExit (polygon : List Vec2) (s : Sizes) (w w′ : List ℕ) (f f′ : List Float) (i : ℕ) : Type 0 where
   pub here : polygonIn s w′ f′ i ≡ polygon
   pub words : take (wordsAt s i) w′ ≡ take (wordsAt s i) w
   pub floats : take (floatsAt s i) f′ ≡ take (floatsAt s i) f
 
 -- cell i is listed in its bins, and no other record is changed
-pub record Listed (g : Grid) (s : Sizes) (w w′ : List ℕ) (f : List Float) (i : ℕ) : Type 0 where
+pub record ListCellExit (g : Grid) (s : Sizes) (w w′ : List ℕ) (f : List Float) (i : ℕ) : Type 0 where
   pub here : cellPolygonIn s w′ f i ≡ listedIn g (polygonIn s w f i)
   pub before : take (wordsAt s i) w′ ≡ take (wordsAt s i) w
   pub polygons : polygonsIn s w′ f ≡ polygonsIn s w f
 
 -- cell i has its limits; no polygon, no other cell's limits and nothing of the mesh is changed
-pub record LimitStored (s : Sizes) (w : List ℕ) (f f′ : List Float) (i : ℕ) : Type 0 where
+pub record LimitCellExit (s : Sizes) (w : List ℕ) (f f′ : List Float) (i : ℕ) : Type 0 where
   pub here : Outside (polygonIn s w f′ i) (limitsFrom f′ (floatsAt s i + 48))
   pub polygons : (j : ℕ) → polygonIn s w f′ j ≡ polygonIn s w f j
   pub others : (j : ℕ) → j < i → limitsFrom f′ (floatsAt s j + 48) ≡ limitsFrom f (floatsAt s j + 48)
   pub mesh : take (floatsEnd s) f′ ≡ take (floatsEnd s) f
 
 -- the refusal, or the field of the mesh
-pub record Traceable (m : Mesh) (s : Sizes) (words′ : List ℕ) (floats′ : List Float) (r : Built) : Type 0 where
+pub record FromDatasetExit (m : Mesh) (s : Sizes) (words′ : List ℕ) (floats′ : List Float) (r : Built) : Type 0 where
   pub result : builtGrid r ≡ gridOf (s .cells) (polygonsOf m)
   pub field : (g : Grid) → r ≡ Made g → fieldOf m ≡ fine (fieldIn g s words′ floats′)
-  pub searchable : (g : Grid) → r ≡ Made g → Searchable g s words′ floats′
+  pub searchable : (g : Grid) → r ≡ Made g → LocateCellEntry g s words′ floats′
 
 -- what `bin_counts` promises
-pub record Counted (cells : ℕ) (b : Box) (n : Bin) : Type 0 where
+pub record BinCountsExit (cells : ℕ) (b : Box) (n : Bin) : Type 0 where
   pub counts : n ≡ binCounts cells b
   pub wide : 0 < n .x
   pub high : 0 < n .y
 
 -- what the mesh promises of a 2D case: "0 has a count (at most 24)"
-pub record Few (m : Mesh) : Type 0 where
-  pub corners : (i : ℕ) → length (cornersOf m (cellAt (m .cells) i)) ≤ 24
+pub record VertexLimit (m : Mesh) : Type 0 where
+  pub vertices : (i : ℕ) → length (cellVertices m (cellAt (m .cells) i)) ≤ 24

@@ -11,7 +11,7 @@ use Rattle.lines_locate.specs.declared.Bin.{Bin}
 use Rattle.lines_locate.specs.declared.Grid.{Grid}
 use Rattle.lines_field.specs.declared.Built.{Built}
 use Rattle.lines_field.specs.declared.Built.the-variants.{Made, Refused}
-use Rattle.lines_field.specs.Corners.{polygonOf}
+use Rattle.lines_field.specs.Vertices.{polygonOf}
 use Rattle.lines_field.specs.Bounds.{boundsOf}
 use Rattle.lines_locate.specs.Field.{StreamlineField}
 use Rattle.lines_field.specs.Bins.{listedIn, binCounts, areFlat, areMany}

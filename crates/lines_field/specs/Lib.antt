@@ -1,4 +1,4 @@
-pub mod Corners
+pub mod Vertices
 pub mod Bounds
 pub mod Bins
 pub mod Field

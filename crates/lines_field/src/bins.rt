@@ -16,9 +16,9 @@ ghost use lib.ListN.{length, take};
 ghost use Rattle.arith.specs.Records.{puts};
 ghost use Rattle.mesh_area.specs.Layout.{wordsEnd, LentWords, LentFloats};
 ghost use Rattle.lines_field.specs.Bins as Bins;
-ghost use Rattle.lines_locate.specs.Contracts.{Binned, Limited, Searchable};
+ghost use Rattle.lines_locate.specs.Contracts.{HasBins, HasLimits, LocateCellEntry};
 ghost use Rattle.lines_field.specs.Bins.{listedIn};
-ghost use Rattle.lines_field.specs.Contracts.{Counted, polygonsIn, Listed};
+ghost use Rattle.lines_field.specs.Contracts.{BinCountsExit, polygonsIn, ListCellExit};
 ghost use Rattle.lines_field.specs.Field.{gridFor, builtGrid};
 ghost use Rattle.lines_locate.specs.Layout.{cellPolygonsIn};
 
@@ -46,7 +46,7 @@ fn aspect(b: Box) -> f64
 // The bin counts for so many cells in a box.
 pub fn bin_counts(cells: usize, b: Box) -> Bin
     requires { ⌜ cells ≤ 16384 ⌝ }
-    ensures { λ r. ⌜ Counted cells b r ⌝ }
+    ensures { λ r. ⌜ BinCountsExit cells b r ⌝ }
 {
     let count = at_least_one(cells) as f64;
     let ratio = aspect(b);
@@ -77,7 +77,7 @@ fn are_flat(b: Box) -> bool
 // The grid, or the refusal.
 pub fn grid_for(b: Box, n: Bin) -> Built
     requires { ⌜ (0 < n .x) × (0 < n .y) ⌝ }
-    ensures { λ r. ⌜ (builtGrid r ≡ gridFor b n) × ((g : Grid) → r ≡ Built.Made g → Binned g) ⌝ }
+    ensures { λ r. ⌜ (builtGrid r ≡ gridFor b n) × ((g : Grid) → r ≡ Built.Made g → HasBins g) ⌝ }
 {
     if are_flat(b) {
         return Built::Refused(18);
@@ -105,8 +105,8 @@ fn put_bins(words: &mut [u32], at: usize, first: Bin, last: Bin)
 
 // Lists cell i in the bins from its low corner's to its high corner's.
 fn list_cell(words: &mut [u32], floats: &[f64], s: Sizes, g: Grid, i: usize)
-    requires { ⌜ LentWords s (now words) × LentFloats s (now floats) × Binned g × (i < s .cells) ⌝ }
-    ensures { λ _. ⌜ Listed g s (now (words .entry)) (now (words .exit)) (now (floats .entry)) i ⌝ }
+    requires { ⌜ LentWords s (now words) × LentFloats s (now floats) × HasBins g × (i < s .cells) ⌝ }
+    ensures { λ _. ⌜ ListCellExit g s (now (words .entry)) (now (words .exit)) (now (floats .entry)) i ⌝ }
 {
     let n = lines_locate::count_in(words, s, i);
     let own = bounds::widened_by(
@@ -134,7 +134,7 @@ fn list_cell(words: &mut [u32], floats: &[f64], s: Sizes, g: Grid, i: usize)
 
 // Lists every cell.
 fn list_cells(words: &mut [u32], floats: &[f64], s: Sizes, g: Grid)
-    requires { ⌜ LentWords s (now words) × LentFloats s (now floats) × Binned g ⌝ }
+    requires { ⌜ LentWords s (now words) × LentFloats s (now floats) × HasBins g ⌝ }
     ensures { λ _. ⌜ (cellPolygonsIn s (now (words .exit)) (now (floats .entry)) ≡ map (listedIn g)
         (polygonsIn s (now (words .entry)) (now (floats .entry))))
         × (take (wordsEnd s) (now (words .exit)) ≡ take (wordsEnd s) (now (words .entry))) ⌝ }
@@ -148,11 +148,11 @@ fn list_cells(words: &mut [u32], floats: &[f64], s: Sizes, g: Grid)
 
 // Lists every cell, and builds the index of the bins.
 pub fn index_cells(words: &mut [u32], floats: &[f64], s: Sizes, g: Grid)
-    requires { ⌜ LentWords s (now words) × LentFloats s (now floats) × Binned g × Limited s (now words) (now floats) ⌝ }
+    requires { ⌜ LentWords s (now words) × LentFloats s (now floats) × HasBins g × HasLimits s (now words) (now floats) ⌝ }
     ensures { λ _. ⌜ (cellPolygonsIn s (now (words .exit)) (now (floats .entry)) ≡ map (listedIn g)
         (polygonsIn s (now (words .entry)) (now (floats .entry))))
         × (take (wordsEnd s) (now (words .exit)) ≡ take (wordsEnd s) (now (words .entry)))
-        × Searchable g s (now (words .exit)) (now (floats .entry)) ⌝ }
+        × LocateCellEntry g s (now (words .exit)) (now (floats .entry)) ⌝ }
 {
     list_cells(words, floats, s, g);
     if s.cells > 0 {

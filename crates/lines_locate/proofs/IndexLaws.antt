@@ -15,8 +15,8 @@ use Rattle.arith.specs.declared.Found.{Found}
 use Rattle.arith.specs.declared.Found.the-variants.{At, Nothing}
 use Rattle.mesh_area.specs.declared.Sizes.{Sizes}
 use Rattle.mesh_area.specs.Layout.{wordsEnd}
-use Rattle.lines_bins.specs.Index.{slotIn, reaches, inBin, poolIn, Chain}
-use Rattle.lines_bins.specs.Contracts.{Indexed}
+use Rattle.lines_bins.specs.Index.{rangeWord, reaches, inBin, poolIn, Chain}
+use Rattle.lines_bins.specs.Contracts.{BinIndex}
 use Rattle.lines_bins.proofs.Laws.{Opened, opened, closed, bin-low}
 use Rattle.lines_locate.specs.declared.Bin.{Bin}
 use Rattle.lines_locate.specs.Bins.{isListed}
@@ -28,10 +28,10 @@ use Rattle.lines_locate.proofs.LocateLaws.{locate-here, locate-next, lo
 -- ---- listed in a bin, by the words
 
 module _ (s : Sizes) (w : List ℕ) (f : List Float) (i : ℕ) where
-  first-slot : getD w (wordsAt s i) 0 ≡ slotIn w (wordsEnd s) i 0
+  first-slot : getD w (wordsAt s i) 0 ≡ rangeWord w (wordsEnd s) i 0
   first-slot = let e : wordsAt s i ≡ wordsEnd s + 8 * i + 0 = omega arith in ap (λ (k : ℕ). getD w k 0) e
 
-  pub last-slot : getD w (wordsAt s i + 2 + 1) 0 ≡ slotIn w (wordsEnd s) i 3
+  pub last-slot : getD w (wordsAt s i + 2 + 1) 0 ≡ rangeWord w (wordsEnd s) i 3
   last-slot = let e : wordsAt s i + 2 + 1 ≡ wordsEnd s + 8 * i + 3 = omega arith in ap (λ (k : ℕ). getD w k 0) e
 
   listed-in : (b : Bin) → isListed b (cellPolygonIn s w f i) ≡ inBin w (wordsEnd s) (b .x) (b .y) i
@@ -76,7 +76,7 @@ pub record Going (s : Sizes) (w : List ℕ) (f : List Float) (n b : Bin) (q : Ve
   pub below : at ≤ s .cells
   pub same : firstFrom (holds b q) at (drop at (cellPolygonsIn s w f)) ≡ firstFrom (holds b q) 0 (cellPolygonsIn s w f)
 
-pub go-start : (s : Sizes) (w : List ℕ) (f : List Float) (n b : Bin) (q : Vec2) (base bin h : ℕ) → Indexed w (wordsEnd s) (s .cells) (n .x) (n .y) → b .x < n .x → b .y < n .y
+pub go-start : (s : Sizes) (w : List ℕ) (f : List Float) (n b : Bin) (q : Vec2) (base bin h : ℕ) → BinIndex w (wordsEnd s) (s .cells) (n .x) (n .y) → b .x < n .x → b .y < n .y
     → base ≡ wordsEnd s → bin ≡ n .x * b .y + b .x → h ≡ poolIn w base (s .cells) bin → Going s w f n b q h
 go-start s w f n b q base bin h ix hx hy ea eb eh =
     record {

@@ -21,7 +21,7 @@ use Rattle.lines_polygon.specs.Contains.{contains}
 use Rattle.lines_polygon.specs.Extent.{limitsFrom, misses}
 use Rattle.lines_polygon.proofs.LimitLaws.{missed}
 use Rattle.lines_locate.specs.Layout.{floatsAt, polygonIn, cellPolygonIn, cellPolygonsIn}
-use Rattle.lines_locate.specs.Contracts.{Limited}
+use Rattle.lines_locate.specs.Contracts.{HasLimits}
 
 pub bin-of : (low high a z : Float) (n k : ℕ) → z ≡ clamp ((a ⊖ low) ⊘ (high ⊖ low)) → k ≡ floorℕ (z ⊗ ofℕ n) → k % n ≡ binAlong low high n a
 unfolding binAlong
@@ -57,7 +57,7 @@ module _ (s : Sizes) (words : List ℕ) (floats : List Float) where
 
 -- ---- a point that misses the limits of a cell
 
-pub missed-cell : (s : Sizes) (w : List ℕ) (f : List Float) (i at : ℕ) (l : Limits) (q : Vec2) (t : Bool) → Limited s w f → i < s .cells → at ≡ floatsAt s i → l ≡ limitsFrom f (at + 48)
+pub missed-cell : (s : Sizes) (w : List ℕ) (f : List Float) (i at : ℕ) (l : Limits) (q : Vec2) (t : Bool) → HasLimits s w f → i < s .cells → at ≡ floatsAt s i → l ≡ limitsFrom f (at + 48)
     → t ≡ misses l q → t ≡ true → false ≡ contains q (polygonIn s w f i)
 missed-cell s w f i at l q t lim h ea el et e =
     sym (missed (polygonIn s w f i) l q (rw (el, ea) (lim .each i h)) t et e)

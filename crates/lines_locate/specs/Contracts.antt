@@ -6,24 +6,24 @@ use lib.Ieee.{Float}
 use Rattle.mesh_area.specs.declared.Sizes.{Sizes}
 use Rattle.mesh_area.specs.Layout.{wordsEnd}
 use Rattle.lines_bins.specs.Index.{flagIn}
-use Rattle.lines_bins.specs.Contracts.{Indexed}
+use Rattle.lines_bins.specs.Contracts.{BinIndex}
 use Rattle.lines_polygon.specs.Extent.{Outside, limitsFrom}
 use Rattle.lines_locate.specs.declared.Grid.{Grid}
 use Rattle.lines_locate.specs.Layout.{floatsAt, polygonIn}
 
 -- no polygon contains a point outside of the limits that stand with it
-pub record Limited (s : Sizes) (words : List ℕ) (floats : List Float) : Type 0 where
+pub record HasLimits (s : Sizes) (words : List ℕ) (floats : List Float) : Type 0 where
   pub each : (i : ℕ) → i < s .cells → Outside (polygonIn s words floats i) (limitsFrom floats (floatsAt s i + 48))
 
 -- what `bin_for` needs of a grid
-pub record Binned (g : Grid) : Type 0 where
+pub record HasBins (g : Grid) : Type 0 where
   pub wide : 0 < g .bins .x
   pub high : 0 < g .bins .y
   pub few-wide : g .bins .x ≤ 65536
   pub few-high : g .bins .y ≤ 65536
 
 -- a grid with bins; the index, where it stands, lists the cells of each bin; the polygons have limits
-pub record Searchable (g : Grid) (s : Sizes) (words : List ℕ) (floats : List Float) : Type 0 where
-  pub binned : Binned g
-  pub index : 0 < s .cells → flagIn words (wordsEnd s) (s .cells) ≡ 1 → Indexed words (wordsEnd s) (s .cells) (g .bins .x) (g .bins .y)
-  pub limits : Limited s words floats
+pub record LocateCellEntry (g : Grid) (s : Sizes) (words : List ℕ) (floats : List Float) : Type 0 where
+  pub binned : HasBins g
+  pub index : 0 < s .cells → flagIn words (wordsEnd s) (s .cells) ≡ 1 → BinIndex words (wordsEnd s) (s .cells) (g .bins .x) (g .bins .y)
+  pub limits : HasLimits s words floats

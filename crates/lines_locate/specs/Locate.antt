@@ -14,8 +14,8 @@ use Rattle.lines_locate.specs.declared.Grid.{Grid}
 use Rattle.lines_locate.specs.Bins.{CellPolygon, binFor, isListed}
 
 -- a point without its height
-unfoldable pub flat : Vec3 → Vec2
-flat p = pair (p .x) (p .y)
+unfoldable pub xyOf : Vec3 → Vec2
+xyOf p = pair (p .x) (p .y)
 
 -- listed in the point's bin, and containing it
 unfoldable pub holds : Bin → Vec2 → CellPolygon → Bool
@@ -29,4 +29,4 @@ locateWhere true g cells q = firstFrom (holds (binFor g q) q) 0 cells
 -- "the lowest listed cell that contains the point, tolerance included; a point whose x or y is not
 -- finite locates nowhere"
 unfoldable pub locate : Grid → List CellPolygon → Vec3 → Found
-locate g cells p = locateWhere (finite (p .x) && finite (p .y)) g cells (flat p)
+locate g cells p = locateWhere (finite (p .x) && finite (p .y)) g cells (xyOf p)

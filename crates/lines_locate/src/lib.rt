@@ -17,10 +17,10 @@ ghost use mathlib.Core.Bool.{true};
 ghost use Rattle.mesh_area.specs.Layout.{wordsEnd, LentWords, LentFloats};
 ghost use Rattle.lines_bins.specs.Index as Index;
 ghost use Rattle.lines_bins.specs.Index.{flagIn};
-ghost use Rattle.lines_bins.specs.Contracts.{Indexed};
+ghost use Rattle.lines_bins.specs.Contracts.{BinIndex};
 ghost use Rattle.lines_polygon.specs.Contains.{contains};
 ghost use Rattle.lines_locate.specs.Bins as Bins;
-ghost use Rattle.lines_locate.specs.Contracts.{Binned};
+ghost use Rattle.lines_locate.specs.Contracts.{HasBins};
 ghost use Rattle.lines_locate.specs.Locate as Locate;
 ghost use Rattle.lines_locate.specs.Layout as Layout;
 ghost use Rattle.lines_locate.specs.Contracts as Contracts;
@@ -57,7 +57,7 @@ fn bin_along(low: f64, high: f64, n: usize, a: f64) -> usize
 
 // The bin of a point.
 pub fn bin_for(g: Grid, p: Vec2) -> Bin
-    requires { ⌜ Binned g ⌝ }
+    requires { ⌜ HasBins g ⌝ }
     ensures { λ r. ⌜ (r ≡ Bins.binFor g p) × (r .x < 65536) × (r .y < 65536) × (r .x < g .bins .x)
         × (r .y < g .bins .y) ⌝ }
 {
@@ -128,7 +128,7 @@ fn is_listed(words: &[u32], s: Sizes, i: usize, b: Bin) -> bool
 
 // Cell i contains q.
 fn has_point(words: &[u32], floats: &[f64], s: Sizes, q: Vec2, i: usize) -> bool
-    requires { ⌜ LentWords s (now words) × LentFloats s (now floats) × Contracts.Limited s (now words) (now floats)
+    requires { ⌜ LentWords s (now words) × LentFloats s (now floats) × Contracts.HasLimits s (now words) (now floats)
         × (i < s .cells) ⌝ }
     ensures { λ r. ⌜ r ≡ contains q (Layout.polygonIn s (now (words .entry)) (now (floats .entry)) i) ⌝ }
 {
@@ -143,7 +143,7 @@ fn has_point(words: &[u32], floats: &[f64], s: Sizes, q: Vec2, i: usize) -> bool
 
 // Cell i is listed in bin b, and contains q.
 fn holds(words: &[u32], floats: &[f64], s: Sizes, b: Bin, q: Vec2, i: usize) -> bool
-    requires { ⌜ LentWords s (now words) × LentFloats s (now floats) × Contracts.Limited s (now words) (now floats)
+    requires { ⌜ LentWords s (now words) × LentFloats s (now floats) × Contracts.HasLimits s (now words) (now floats)
         × (i < s .cells) ⌝ }
     ensures { λ r. ⌜ r ≡ Locate.holds b q (Layout.cellPolygonIn s (now (words .entry)) (now (floats .entry)) i) ⌝ }
 {
@@ -156,7 +156,7 @@ fn holds(words: &[u32], floats: &[f64], s: Sizes, b: Bin, q: Vec2, i: usize) -> 
 
 // The lowest cell that is listed in bin b and contains q: over all cells.
 fn first_holding(words: &[u32], floats: &[f64], s: Sizes, b: Bin, q: Vec2) -> Found
-    requires { ⌜ LentWords s (now words) × LentFloats s (now floats) × Contracts.Limited s (now words) (now floats) ⌝ }
+    requires { ⌜ LentWords s (now words) × LentFloats s (now floats) × Contracts.HasLimits s (now words) (now floats) ⌝ }
     ensures { λ r. ⌜ r ≡ firstFrom (Locate.holds b q) 0
         (Layout.cellPolygonsIn s (now (words .entry)) (now (floats .entry))) ⌝ }
 {
@@ -181,9 +181,9 @@ fn first_listed(
     y: usize,
     q: Vec2,
 ) -> Found
-    requires { ⌜ LentWords s (now words) × LentFloats s (now floats) × Contracts.Limited s (now words) (now floats)
+    requires { ⌜ LentWords s (now words) × LentFloats s (now floats) × Contracts.HasLimits s (now words) (now floats)
         × (x < nx) × (y < ny) ⌝ }
-    requires { ⌜ Indexed (now words) (wordsEnd s) (s .cells) nx ny ⌝ }
+    requires { ⌜ BinIndex (now words) (wordsEnd s) (s .cells) nx ny ⌝ }
     ensures { λ r. ⌜ r ≡ firstFrom (Locate.holds (record { x = x; y = y }) q) 0
         (Layout.cellPolygonsIn s (now (words .entry)) (now (floats .entry))) ⌝ }
 {
@@ -214,7 +214,7 @@ fn is_indexed(words: &[u32], s: Sizes) -> bool
 // The lowest cell that is listed in q's bin and contains q.
 fn first_at(words: &[u32], floats: &[f64], s: Sizes, g: Grid, q: Vec2) -> Found
     requires { ⌜ LentWords s (now words) × LentFloats s (now floats)
-        × Contracts.Searchable g s (now words) (now floats) ⌝ }
+        × Contracts.LocateCellEntry g s (now words) (now floats) ⌝ }
     ensures { λ r. ⌜ r ≡ firstFrom (Locate.holds (Bins.binFor g q) q) 0
         (Layout.cellPolygonsIn s (now (words .entry)) (now (floats .entry))) ⌝ }
 {
@@ -229,7 +229,7 @@ fn first_at(words: &[u32], floats: &[f64], s: Sizes, g: Grid, q: Vec2) -> Found
 // The lowest listed cell that contains p; nowhere for an x or y that is not finite.
 pub fn locate_cell(words: &[u32], floats: &[f64], s: Sizes, g: Grid, p: Vec3) -> Found
     requires { ⌜ LentWords s (now words) × LentFloats s (now floats)
-        × Contracts.Searchable g s (now words) (now floats) ⌝ }
+        × Contracts.LocateCellEntry g s (now words) (now floats) ⌝ }
     ensures { λ r. ⌜ r ≡ Locate.locate g (Layout.cellPolygonsIn s (now (words .entry)) (now (floats .entry))) p ⌝ }
 {
     if float::is_finite(p.x) {

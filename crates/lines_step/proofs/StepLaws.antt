@@ -22,7 +22,7 @@ use Rattle.lines_step.specs.declared.Step.{Step}
 use Rattle.lines_step.specs.declared.Step.the-variants.{Next, Ended}
 use Rattle.lines_step.specs.declared.StreamlineOptions.{StreamlineOptions}
 use Rattle.lines_step.specs.RungeKutta.{rungeKutta}
-use Rattle.lines_step.specs.Step.{hereIf, rk4Step, kept, step}
+use Rattle.lines_step.specs.Step.{hereIf, rk4Step, withinLength, step}
 
 -- a direction taken a way along another one, k
 module _ (direction next : Vec3 → Asks Vector) (p k : Vec3) (h : Float) {v : ℕ → Values} {m m′ : List ℕ} {r : Vector} {way q : Vec3} (ew : way ≡ times k h) (eq : q ≡ plus p way)
@@ -53,27 +53,27 @@ module _ (F : StreamlineField) (v : ℕ → Values) (m m′ : List ℕ) (still h
 module _ (f : StreamlineField) (v : ℕ → Values) (m m′ : List ℕ) (o : StreamlineOptions) (h : Float) (p : Vec3) (total : Float) (r : Vector)
     (d : Served (rk4Step f (o .«stagnation_speed») h p) v m m′ r) where
   pub step-ended : r ≡ Nowhere → Served (step f o h p total) v m m′ Ended
-  unfolding step kept
+  unfolding step withinLength
   step-ended e =
-      let s : Served (rk4Step f (o .«stagnation_speed») h p >>= λ q. give (kept (o .«max_length») p total q)) v m m′ Ended =
-      served-then (λ q. give (kept (o .«max_length») p total q)) (rw e at d) served-give
+      let s : Served (rk4Step f (o .«stagnation_speed») h p >>= λ q. give (withinLength (o .«max_length») p total q)) v m m′ Ended =
+      served-then (λ q. give (withinLength (o .«max_length») p total q)) (rw e at d) served-give
       in
       s
 
-  pub step-kept : (q : Vec3) (x : Step) → r ≡ Here q → x ≡ kept (o .«max_length») p total (Here q) → Served (step f o h p total) v m m′ x
+  pub step-kept : (q : Vec3) (x : Step) → r ≡ Here q → x ≡ withinLength (o .«max_length») p total (Here q) → Served (step f o h p total) v m m′ x
   unfolding step
-  step-kept q x e k = rw k (served-then (λ q. give (kept (o .«max_length») p total q)) (rw e at d) served-give)
+  step-kept q x e k = rw k (served-then (λ q. give (withinLength (o .«max_length») p total q)) (rw e at d) served-give)
 
 -- what is kept of a point q, by the tests of its segment
 module _ (longest total segment : Float) (p q offset : Vec3) (is-finite : Bool) (eo : offset ≡ minus q p) (es : segment ≡ norm offset) (ef : is-finite ≡ finite segment) where
-  pub kept-too-long : is-finite ≡ true → (longest ≺ total ⊕ segment) ≡ true → Ended ≡ kept longest p total (Here q)
-  unfolding kept
+  pub kept-too-long : is-finite ≡ true → (longest ≺ total ⊕ segment) ≡ true → Ended ≡ withinLength longest p total (Here q)
+  unfolding withinLength
   kept-too-long h k = rw (← eo, ← es, ← ef, h, k)
 
-  pub kept-on : is-finite ≡ true → (longest ≺ total ⊕ segment) ≡ false → Next q segment ≡ kept longest p total (Here q)
-  unfolding kept
+  pub kept-on : is-finite ≡ true → (longest ≺ total ⊕ segment) ≡ false → Next q segment ≡ withinLength longest p total (Here q)
+  unfolding withinLength
   kept-on h k = rw (← eo, ← es, ← ef, h, k)
 
-  pub kept-endless : is-finite ≡ false → Ended ≡ kept longest p total (Here q)
-  unfolding kept
+  pub kept-endless : is-finite ≡ false → Ended ≡ withinLength longest p total (Here q)
+  unfolding withinLength
   kept-endless h = rw (← eo, ← es, ← ef, h)

@@ -23,15 +23,15 @@ hereIf (At i) p = Here p
 
 -- `rk4_step`: a Runge-Kutta step that ends in a cell
 unfoldable pub rk4Step : StreamlineField → Float → Float → Vec3 → Asks Vector
-rk4Step f still h p = rungeKutta (directionAt f still) h p >>= from (λ q. give (hereIf (locateIn f q) q))
+rk4Step f stagnation h p = rungeKutta (directionAt f stagnation) h p >>= from (λ q. give (hereIf (locateIn f q) q))
 
 -- "a total equal to max_length is kept"
-unfoldable pub kept : Float → Vec3 → Float → Vector → Step
-kept longest p total Nowhere = Ended
-kept longest p total (Here q) =
+unfoldable pub withinLength : Float → Vec3 → Float → Vector → Step
+withinLength maxLength p total Nowhere = Ended
+withinLength maxLength p total (Here q) =
     let segment = norm (minus q p) in
-    cond (finite segment && not (longest ≺ total ⊕ segment)) (Next q segment) Ended
+    cond (finite segment && not (maxLength ≺ total ⊕ segment)) (Next q segment) Ended
 
 -- one step, the line being `total` long at p
 unfoldable pub step : StreamlineField → StreamlineOptions → Float → Vec3 → Float → Asks Step
-step f o h p total = rk4Step f (o .«stagnation_speed») h p >>= λ q. give (kept (o .«max_length») p total q)
+step f o h p total = rk4Step f (o .«stagnation_speed») h p >>= λ q. give (withinLength (o .«max_length») p total q)

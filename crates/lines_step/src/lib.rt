@@ -10,7 +10,7 @@ ghost use mathlib.Core.Path.{_≡_};
 ghost use Rattle.reading.specs.Served.{Served};
 ghost use Rattle.case_file.specs.Field.{valuesOf};
 ghost use Rattle.lines_velocity.specs.Velocity.{directionAt};
-ghost use Rattle.lines_velocity.specs.Contracts.{tracerField, Ready};
+ghost use Rattle.lines_velocity.specs.Contracts.{tracerField, TracerEntry};
 ghost use Rattle.lines_step.specs.RungeKutta as RungeKutta;
 ghost use Rattle.lines_step.specs.Step as Steps;
 
@@ -54,7 +54,7 @@ fn fourth(
     k2: Vec3,
     k3: Vec3,
 ) -> Vector
-    requires { ⌜ Ready (now case) (now words) (now floats) t ⌝ }
+    requires { ⌜ TracerEntry (now case) (now words) (now floats) t ⌝ }
     ensures { λ r. ⌜ Served (RungeKutta.fourth
         (directionAt (tracerField t (now (words .entry)) (now (floats .entry))) (start .«stagnation_speed»))
         (start .step) (start .point) k1 k2 k3)
@@ -79,7 +79,7 @@ fn third(
     k1: Vec3,
     k2: Vec3,
 ) -> Vector
-    requires { ⌜ Ready (now case) (now words) (now floats) t ⌝ }
+    requires { ⌜ TracerEntry (now case) (now words) (now floats) t ⌝ }
     ensures { λ r. ⌜ Served (RungeKutta.third
         (directionAt (tracerField t (now (words .entry)) (now (floats .entry))) (start .«stagnation_speed»))
         (start .step) (start .point) k1 k2)
@@ -103,7 +103,7 @@ fn second(
     start: StepStart,
     k1: Vec3,
 ) -> Vector
-    requires { ⌜ Ready (now case) (now words) (now floats) t ⌝ }
+    requires { ⌜ TracerEntry (now case) (now words) (now floats) t ⌝ }
     ensures { λ r. ⌜ Served (RungeKutta.second
         (directionAt (tracerField t (now (words .entry)) (now (floats .entry))) (start .«stagnation_speed»))
         (start .step) (start .point) k1)
@@ -126,7 +126,7 @@ fn runge_kutta(
     marks: &mut [u8],
     start: StepStart,
 ) -> Vector
-    requires { ⌜ Ready (now case) (now words) (now floats) t ⌝ }
+    requires { ⌜ TracerEntry (now case) (now words) (now floats) t ⌝ }
     ensures { λ r. ⌜ Served (RungeKutta.rungeKutta
         (directionAt (tracerField t (now (words .entry)) (now (floats .entry))) (start .«stagnation_speed»))
         (start .step) (start .point)) (valuesOf (now (case .entry))) (now (marks .entry)) (now (marks .exit)) r ⌝ }
@@ -154,7 +154,7 @@ fn rk4_step(
     marks: &mut [u8],
     start: StepStart,
 ) -> Vector
-    requires { ⌜ Ready (now case) (now words) (now floats) t ⌝ }
+    requires { ⌜ TracerEntry (now case) (now words) (now floats) t ⌝ }
     ensures { λ r. ⌜ Served (Steps.rk4Step (tracerField t (now (words .entry)) (now (floats .entry)))
         (start .«stagnation_speed») (start .step) (start .point))
         (valuesOf (now (case .entry))) (now (marks .entry)) (now (marks .exit)) r ⌝ }
@@ -169,8 +169,8 @@ fn rk4_step(
 }
 
 // The next point q with its segment, where the line may go on to it.
-fn kept(longest: f64, p: Vec3, total: f64, q: Vec3) -> Step
-    ensures { λ r. ⌜ r ≡ Steps.kept longest p total (Vector.Here q) ⌝ }
+fn within_length(longest: f64, p: Vec3, total: f64, q: Vec3) -> Step
+    ensures { λ r. ⌜ r ≡ Steps.withinLength longest p total (Vector.Here q) ⌝ }
 {
     let segment = q.sub(p).norm();
     if float::is_finite(segment) {
@@ -194,7 +194,7 @@ pub fn line_step(
     p: Vec3,
     total: f64,
 ) -> Step
-    requires { ⌜ Ready (now case) (now words) (now floats) t ⌝ }
+    requires { ⌜ TracerEntry (now case) (now words) (now floats) t ⌝ }
     ensures { λ r. ⌜ Served (Steps.step (tracerField t (now (words .entry)) (now (floats .entry))) options h p total)
         (valuesOf (now (case .entry))) (now (marks .entry)) (now (marks .exit)) r ⌝ }
 {
@@ -206,5 +206,5 @@ pub fn line_step(
     let Vector::Here(q) = rk4_step(case, words, floats, t, marks, start) else {
         return Step::Ended;
     };
-    kept(options.max_length, p, total, q)
+    within_length(options.max_length, p, total, q)
 }

@@ -8,7 +8,7 @@ use Rattle.case_file.specs.Trailer.{opened}
 use Rattle.mesh_area.specs.Layout.{LentWords, LentFloats}
 use Rattle.lines_locate.specs.Field.{StreamlineField}
 use Rattle.lines_locate.specs.Layout.{fieldIn}
-use Rattle.lines_locate.specs.Contracts.{Searchable}
+use Rattle.lines_locate.specs.Contracts.{LocateCellEntry}
 use Rattle.lines_velocity.specs.declared.Tracer.{Tracer}
 
 -- the field that the area holds under a tracer
@@ -16,12 +16,12 @@ unfoldable pub tracerField : Tracer → List ℕ → List Float → StreamlineFi
 tracerField t words floats = fieldIn (t .grid) (t .sizes) words floats
 
 -- an area of the right sizes, and a grid whose bins can be searched
-pub record Locatable (words : List ℕ) (floats : List Float) (t : Tracer) : Type 0 where
+pub record LocateEntry (words : List ℕ) (floats : List Float) (t : Tracer) : Type 0 where
   pub lent-words : LentWords (t .sizes) words
   pub lent-floats : LentFloats (t .sizes) floats
-  pub searchable : Searchable (t .grid) (t .sizes) words floats
+  pub searchable : LocateCellEntry (t .grid) (t .sizes) words floats
 
 -- the same, and a case that opens
-pub record Ready (case words : List ℕ) (floats : List Float) (t : Tracer) : Type 0 where
+pub record TracerEntry (case words : List ℕ) (floats : List Float) (t : Tracer) : Type 0 where
   pub opens : opened case ≡ Case (t .counts)
-  pub area : Locatable words floats t
+  pub area : LocateEntry words floats t

@@ -87,8 +87,8 @@ from h Nowhere = give Nowhere
 
 -- the unit vector of a velocity: "Equal to stagnation_speed ends"
 unfoldable pub unit : Float → Vec3 → Vector
-unit still v = cond (finite (norm v) && (still ≺ norm v)) (Here (over v (norm v))) Nowhere
+unit stagnation v = cond (finite (norm v) && (stagnation ≺ norm v)) (Here (over v (norm v))) Nowhere
 
 -- `direction_at`
 unfoldable pub directionAt : StreamlineField → Float → Vec3 → Asks Vector
-directionAt f still p = velocityAt f p >>= from (λ v. give (unit still v))
+directionAt f stagnation p = velocityAt f p >>= from (λ v. give (unit stagnation v))

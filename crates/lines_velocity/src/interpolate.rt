@@ -16,7 +16,7 @@ ghost use Rattle.case_file.specs.Trailer.{opened};
 ghost use Rattle.case_file.specs.Field.{valuesOf};
 ghost use Rattle.mesh_area.specs.Layout.{LentWords, LentFloats, cellsIn};
 ghost use Rattle.lines_velocity.specs.Velocity as Velocity;
-ghost use Rattle.lines_velocity.specs.Contracts.{tracerField, Locatable, Ready};
+ghost use Rattle.lines_velocity.specs.Contracts.{tracerField, LocateEntry, TracerEntry};
 
 // The squared distance of cell i's centre from p.
 fn distance_squared(floats: &[f64], s: Sizes, p: Vec3, i: usize) -> f64
@@ -126,7 +126,7 @@ fn toward(
     i: usize,
     base: Vec3,
 ) -> Vec3
-    requires { ⌜ Ready (now case) (now words) (now floats) t ⌝ }
+    requires { ⌜ TracerEntry (now case) (now words) (now floats) t ⌝ }
     ensures { λ r. ⌜ Served (Velocity.toward (tracerField t (now (words .entry)) (now (floats .entry))) p i base)
         (valuesOf (now (case .entry))) (now (marks .entry)) (now (marks .exit)) r ⌝ }
 {
@@ -147,7 +147,7 @@ fn velocity_in(
     p: Vec3,
     i: usize,
 ) -> Vec3
-    requires { ⌜ Ready (now case) (now words) (now floats) t ⌝ }
+    requires { ⌜ TracerEntry (now case) (now words) (now floats) t ⌝ }
     ensures { λ r. ⌜ Served (Velocity.velocityIn (tracerField t (now (words .entry)) (now (floats .entry))) p i)
         (valuesOf (now (case .entry))) (now (marks .entry)) (now (marks .exit)) r ⌝ }
 {
@@ -157,7 +157,7 @@ fn velocity_in(
 
 // The cell that p locates in.
 pub fn locate(words: &[u32], floats: &[f64], t: Tracer, p: Vec3) -> Found
-    requires { ⌜ Locatable (now words) (now floats) t ⌝ }
+    requires { ⌜ LocateEntry (now words) (now floats) t ⌝ }
     ensures { λ r. ⌜ r ≡ Velocity.locateIn (tracerField t (now (words .entry)) (now (floats .entry))) p ⌝ }
 {
     lines_locate::locate_cell(words, floats, t.sizes, t.grid, p)
@@ -172,7 +172,7 @@ pub fn velocity_at(
     marks: &mut [u8],
     p: Vec3,
 ) -> Vector
-    requires { ⌜ Ready (now case) (now words) (now floats) t ⌝ }
+    requires { ⌜ TracerEntry (now case) (now words) (now floats) t ⌝ }
     ensures { λ r. ⌜ Served (Velocity.velocityAt (tracerField t (now (words .entry)) (now (floats .entry))) p)
         (valuesOf (now (case .entry))) (now (marks .entry)) (now (marks .exit)) r ⌝ }
 {
@@ -206,7 +206,7 @@ pub fn direction_at(
     p: Vec3,
     stagnation_speed: f64,
 ) -> Vector
-    requires { ⌜ Ready (now case) (now words) (now floats) t ⌝ }
+    requires { ⌜ TracerEntry (now case) (now words) (now floats) t ⌝ }
     ensures { λ r. ⌜ Served (Velocity.directionAt (tracerField t (now (words .entry)) (now (floats .entry)))
         «stagnation_speed» p) (valuesOf (now (case .entry))) (now (marks .entry)) (now (marks .exit)) r ⌝ }
 {

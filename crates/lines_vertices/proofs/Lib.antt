@@ -1,4 +1,4 @@
 pub mod LimitLaws
 pub mod TableLaws
 pub mod CellLaws
-pub mod CornerLaws
+pub mod VertexLaws

@@ -19,7 +19,7 @@ use Rattle.mesh_geometry.specs.Faces.{enough, faceAreaVector, Oriented, faceWit
 use Rattle.mesh_keys.proofs.OrderLaws.{sorted-reverse}
 use Rattle.mesh_keys.proofs.KeyLaws.{same-true}
 use Rattle.mesh_geometry.specs.declared.FaceGeometry.{FaceGeometry}
-use Rattle.mesh_faces.specs.Table.{hasKey, faceWithKey, newFace, withNeighbour, joining, settled, adding, Placed, placed, addFace}
+use Rattle.mesh_faces.specs.Table.{hasKey, faceWithKey, newFace, withNeighbour, joining, settled, useFace, NumberedFace, numberedFace, addFace}
 use Rattle.mesh_faces.proofs.AnswerLaws.{first-below}
 use Rattle.lines_vertices.specs.Shapes.{keyIn, Turned, Later, Placing}
 
@@ -144,46 +144,46 @@ finds key fs i e =
 abbrev pub AllFaces : (List ℕ → Type 0) → List Face → Type 0
 AllFaces P fs = All (λ f. P (f .vertices)) fs
 
-module _ (cell : ℕ) (v : List ℕ) (m : FaceGeometry) (fs : List Face) (p : Placed) where
-  Places : Result Placed → Type 0
+module _ (cell : ℕ) (v : List ℕ) (m : FaceGeometry) (fs : List Face) (p : NumberedFace) where
+  Places : Result NumberedFace → Type 0
   Places r = r ≡ fine p → Placing fs (p .faces) v (p .number)
 
-  joins : (n : Found) (i : ℕ) → Finds (sorted v) fs i → Places (placed (joining n cell fs i .answer) (joining n cell fs i .faces))
-  unfolding joining placed Places
+  joins : (n : Found) (i : ℕ) → Finds (sorted v) fs i → Places (numberedFace (joining n cell fs i .answer) (joining n cell fs i .faces))
+  unfolding joining numberedFace Places
   joins Nothing i f e =
       let w : record { faces = set fs i (withNeighbour cell (faceAt fs i)); number = i } ≡ p = cc in
       rw (← w) (placing-joined cell fs i v (f .below) (f .same))
   joins (At n) i f e = absurd (let z : _≡_ {A = ℕ} 0 1 = cc in omega arith)
 
-  settles : (r : Found) → faceWithKey (sorted v) fs ≡ r → Places (placed (settled r cell v m fs .answer) (settled r cell v m fs .faces))
-  unfolding settled placed Places newFace
+  settles : (r : Found) → faceWithKey (sorted v) fs ≡ r → Places (numberedFace (settled r cell v m fs .answer) (settled r cell v m fs .faces))
+  unfolding settled numberedFace Places newFace
   settles Nothing q e =
       let w : record { faces = fs ++ newFace cell v m ∷ []; number = length fs } ≡ p = cc in
       rw (← w) (placing-new fs (newFace cell v m))
   settles (At i) q e = joins (faceAt fs i .neighbour) i (finds (sorted v) fs i q) e
 
   pub placing : addFace cell v m fs ≡ fine p → Placing fs (p .faces) v (p .number)
-  unfolding addFace adding Places
+  unfolding addFace useFace Places
   placing e = settles (faceWithKey (sorted v) fs) refl e
 
   module _ (P : List ℕ → Type 0) (new : P v) (old : AllFaces P fs) where
-    Passing : Result Placed → Type 0
+    Passing : Result NumberedFace → Type 0
     Passing r = r ≡ fine p → AllFaces P (p .faces)
 
-    joins-all : (n : Found) (i : ℕ) → i < length fs → Passing (placed (joining n cell fs i .answer) (joining n cell fs i .faces))
-    unfolding joining placed Passing withNeighbour faceAt
+    joins-all : (n : Found) (i : ℕ) → i < length fs → Passing (numberedFace (joining n cell fs i .answer) (joining n cell fs i .faces))
+    unfolding joining numberedFace Passing withNeighbour faceAt
     joins-all Nothing i b e =
         let w : record { faces = set fs i (withNeighbour cell (faceAt fs i)); number = i } ≡ p = cc in
         rw (← w) (all-set (λ f. P (f .vertices)) fs i (withNeighbour cell (faceAt fs i)) (all-at (λ f. P (f .vertices)) fs i noFace b old) old)
     joins-all (At n) i b e = absurd (let z : _≡_ {A = ℕ} 0 1 = cc in omega arith)
 
-    settles-all : (r : Found) → faceWithKey (sorted v) fs ≡ r → Passing (placed (settled r cell v m fs .answer) (settled r cell v m fs .faces))
-    unfolding settled placed Passing newFace
+    settles-all : (r : Found) → faceWithKey (sorted v) fs ≡ r → Passing (numberedFace (settled r cell v m fs .answer) (settled r cell v m fs .faces))
+    unfolding settled numberedFace Passing newFace
     settles-all Nothing q e =
         let w : record { faces = fs ++ newFace cell v m ∷ []; number = length fs } ≡ p = cc in
         rw (← w) (all-append (λ f. P (f .vertices)) fs (newFace cell v m ∷ []) old (new, tt))
     settles-all (At i) q e = joins-all (faceAt fs i .neighbour) i (finds (sorted v) fs i q .below) e
 
     pub placing-all : addFace cell v m fs ≡ fine p → AllFaces P (p .faces)
-    unfolding addFace adding Passing
+    unfolding addFace useFace Passing
     placing-all e = settles-all (faceWithKey (sorted v) fs) refl e

@@ -11,7 +11,7 @@ use Rattle.mesh_area.specs.Tables.{Face, Mesh, faceAt, cellAt}
 use Rattle.case_definitions.specs.Faces.{Definition, facesOf}
 use Rattle.mesh_points.specs.Collect.{wrongKind}
 use Rattle.mesh_geometry.specs.Faces.{enough}
-use Rattle.mesh_cells.specs.Cells.{Draft, Drafts}
+use Rattle.mesh_cells.specs.Cells.{PartialCell, PartialMesh}
 
 -- the numbers of a face of the table, in rising order
 unfoldable pub keyIn : List Face → ℕ → List ℕ
@@ -40,12 +40,12 @@ pub record Naming (fs : List Face) (own : List ℕ) (ls : List (List ℕ)) : Typ
   pub keys : map (keyIn fs) own ≡ map sorted ls
 
 -- a cell that was not refused, with the faces of its definition
-pub record Named (d : ℕ) (fs : List Face) (c : Draft) : Type 0 where
+pub record Named (d : ℕ) (fs : List Face) (c : PartialCell) : Type 0 where
   pub kind : wrongKind d (c .definition) ≡ false
   pub faces : Naming fs (c .faces) (facesOf (c .definition))
 
 -- the same by number: the k-th number of the cell names the k-th face of its definition
-pub record FacesNamed (fs : List Face) (c : Draft) : Type 0 where
+pub record FacesNamed (fs : List Face) (c : PartialCell) : Type 0 where
   pub count : length (c .faces) ≡ length (facesOf (c .definition))
   pub below : (k : ℕ) → k < length (c .faces) → getD (c .faces) k 0 < length fs
   pub key : (k : ℕ) → k < length (c .faces) → sorted (faceAt fs (getD (c .faces) k 0) .vertices) ≡ sorted (getD (facesOf (c .definition)) k [])
@@ -56,8 +56,8 @@ pub record Limited (def : Definition) : Type 0 where
   pub numbers : All (λ l. length l ≤ 8) (facesOf def)
 
 -- a mesh of these points and faces, whose cells have the faces of these cells
-pub record Over (ps : List Vec3) (t : Drafts) (none : Draft) (m : Mesh) : Type 0 where
+pub record Over (ps : List Vec3) (t : PartialMesh) (none : PartialCell) (m : Mesh) : Type 0 where
   pub points : m .points ≡ ps
   pub faces : m .faces ≡ t .faces
   pub count : length (m .cells) ≡ length (t .cells)
-  pub own : (i : ℕ) → i < length (t .cells) → cellAt (m .cells) i .faces ≡ getD (t .cells) i none .faces
+  pub numbers : (i : ℕ) → i < length (t .cells) → cellAt (m .cells) i .faces ≡ getD (t .cells) i none .faces

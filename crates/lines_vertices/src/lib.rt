@@ -1,2 +1,2 @@
 // Laws of the mesh's definitions: which faces a cell names, how many vertices a face has, and how
-// many corners a polygon has. They stand in proofs/.
+// many vertices a polygon has. They stand in proofs/.

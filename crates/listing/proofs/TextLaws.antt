@@ -12,7 +12,7 @@ use lib.Seq.{sets, length-sets, set-out, drop-cons, drop-drop, take-nil, drop-ni
 use lib.Dec.{eqb}
 use borrow.Author.Tests.{eq-eqb, ne-eqb}
 use Rattle.listing.specs.Listing.{decimalText, hexText, wordsText, answerText, answersText, marksFrom, marksText, doneText, refusedText}
-use Rattle.listing.specs.Contracts.{endIn, Written, Listed}
+use Rattle.listing.specs.Contracts.{endIn, PutExit, ListingExit}
 
 pub unwritten : (l : List ℕ) (i b : ℕ) → length l ≤ i → l ≡ set l i b
 unwritten l i b h = sym (set-out l i b h)
@@ -37,7 +37,7 @@ same-place o p q l e = by (decLt p (length o))
     by (no h) = sets-out o p l (omega arith) ∙ sym (sets-out o q l (omega arith))
 
 -- a text that equals what was written
-pub put-as : {o o′ : List ℕ} {at r : ℕ} {a b : List ℕ} → a ≡ b → Written a o o′ at r → Written b o o′ at r
+pub put-as : {o o′ : List ℕ} {at r : ℕ} {a b : List ℕ} → a ≡ b → PutExit a o o′ at r → PutExit b o o′ at r
 put-as e w = rw e at w
 
 -- the rest written from `to` on gives the whole written from `at` on
@@ -48,7 +48,7 @@ pub record Left (o₀ : List ℕ) (at : ℕ) (whole o : List ℕ) (to : ℕ) (re
 
 module _ {o₀ : List ℕ} {at : ℕ} {whole o : List ℕ} {to : ℕ} where
   -- one part more
-  pub part : {o′ : List ℕ} {to′ : ℕ} (a rest : List ℕ) → Left o₀ at whole o to (a ++ rest) → Written a o o′ to to′ → Left o₀ at whole o′ to′ rest
+  pub part : {o′ : List ℕ} {to′ : ℕ} (a rest : List ℕ) → Left o₀ at whole o to (a ++ rest) → PutExit a o o′ to to′ → Left o₀ at whole o′ to′ rest
   part {o′} {to′} a rest l w =
       let same : length o′ ≡ length o = ap length (w .text) ∙ length-sets o to a in
       record {
@@ -62,11 +62,11 @@ module _ {o₀ : List ℕ} {at : ℕ} {whole o : List ℕ} {to : ℕ} where
   byte b rest l p = part (b ∷ []) rest l (record { text = p .0; end = omega (arith, p .1) })
 
   -- nothing is left
-  pub over : (rest : List ℕ) → rest ≡ [] → Left o₀ at whole o to rest → Written whole o₀ o at to
+  pub over : (rest : List ℕ) → rest ≡ [] → Left o₀ at whole o to rest → PutExit whole o₀ o at to
   over rest e l = let z : length rest ≡ 0 = ap length e in record { text = ap (λ (r : List ℕ). sets o to r) (sym e) ∙ l .text; end = omega (arith, l .ends) }
 
 -- one byte is left
-pub last-byte : {o₀ whole o o′ : List ℕ} {to r : ℕ} (b : ℕ) → Left o₀ 0 whole o to (b ∷ []) → (o′ ≡ set o to b) × (r ≡ endIn (length o) (to + 1)) → Listed whole o₀ o′ r
+pub last-byte : {o₀ whole o o′ : List ℕ} {to r : ℕ} (b : ℕ) → Left o₀ 0 whole o to (b ∷ []) → (o′ ≡ set o to b) × (r ≡ endIn (length o) (to + 1)) → ListingExit whole o₀ o′ r
 last-byte b l p = record { bytes = p .0 ∙ l .text; end = omega (arith, p .1, l .ends, l .long) }
 
 pub all-left : (o : List ℕ) (at : ℕ) (whole : List ℕ) → Left o at whole o at whole
@@ -95,14 +95,14 @@ unfolding wordsText
 words-next l i h = rw (next l i h)
 
 pub words-turn : {o₀ o o₁ o₂ : List ℕ} {at to t r : ℕ} {whole : List ℕ} (l : List ℕ) (i : ℕ) → i < length l → Left o₀ at whole o to (wordsText (drop i l)) →
-    (o₁ ≡ set o to 32) × (t ≡ endIn (length o) (to + 1)) → Written (hexText (getD l i 0)) o₁ o₂ t r → Left o₀ at whole o₂ r (wordsText (drop (i + 1) l))
+    (o₁ ≡ set o to 32) × (t ≡ endIn (length o) (to + 1)) → PutExit (hexText (getD l i 0)) o₁ o₂ t r → Left o₀ at whole o₂ r (wordsText (drop (i + 1) l))
 words-turn l i h left p w = part (hexText (getD l i 0)) _ (byte 32 _ (rw (words-next l i h) at left) p) w
 
 -- ---- an answer
 
 pub answer-put : {o₁ o₂ o₃ o₄ o₅ : List ℕ} {r₁ r₂ r₃ r₄ r₅ : ℕ} (o : List ℕ) (at k : ℕ) (l : List ℕ) →
-    Written (decimalText k) o o₁ at r₁ → (o₂ ≡ set o₁ r₁ 32) × (r₂ ≡ endIn (length o₁) (r₁ + 1)) → Written (decimalText (length l)) o₂ o₃ r₂ r₃ →
-    Written (wordsText l) o₃ o₄ r₃ r₄ → (o₅ ≡ set o₄ r₄ 10) × (r₅ ≡ endIn (length o₄) (r₄ + 1)) → Written (answerText k l) o o₅ at r₅
+    PutExit (decimalText k) o o₁ at r₁ → (o₂ ≡ set o₁ r₁ 32) × (r₂ ≡ endIn (length o₁) (r₁ + 1)) → PutExit (decimalText (length l)) o₂ o₃ r₂ r₃ →
+    PutExit (wordsText l) o₃ o₄ r₃ r₄ → (o₅ ≡ set o₄ r₄ 10) × (r₅ ≡ endIn (length o₄) (r₄ + 1)) → PutExit (answerText k l) o o₅ at r₅
 unfolding answerText
 answer-put o at k l a b c d e =
     let s = part (decimalText k) (32 ∷ (decimalText (length l) ++ (wordsText l ++ 10 ∷ []))) (all-left o at (answerText k l)) a in
@@ -157,7 +157,7 @@ module _ (l : List ℕ) (count i from n : ℕ) (below : i < count) (two : 2 ≤ 
       rw (k, header, s, ← drop-drop n (from + 2) l, take-min n (getD l (from + 1) 0) (drop (from + 2) l) en′, drop-min n (getD l (from + 1) 0) (drop (from + 2) l) en′)
 
   pub answers-turn : {o₀ o o′ : List ℕ} {at to r : ℕ} {whole : List ℕ} → Left o₀ at whole o to (answersText (count - i) (drop from l)) →
-      Written (answerText (getD l from 0) (take (from + 2 + n - (from + 2)) (drop (from + 2) l))) o o′ to r →
+      PutExit (answerText (getD l from 0) (take (from + 2 + n - (from + 2)) (drop (from + 2) l))) o o′ to r →
       Left o₀ at whole o′ r (answersText (count - (i + 1)) (drop (from + 2 + n) l))
   answers-turn left w = part (answerText (getD l from 0) (take (from + 2 + n - (from + 2)) (drop (from + 2) l))) _ (rw answers-next at left) w
 
@@ -176,7 +176,7 @@ module _ (l : List ℕ) (i : ℕ) (below : i < length l) {o₀ : List ℕ} {at :
   unfolding marksFrom
   marks-next = rw (next l i below, add-one i)
 
-  pub marked : {o₁ o₂ : List ℕ} {t r : ℕ} → getD l i 0 ≡ 1 → (o₁ ≡ set o to 32) × (t ≡ endIn (length o) (to + 1)) → Written (decimalText i) o₁ o₂ t r →
+  pub marked : {o₁ o₂ : List ℕ} {t r : ℕ} → getD l i 0 ≡ 1 → (o₁ ≡ set o to 32) × (t ≡ endIn (length o) (to + 1)) → PutExit (decimalText i) o₁ o₂ t r →
       Left o₀ at whole o₂ r (marksFrom (i + 1) (drop (i + 1) l))
   marked h p w =
       let s = rw (marks-next, eq-eqb (getD l i 0) 1 h) at left in
@@ -188,16 +188,16 @@ module _ (l : List ℕ) (i : ℕ) (below : i < length l) {o₀ : List ℕ} {at :
 -- ---- the whole
 
 pub refused-put : {o₁ o₂ o₃ : List ℕ} {r₁ r₂ r₃ : ℕ} (o : List ℕ) (k : ℕ) →
-    Written (114 ∷ 101 ∷ 102 ∷ 117 ∷ 115 ∷ 101 ∷ 100 ∷ 32 ∷ []) o o₁ 0 r₁ → Written (decimalText k) o₁ o₂ r₁ r₂ → (o₃ ≡ set o₂ r₂ 10) × (r₃ ≡ endIn (length o₂) (r₂ + 1)) →
-    Listed (refusedText k) o o₃ r₃
+    PutExit (114 ∷ 101 ∷ 102 ∷ 117 ∷ 115 ∷ 101 ∷ 100 ∷ 32 ∷ []) o o₁ 0 r₁ → PutExit (decimalText k) o₁ o₂ r₁ r₂ → (o₃ ≡ set o₂ r₂ 10) × (r₃ ≡ endIn (length o₂) (r₂ + 1)) →
+    ListingExit (refusedText k) o o₃ r₃
 unfolding refusedText
 refused-put o k a b c =
     let s = part (114 ∷ 101 ∷ 102 ∷ 117 ∷ 115 ∷ 101 ∷ 100 ∷ 32 ∷ []) (decimalText k ++ 10 ∷ []) (all-left o 0 (refusedText k)) a in
     last-byte 10 (part (decimalText k) (10 ∷ []) s b) c
 
 pub done-put : {o₁ o₂ o₃ o₄ : List ℕ} {r₁ r₂ r₃ r₄ : ℕ} (o answers : List ℕ) (count : ℕ) (marks : List ℕ) →
-    Written (answersText count answers) o o₁ 0 r₁ → Written (114 ∷ 101 ∷ 97 ∷ 100 ∷ []) o₁ o₂ r₁ r₂ → Written (marksText marks) o₂ o₃ r₂ r₃ →
-    (o₄ ≡ set o₃ r₃ 10) × (r₄ ≡ endIn (length o₃) (r₃ + 1)) → Listed (doneText answers count marks) o o₄ r₄
+    PutExit (answersText count answers) o o₁ 0 r₁ → PutExit (114 ∷ 101 ∷ 97 ∷ 100 ∷ []) o₁ o₂ r₁ r₂ → PutExit (marksText marks) o₂ o₃ r₂ r₃ →
+    (o₄ ≡ set o₃ r₃ 10) × (r₄ ≡ endIn (length o₃) (r₃ + 1)) → ListingExit (doneText answers count marks) o o₄ r₄
 unfolding doneText
 done-put o answers count marks a b c d =
     let s = part (answersText count answers) ((114 ∷ 101 ∷ 97 ∷ 100 ∷ []) ++ (marksText marks ++ 10 ∷ [])) (all-left o 0 (doneText answers count marks)) a in

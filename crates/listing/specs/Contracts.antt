@@ -10,11 +10,11 @@ abbrev pub endIn : ℕ → ℕ → ℕ
 endIn room end = min end (room + 1)
 
 -- the bytes stand from `at` on, as far as there is room, and r is where they end
-pub record Written (bytes o o′ : List ℕ) (at r : ℕ) : Type 0 where
+pub record PutExit (bytes o o′ : List ℕ) (at r : ℕ) : Type 0 where
   pub text : o′ ≡ sets o at bytes
   pub end : endIn (length o) r ≡ endIn (length o) (at + length bytes)
 
 -- the whole text stands in the buffer, as far as there is room, and r is how long it is, or one more than the buffer
-pub record Listed (text o o′ : List ℕ) (r : ℕ) : Type 0 where
+pub record ListingExit (text o o′ : List ℕ) (r : ℕ) : Type 0 where
   pub bytes : o′ ≡ sets o 0 text
   pub end : r ≡ endIn (length o) (length text)

@@ -3,7 +3,7 @@ ghost use Prim.Native.Nat.{_+_, min};
 ghost use mathlib.Core.Path.{_≡_};
 ghost use lib.ListN.{length, set};
 ghost use Rattle.listing.specs.Listing.{decimalText, hexText, wordsText, answerText, answersText, marksText, doneText, refusedText};
-ghost use Rattle.listing.specs.Contracts.{endIn, Written, Listed};
+ghost use Rattle.listing.specs.Contracts.{endIn, PutExit, ListingExit};
 
 // Byte `at` of the text, where there is one. Where the next one goes: no further than one past the end.
 fn put(text: &mut [u8], at: usize, b: u8) -> usize
@@ -20,7 +20,7 @@ fn put(text: &mut [u8], at: usize, b: u8) -> usize
 
 // Some bytes, from `at` on. Where the next one goes.
 fn put_all(text: &mut [u8], at: usize, bytes: &[u8]) -> usize
-    ensures { λ r. ⌜ Written (now (bytes .entry)) (now (text .entry)) (now (text .exit)) at r ⌝ }
+    ensures { λ r. ⌜ PutExit (now (bytes .entry)) (now (text .entry)) (now (text .exit)) at r ⌝ }
 {
     let mut to = at;
     let mut i = 0;
@@ -33,7 +33,7 @@ fn put_all(text: &mut [u8], at: usize, bytes: &[u8]) -> usize
 
 // A number in decimal.
 fn put_decimal(text: &mut [u8], at: usize, n: u64) -> usize
-    ensures { λ r. ⌜ Written (decimalText n) (now (text .entry)) (now (text .exit)) at r ⌝ }
+    ensures { λ r. ⌜ PutExit (decimalText n) (now (text .entry)) (now (text .exit)) at r ⌝ }
 {
     let mut digits = [0u8; 20];
     let k = io::decimal(n, &mut digits);
@@ -42,7 +42,7 @@ fn put_decimal(text: &mut [u8], at: usize, n: u64) -> usize
 
 // A number in 16 hexadecimal digits.
 fn put_hex(text: &mut [u8], at: usize, n: u64) -> usize
-    ensures { λ r. ⌜ Written (hexText n) (now (text .entry)) (now (text .exit)) at r ⌝ }
+    ensures { λ r. ⌜ PutExit (hexText n) (now (text .entry)) (now (text .exit)) at r ⌝ }
 {
     let mut digits = [0u8; 16];
     let k = io::hex(n, 16, &mut digits);
@@ -51,7 +51,7 @@ fn put_hex(text: &mut [u8], at: usize, n: u64) -> usize
 
 // Each word after a space.
 fn put_words(text: &mut [u8], at: usize, words: &[u64]) -> usize
-    ensures { λ r. ⌜ Written (wordsText (now (words .entry))) (now (text .entry)) (now (text .exit)) at r ⌝ }
+    ensures { λ r. ⌜ PutExit (wordsText (now (words .entry))) (now (text .entry)) (now (text .exit)) at r ⌝ }
 {
     let mut to = at;
     let mut i = 0;
@@ -65,7 +65,7 @@ fn put_words(text: &mut [u8], at: usize, words: &[u64]) -> usize
 
 // The line of the answer whose header is given.
 fn put_answer(text: &mut [u8], at: usize, refusal: u64, words: &[u64]) -> usize
-    ensures { λ r. ⌜ Written (answerText refusal (now (words .entry))) (now (text .entry)) (now (text .exit)) at r ⌝ }
+    ensures { λ r. ⌜ PutExit (answerText refusal (now (words .entry))) (now (text .entry)) (now (text .exit)) at r ⌝ }
 {
     let to = put_decimal(text, at, refusal);
     let to = put(text, to, 32);
@@ -83,7 +83,7 @@ fn count_of(n: u64, left: usize) -> usize
 
 // A line for each of `count` answers.
 fn put_answers(text: &mut [u8], at: usize, answers: &[u64], count: usize) -> usize
-    ensures { λ r. ⌜ Written (answersText count (now (answers .entry))) (now (text .entry)) (now (text .exit)) at r ⌝ }
+    ensures { λ r. ⌜ PutExit (answersText count (now (answers .entry))) (now (text .entry)) (now (text .exit)) at r ⌝ }
 {
     let mut to = at;
     let mut from = 0;
@@ -102,7 +102,7 @@ fn put_answers(text: &mut [u8], at: usize, answers: &[u64], count: usize) -> usi
 
 // The cells that were read.
 fn put_marks(text: &mut [u8], at: usize, marks: &[u8]) -> usize
-    ensures { λ r. ⌜ Written (marksText (now (marks .entry))) (now (text .entry)) (now (text .exit)) at r ⌝ }
+    ensures { λ r. ⌜ PutExit (marksText (now (marks .entry))) (now (text .entry)) (now (text .exit)) at r ⌝ }
 {
     let mut to = at;
     let mut i = 0;
@@ -118,7 +118,7 @@ fn put_marks(text: &mut [u8], at: usize, marks: &[u8]) -> usize
 
 // The text of a refused job. How long it is, or one more than the room for it.
 pub fn put_refusal(text: &mut [u8], k: u64) -> usize
-    ensures { λ r. ⌜ Listed (refusedText k) (now (text .entry)) (now (text .exit)) r ⌝ }
+    ensures { λ r. ⌜ ListingExit (refusedText k) (now (text .entry)) (now (text .exit)) r ⌝ }
 {
     let to = put_all(text, 0, b"refused ");
     let to = put_decimal(text, to, k);
@@ -127,7 +127,7 @@ pub fn put_refusal(text: &mut [u8], k: u64) -> usize
 
 // The text of a job that was done. How long it is, or one more than the room for it.
 pub fn put_done(text: &mut [u8], answers: &[u64], count: usize, marks: &[u8]) -> usize
-    ensures { λ r. ⌜ Listed (doneText (now (answers .entry)) count (now (marks .entry))) (now (text .entry))
+    ensures { λ r. ⌜ ListingExit (doneText (now (answers .entry)) count (now (marks .entry))) (now (text .entry))
         (now (text .exit)) r ⌝ }
 {
     let to = put_answers(text, 0, answers, count);

@@ -26,12 +26,12 @@ use Rattle.mesh_area.specs.Layout.{facesIn, cellsIn, meshIn, LentWords, LentFlo
 use Rattle.mesh_area.proofs.LayoutLaws.{length-facesIn, length-cellsIn, mesh-same}
 use Rattle.mesh_orientation.specs.Orientation.{misplaced}
 use Rattle.mesh_neighbours.specs.Neighbours.{linked}
-use Rattle.mesh_neighbours.specs.Contracts.{Linked, Laid}
+use Rattle.mesh_neighbours.specs.Contracts.{FillNeighboursExit, CellLists}
 use Rattle.mesh_connection.specs.Connection.{connectedCells}
-use Rattle.mesh_connection.specs.Contracts.{Connected}
+use Rattle.mesh_connection.specs.Contracts.{EnsureConnectedExit}
 use Rattle.mesh.specs.Mesh.{joined}
 use Rattle.mesh.specs.Case.{surveyOf, areaShort, meshOf, caseFaces, meshFrom}
-use Rattle.mesh.specs.Contracts.{Surveying, surveyed, refusing, builtAs, sizesFor, LaidOut, Building, draftsHeld}
+use Rattle.mesh.specs.Contracts.{SurveyExit, surveyed, refusing, builtAs, sizesFor, LaidOut, BuildExit, partialMeshIn}
 use Rattle.arith.specs.Bytes.{le32}
 use Rattle.arith.specs.F64.{within}
 use Rattle.reading.proofs.ResultLaws.{bound}
@@ -43,13 +43,13 @@ use Rattle.case_definitions.proofs.Walking.{words-part}
 use Rattle.case_definitions.proofs.RecordLaws.{definition-read}
 use Rattle.case_file.proofs.ReadLaws.{length-readAll}
 use Rattle.case_file.proofs.TrailerLaws.{opens}
-use Rattle.mesh_faces.specs.Contracts.{sized}
-use Rattle.mesh_cells.specs.Cells.{Draft, Drafts, drafts}
+use Rattle.mesh_faces.specs.Contracts.{withFaces}
+use Rattle.mesh_cells.specs.Cells.{PartialCell, PartialMesh, partialMesh}
 use Rattle.mesh_cells.specs.Contracts as cells
-use Rattle.mesh_cells.specs.Partial.{draftIn, draftsIn}
-use Rattle.mesh_cells.specs.Contracts.{Lists, Held, Adding, added}
-use Rattle.mesh_cells.specs.declared.Drafted.{Drafted}
-use Rattle.mesh_cells.specs.declared.Drafted.the-variants as Drafted
+use Rattle.mesh_cells.specs.Partial.{partialCellIn, partialCellsIn}
+use Rattle.mesh_cells.specs.Contracts.{FaceLists, PartialMeshHeld, AddCellsExit, added}
+use Rattle.mesh_cells.specs.declared.CellsAdded.{CellsAdded}
+use Rattle.mesh_cells.specs.declared.CellsAdded.the-variants as CellsAdded
 use Rattle.mesh_centres.specs.Finish.{finished, finishedAs}
 use Rattle.mesh_centres.specs.declared.Finished.{Finished}
 use Rattle.mesh_centres.specs.declared.Finished.the-variants as Finished
@@ -70,19 +70,19 @@ pub record Standing (m : Result Mesh) (n : ℕ) (ps : List Vec3) (w : List ℕ) 
   pub lent-floats : LentFloats s f
 
 module _ {m : Result Mesh} {n : ℕ} {ps : List Vec3} {w : List ℕ} {f : List Float} where
-  pub built : {s : Sizes} → m ≡ fine (meshIn ps s w f) → s .slots ≡ n → LentWords s w → LentFloats s f → Building m n ps w f (Built.Mesh s)
+  pub built : {s : Sizes} → m ≡ fine (meshIn ps s w f) → s .slots ≡ n → LentWords s w → LentFloats s f → BuildExit m n ps w f (Built.Mesh s)
   unfolding builtAs LaidOut
   built e k lw lf = record { answer = sym e; laid-out = (k, lw, lf) }
 
-  pub barred : {k : ℕ} → m ≡ refused k → Building m n ps w f (Built.Refused k)
+  pub barred : {k : ℕ} → m ≡ refused k → BuildExit m n ps w f (Built.Refused k)
   unfolding builtAs LaidOut
   barred e = record { answer = sym e; laid-out = tt }
 
-  pub building-refused : {r : Built} (k : ℕ) → Building m n ps w f r → r ≡ Built.Refused k → m ≡ refused k
+  pub building-refused : {r : Built} (k : ℕ) → BuildExit m n ps w f r → r ≡ Built.Refused k → m ≡ refused k
   unfolding builtAs
   building-refused k b e = sym (b .answer) ∙ ap (builtAs ps w f) e
 
-  pub building-mesh : {r : Built} (s : Sizes) → Building m n ps w f r → r ≡ Built.Mesh s → Standing m n ps w f s
+  pub building-mesh : {r : Built} (s : Sizes) → BuildExit m n ps w f r → r ≡ Built.Mesh s → Standing m n ps w f s
   unfolding builtAs LaidOut
   building-mesh s b e =
       let l = rw e at (b .laid-out) in
@@ -96,7 +96,7 @@ module _ {m : Result Mesh} {n : ℕ} {ps : List Vec3} {w : List ℕ} {f : List F
       rw (← g, length-facesIn s w f, length-cellsIn s w f, ← p .slots)
 
 -- the mesh or F of a definition are those of another
-pub built-as : {m m′ : Result Mesh} {n n′ : ℕ} {ps : List Vec3} {w : List ℕ} {f : List Float} {r : Built} → m ≡ m′ → n ≡ n′ → Building m n ps w f r → Building m′ n′ ps w f r
+pub built-as : {m m′ : Result Mesh} {n n′ : ℕ} {ps : List Vec3} {w : List ℕ} {f : List Float} {r : Built} → m ≡ m′ → n ≡ n′ → BuildExit m n ps w f r → BuildExit m′ n′ ps w f r
 built-as {ps} {w} {f} {r} e k b = rw (← e, ← k) b
 
 -- ---- 16 and 17
@@ -115,7 +115,7 @@ module _ (ps : List Vec3) (fs : List Face) (cs : List Cell) where
   join-fine e g = rw (e, g, refuse, _>>=_)
 
 -- what neighbours and search leave
-module _ (ps : List Vec3) (s : Sizes) (w w′ w″ : List ℕ) (floats : List Float) (r : Bool) (l : Linked s w w′) (k : Connected s w′ w″ r) where
+module _ (ps : List Vec3) (s : Sizes) (w w′ w″ : List ℕ) (floats : List Float) (r : Bool) (l : FillNeighboursExit s w w′) (k : EnsureConnectedExit s w′ w″ r) where
   reached : r ≡ connectedCells (linked (facesIn s w floats) (cellsIn s w floats))
   reached = k .result floats ∙ ap connectedCells (l .cells floats)
 
@@ -123,10 +123,10 @@ module _ (ps : List Vec3) (s : Sizes) (w w′ w″ : List ℕ) (floats : List Fl
   unfolding meshIn
   mesh-joined = mesh-same ps s w′ w″ floats floats (k .kept) refl ∙ rw (l .faces floats, l .cells floats)
 
-  pub joined-17 : anyOf (misplaced (cellsIn s w floats)) (facesIn s w floats) ≡ false → r ≡ false → Building (joined ps (facesIn s w floats) (cellsIn s w floats)) (s .slots) ps w″ floats (Built.Refused 17)
+  pub joined-17 : anyOf (misplaced (cellsIn s w floats)) (facesIn s w floats) ≡ false → r ≡ false → BuildExit (joined ps (facesIn s w floats) (cellsIn s w floats)) (s .slots) ps w″ floats (Built.Refused 17)
   joined-17 e g = barred (join-17 ps (facesIn s w floats) (cellsIn s w floats) e (sym reached ∙ g))
 
-  pub joined-mesh : anyOf (misplaced (cellsIn s w floats)) (facesIn s w floats) ≡ false → r ≡ true → LentWords s w → LentFloats s floats → length w″ ≡ length w → Building (joined ps (facesIn s w floats) (cellsIn s w floats)) (s .slots) ps w″ floats (Built.Mesh s)
+  pub joined-mesh : anyOf (misplaced (cellsIn s w floats)) (facesIn s w floats) ≡ false → r ≡ true → LentWords s w → LentFloats s floats → length w″ ≡ length w → BuildExit (joined ps (facesIn s w floats) (cellsIn s w floats)) (s .slots) ps w″ floats (Built.Mesh s)
   joined-mesh e g lw lf n =
       built (join-fine ps (facesIn s w floats) (cellsIn s w floats) e (sym reached ∙ g) ∙ ap fine (sym mesh-joined)) refl
       (record { few-slots = lw .few-slots; few-faces = lw .few-faces; few-cells = lw .few-cells; long = rw n (lw .long) }) lf
@@ -164,11 +164,11 @@ pub record Surveys (file : List ℕ) (n : Counts) (f : ℕ) : Type 0 where
   pub right : definitions (n .cells) (wordsOf file n) ≡ fine ds
   pub count : f ≡ facesCounted ds
 
-pub survey-refused : {file : List ℕ} {r : Surveyed} (k : ℕ) → Surveying file r → r ≡ Surveyed.Refused k → surveyOf file ≡ refused k
+pub survey-refused : {file : List ℕ} {r : Surveyed} (k : ℕ) → SurveyExit file r → r ≡ Surveyed.Refused k → surveyOf file ≡ refused k
 survey-refused k (refusing {k = j} e) g = let h : j ≡ k = cc in e ∙ ap refused h
 survey-refused k (surveyed o d f) g = absurd (let z : _≡_ {A = ℕ} 0 1 = cc in omega arith)
 
-pub survey-case : {file : List ℕ} {r : Surveyed} (n : Counts) (f : ℕ) → Surveying file r → r ≡ Surveyed.Case n f → Surveys file n f
+pub survey-case : {file : List ℕ} {r : Surveyed} (n : Counts) (f : ℕ) → SurveyExit file r → r ≡ Surveyed.Case n f → Surveys file n f
 survey-case n f (refusing e) g = absurd (let z : _≡_ {A = ℕ} 0 1 = cc in omega arith)
 survey-case {file} n f (surveyed {n = m} {ds = ds} {f = h} o d e) g =
     let p : m ≡ n = cc in
@@ -227,59 +227,59 @@ module _ (ps : List Vec3) (defs : List Definition) where
 
   -- ---- 11 to 15
 
-  pub filled-refused : (d k : ℕ) → drafts d ps defs ≡ refused k → filled d ps defs ≡ refused k
+  pub filled-refused : (d k : ℕ) → partialMesh d ps defs ≡ refused k → filled d ps defs ≡ refused k
   unfolding filled _>>=_
   filled-refused d k e = rw (e, _>>=_)
 
-  pub filled-fine : (d : ℕ) (t : Drafts) → drafts d ps defs ≡ fine t → completed d ps t ≡ filled d ps defs
+  pub filled-fine : (d : ℕ) (t : PartialMesh) → partialMesh d ps defs ≡ fine t → completed d ps t ≡ filled d ps defs
   unfolding filled _>>=_
   filled-fine d t e = rw (e, _>>=_)
 
-pub completed-15 : (d : ℕ) (ps : List Vec3) (t : Drafts) → mapAll (finished d ps) (t .cells) ≡ refused 15 → completed d ps t ≡ refused 15
+pub completed-15 : (d : ℕ) (ps : List Vec3) (t : PartialMesh) → mapAll (finished d ps) (t .cells) ≡ refused 15 → completed d ps t ≡ refused 15
 unfolding completed _>>=_
 completed-15 d ps t e = rw (e, _>>=_)
 
-pub completed-fine : (d : ℕ) (ps : List Vec3) (t : Drafts) (cs : List Cell) → mapAll (finished d ps) (t .cells) ≡ fine cs → joined ps (t .faces) cs ≡ completed d ps t
+pub completed-fine : (d : ℕ) (ps : List Vec3) (t : PartialMesh) (cs : List Cell) → mapAll (finished d ps) (t .cells) ≡ fine cs → joined ps (t .faces) cs ≡ completed d ps t
 unfolding completed _>>=_
 completed-fine d ps t cs e = rw (e, _>>=_)
 
 -- what `add_cells` answers
-pub record Drafted-mesh (d : ℕ) (ps : List Vec3) (ws : List ℕ) (defs : List Definition) (s : Sizes) (words : List ℕ) (floats : List Float) (n : ℕ) : Type 0 where
-  pub t : Drafts
-  pub drafted : drafts d ps defs ≡ fine t
-  pub held : Held ws s words floats n t
+pub record Partial-mesh (d : ℕ) (ps : List Vec3) (ws : List ℕ) (defs : List Definition) (s : Sizes) (words : List ℕ) (floats : List Float) (n : ℕ) : Type 0 where
+  pub t : PartialMesh
+  pub partial : partialMesh d ps defs ≡ fine t
+  pub held : PartialMeshHeld ws s words floats n t
 
 module _ {d : ℕ} {ps : List Vec3} {ws : List ℕ} {defs : List Definition} {s : Sizes} {words : List ℕ} {floats : List Float} where
-  pub adding-refused : {r : Drafted} (k : ℕ) → Adding d ps ws defs s words floats r → r ≡ Drafted.Refused k → drafts d ps defs ≡ refused k
+  pub adding-refused : {r : CellsAdded} (k : ℕ) → AddCellsExit d ps ws defs s words floats r → r ≡ CellsAdded.Refused k → partialMesh d ps defs ≡ refused k
   adding-refused k (cells.refusing {k = j} e) g = let h : j ≡ k = cc in e ∙ ap refused h
   adding-refused k (added e h) g = absurd (let z : _≡_ {A = ℕ} 0 1 = cc in omega arith)
 
-  pub adding-faces : {r : Drafted} (n : ℕ) → Adding d ps ws defs s words floats r → r ≡ Drafted.Faces n → Drafted-mesh d ps ws defs s words floats n
+  pub adding-faces : {r : CellsAdded} (n : ℕ) → AddCellsExit d ps ws defs s words floats r → r ≡ CellsAdded.Faces n → Partial-mesh d ps ws defs s words floats n
   adding-faces n (cells.refusing e) g = absurd (let z : _≡_ {A = ℕ} 0 1 = cc in omega arith)
-  adding-faces n (added {n = m} {t = t} e h) g = let p : m ≡ n = cc in record { t = t; drafted = e; held = subst (λ (x : ℕ). Held ws s words floats x t) p h }
+  adding-faces n (added {n = m} {t = t} e h) g = let p : m ≡ n = cc in record { t = t; partial = e; held = subst (λ (x : ℕ). PartialMeshHeld ws s words floats x t) p h }
 
--- the drafts that the area holds are those
-pub held-is : (ws : List ℕ) (s : Sizes) (words : List ℕ) (floats : List Float) (n : ℕ) (t : Drafts) → Held ws s words floats n t → draftsHeld ws (sized s n) words floats ≡ t
-unfolding draftsHeld draftsIn draftIn
-held-is ws s words floats n t h = ap₂ (λ (f : List Face) (c : List Draft). record { faces = f; cells = c }) (h .table) (h .cells)
+-- the partial cells that the area holds are those
+pub held-is : (ws : List ℕ) (s : Sizes) (words : List ℕ) (floats : List Float) (n : ℕ) (t : PartialMesh) → PartialMeshHeld ws s words floats n t → partialMeshIn ws (withFaces s n) words floats ≡ t
+unfolding partialMeshIn partialCellsIn partialCellIn
+held-is ws s words floats n t h = ap₂ (λ (f : List Face) (c : List PartialCell). record { faces = f; cells = c }) (h .table) (h .cells)
 
 -- the lists of the cells follow each other
-pub laid-out : (ws : List ℕ) (s : Sizes) (words : List ℕ) → Lists ws s words (s .cells) (s .slots) → ((f : ℕ) → f < s .faces → getD words (12 * f + 0) 0 ≤ 8) → Laid s words
+pub laid-out : (ws : List ℕ) (s : Sizes) (words : List ℕ) → FaceLists ws s words (s .cells) (s .slots) → ((f : ℕ) → f < s .faces → getD words (12 * f + 0) 0 ≤ 8) → CellLists s words
 laid-out ws s words l c =
     record {
-      corners = c;
+      vertices = c;
       next = λ i h. let e = l .next i h in omega arith;
       last = λ i h. let e = l .last i h in omega arith;
     }
 
--- the number of faces in the sizes does not matter to the drafts
-pub held-sized : (ws : List ℕ) (s : Sizes) (words : List ℕ) (floats : List Float) (n : ℕ) (t : Drafts) → Held ws s words floats n t → Held ws (sized s n) words floats n t
-unfolding draftsIn draftIn
+-- the number of faces in the sizes does not matter to the partial cells
+pub held-sized : (ws : List ℕ) (s : Sizes) (words : List ℕ) (floats : List Float) (n : ℕ) (t : PartialMesh) → PartialMeshHeld ws s words floats n t → PartialMeshHeld ws (withFaces s n) words floats n t
+unfolding partialCellsIn partialCellIn
 held-sized ws s words floats n t h =
     record {
       table = h .table;
       few = h .few;
-      corners = h .corners;
+      vertices = h .vertices;
       cells = h .cells;
       lists =
           record {
@@ -289,15 +289,15 @@ held-sized ws s words floats n t h =
             none = h .lists .none;
             few = h .lists .few;
             counts = h .lists .counts;
-            lonely = h .lists .lonely;
+            unlinked = h .lists .unlinked;
           };
     }
 
 -- an area that is as long as before is lent for n faces
-pub lent-words : (s : Sizes) (n : ℕ) (w w′ : List ℕ) → LentWords s w → length w′ ≡ length w → n ≤ s .slots → LentWords (sized s n) w′
+pub lent-words : (s : Sizes) (n : ℕ) (w w′ : List ℕ) → LentWords s w → length w′ ≡ length w → n ≤ s .slots → LentWords (withFaces s n) w′
 lent-words s n w w′ l e h = record { few-slots = l .few-slots; few-faces = h; few-cells = l .few-cells; long = rw e (l .long) }
 
-pub lent-floats : (s : Sizes) (n : ℕ) (f f′ : List Float) → LentFloats s f → length f′ ≡ length f → n ≤ s .slots → LentFloats (sized s n) f′
+pub lent-floats : (s : Sizes) (n : ℕ) (f f′ : List Float) → LentFloats s f → length f′ ≡ length f → n ≤ s .slots → LentFloats (withFaces s n) f′
 lent-floats s n f f′ l e h = record { few-slots = l .few-slots; few-faces = h; few-cells = l .few-cells; long = rw e (l .long) }
 
 -- ---- 4
@@ -365,12 +365,12 @@ unfolding finishedAs
 finish-done m r cs e g = e ∙ ap (λ (r : Finished). finishedAs r cs) g
 
 module _ (d : ℕ) (ps : List Vec3) (ws : List ℕ) (s : Sizes) (words : List ℕ) (floats : List Float) where
-  pub complete-15 : (w : List ℕ) (f : List Float) → mapAll (finished d ps) (draftsIn ws s words floats (s .cells)) ≡ refused 15 → Building (completed d ps (draftsHeld ws s words floats)) (s .slots) ps w f (Built.Refused 15)
-  unfolding draftsHeld
-  complete-15 w f e = barred (completed-15 d ps (draftsHeld ws s words floats) e)
+  pub complete-15 : (w : List ℕ) (f : List Float) → mapAll (finished d ps) (partialCellsIn ws s words floats (s .cells)) ≡ refused 15 → BuildExit (completed d ps (partialMeshIn ws s words floats)) (s .slots) ps w f (Built.Refused 15)
+  unfolding partialMeshIn
+  complete-15 w f e = barred (completed-15 d ps (partialMeshIn ws s words floats) e)
 
   pub complete-done : (fs : List Face) (cs : List Cell) (w : List ℕ) (f : List Float) (r : Built) → fs ≡ facesIn s words floats
-      → mapAll (finished d ps) (draftsIn ws s words floats (s .cells)) ≡ fine cs → Building (joined ps fs cs) (s .slots) ps w f r → Building (completed d ps (draftsHeld ws s words floats)) (s .slots) ps w f r
-  unfolding draftsHeld
+      → mapAll (finished d ps) (partialCellsIn ws s words floats (s .cells)) ≡ fine cs → BuildExit (joined ps fs cs) (s .slots) ps w f r → BuildExit (completed d ps (partialMeshIn ws s words floats)) (s .slots) ps w f r
+  unfolding partialMeshIn
   complete-done fs cs w f r e g b =
-      built-as (ap (λ (x : List Face). joined ps x cs) e ∙ completed-fine d ps (draftsHeld ws s words floats) cs g) refl b
+      built-as (ap (λ (x : List Face). joined ps x cs) e ∙ completed-fine d ps (partialMeshIn ws s words floats) cs g) refl b

@@ -1,5 +1,5 @@
 -- What a case says outside its fields: its counts and its cells' definitions, and the mesh of them.
--- `Surveyed-case`, `surveyOf`: refusals 1, 2 and 3. `areaShort`: 4. `meshOf`: 8 to 17.
+-- `CaseSurvey`, `surveyOf`: refusals 1, 2 and 3. `areaShort`: 4. `meshOf`: 8 to 17.
 -- `caseFaces`: F. `meshFrom`: a case alone.
 use Prim.Native.Nat.{ℕ, _+_, _*_}
 use mathlib.Core.Bool.{Bool, _||_}
@@ -15,29 +15,29 @@ use Rattle.mesh_area.specs.Layout.{pointsIn}
 use Rattle.mesh.specs.Mesh.{fromCells}
 
 -- the counts and the definitions of a case
-pub record Surveyed-case : Type 0 where
+pub record CaseSurvey : Type 0 where
   pub counts : Counts
   pub definitions : List Definition
 
 -- refusals 1, 2 and 3
-unfoldable pub surveyOf : List ℕ → Result Surveyed-case
+unfoldable pub surveyOf : List ℕ → Result CaseSurvey
 surveyOf file =
     openedCase (opened file) >>= λ n.
     definitions (n .cells) (wordsOf file n) >>= λ ds.
     fine (record { counts = n; definitions = ds })
 
 -- refusal 4: "work area under 16F+96C words or 12F+64C floats"
-unfoldable pub areaShort : Surveyed-case → ℕ → ℕ → Bool
+unfoldable pub areaShort : CaseSurvey → ℕ → ℕ → Bool
 areaShort c words floats =
     let f = facesCounted (c .definitions) in
     ltb words (16 * f + 96 * c .counts .cells) || ltb floats (12 * f + 64 * c .counts .cells)
 
 -- refusals 8 to 17, or the mesh
-unfoldable pub meshOf : List ℕ → Surveyed-case → Result Mesh
+unfoldable pub meshOf : List ℕ → CaseSurvey → Result Mesh
 meshOf file c = fromCells (c .counts .dimension) (pointsIn file (c .counts .points)) (c .definitions)
 
 -- F of a case, "the faces of all definitions counted singly"
-unfoldable pub caseFaces : Result Surveyed-case → ℕ
+unfoldable pub caseFaces : Result CaseSurvey → ℕ
 caseFaces (refused k) = 0
 caseFaces (fine c) = facesCounted (c .definitions)
 

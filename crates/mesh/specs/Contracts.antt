@@ -1,5 +1,5 @@
 -- The contracts of `from_cells` and its parts.
--- `Surveying`, `builtAs`, `sizesFor`, `LaidOut`, `Building`: what the answers stand for.
+-- `SurveyExit`, `builtAs`, `sizesFor`, `LaidOut`, `BuildExit`: what the answers stand for.
 use Prim.Native.Nat.{ℕ, _+_, _*_, _≤_, _<_}
 use mathlib.Core.Path.{_≡_}
 use mathlib.Core.List.{List}
@@ -17,18 +17,18 @@ use Rattle.mesh_area.specs.Layout.{meshIn, LentWords, LentFloats, facesIn}
 use Rattle.mesh_area.specs.declared.Sizes.{Sizes}
 use Rattle.mesh.specs.declared.Surveyed.{Surveyed}
 use Rattle.mesh.specs.declared.Built.{Built}
-use Rattle.mesh_neighbours.specs.Contracts.{Laid}
-use Rattle.mesh_cells.specs.Cells.{Drafts}
-use Rattle.mesh_cells.specs.Partial.{draftsIn}
-use Rattle.mesh_centres.specs.Contracts.{Finishable}
+use Rattle.mesh_neighbours.specs.Contracts.{CellLists}
+use Rattle.mesh_cells.specs.Cells.{PartialMesh}
+use Rattle.mesh_cells.specs.Partial.{partialCellsIn}
+use Rattle.mesh_centres.specs.Contracts.{FinishCellsEntry}
 use Rattle.mesh.specs.Case.{surveyOf}
 use Rattle.mesh.specs.declared.Surveyed.the-variants as Surveyed
 use Rattle.mesh.specs.declared.Built.the-variants as Built
 
 -- a case with its counts and the number of faces of all its definitions, or the refusal
-pub data Surveying (file : List ℕ) : Surveyed → Type 0 where
-  surveyed : {n : Counts} {ds : List Definition} {f : ℕ} → opened file ≡ Case n → definitions (n .cells) (wordsOf file n) ≡ fine ds → f ≡ facesCounted ds → Surveying file (Surveyed.Case n f)
-  refusing : {k : ℕ} → surveyOf file ≡ refused k → Surveying file (Surveyed.Refused k)
+pub data SurveyExit (file : List ℕ) : Surveyed → Type 0 where
+  surveyed : {n : Counts} {ds : List Definition} {f : ℕ} → opened file ≡ Case n → definitions (n .cells) (wordsOf file n) ≡ fine ds → f ≡ facesCounted ds → SurveyExit file (Surveyed.Case n f)
+  refusing : {k : ℕ} → surveyOf file ≡ refused k → SurveyExit file (Surveyed.Refused k)
 
 -- what each answer of the builder stands for: the mesh that the area holds, or the refusal
 unfoldable pub builtAs : List Vec3 → List ℕ → List Float → Built → Result Mesh
@@ -45,27 +45,27 @@ LaidOut f words floats (Built.Mesh s) = (s .slots ≡ f) × LentWords s words ×
 LaidOut f words floats (Built.Refused k) = Unit {0}
 
 -- the answer stands for m, laid out for f faces; so a mesh's sizes are `sizesFor f`, since it has as many faces and cells as they say
-pub record Building (m : Result Mesh) (f : ℕ) (ps : List Vec3) (words : List ℕ) (floats : List Float) (r : Built) : Type 0 where
+pub record BuildExit (m : Result Mesh) (f : ℕ) (ps : List Vec3) (words : List ℕ) (floats : List Float) (r : Built) : Type 0 where
   pub answer : builtAs ps words floats r ≡ m
   pub laid-out : LaidOut f words floats r
 
--- the drafts that the area holds
-unfoldable pub draftsHeld : List ℕ → Sizes → List ℕ → List Float → Drafts
-draftsHeld ws s words floats = record { faces = facesIn s words floats; cells = draftsIn ws s words floats (s .cells) }
+-- the partial cells that the area holds
+unfoldable pub partialMeshIn : List ℕ → Sizes → List ℕ → List Float → PartialMesh
+partialMeshIn ws s words floats = record { faces = facesIn s words floats; cells = partialCellsIn ws s words floats (s .cells) }
 
 -- the cells have their centres
-pub record Joinable (s : Sizes) (words : List ℕ) (floats : List Float) : Type 0 where
+pub record JoinEntry (s : Sizes) (words : List ℕ) (floats : List Float) : Type 0 where
   pub lent-words : LentWords s words
   pub lent-floats : LentFloats s floats
-  pub laid : Laid s words
+  pub laid : CellLists s words
 
--- the cells are drafts
-pub record Completable (case : List ℕ) (points : ℕ) (ws words : List ℕ) (floats : List Float) (s : Sizes) : Type 0 where
-  pub finishable : Finishable case points ws words floats s
-  pub corners : (f : ℕ) → f < s .faces → getD words (12 * f + 0) 0 ≤ 8
+-- the cells are partial cells
+pub record CompleteEntry (case : List ℕ) (points : ℕ) (ws words : List ℕ) (floats : List Float) (s : Sizes) : Type 0 where
+  pub finishable : FinishCellsEntry case points ws words floats s
+  pub vertices : (f : ℕ) → f < s .faces → getD words (12 * f + 0) 0 ≤ 8
 
 -- the case is right, and the area long enough for it
-pub record Buildable (case : List ℕ) (n : Counts) (faces : ℕ) (words : List ℕ) (floats : List Float) : Type 0 where
+pub record BuildEntry (case : List ℕ) (n : Counts) (faces : ℕ) (words : List ℕ) (floats : List Float) : Type 0 where
   pub opens : opened case ≡ Case n
   pub defs : List Definition
   pub right : definitions (n .cells) (wordsOf case n) ≡ fine defs

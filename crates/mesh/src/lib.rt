@@ -5,7 +5,7 @@ use case_file::Counts;
 use case_file::Opened;
 use case_file::trailer;
 use mesh_area::Sizes;
-use mesh_cells::Drafted;
+use mesh_cells::CellsAdded;
 use mesh_centres::Finished;
 ghost use mathlib.Core.Path.{_≡_};
 ghost use Prim.Native.Nat.{_+_, _*_, _<_};
@@ -18,9 +18,9 @@ ghost use Rattle.mesh_area.specs.Layout.{facesIn, cellsIn};
 ghost use Rattle.reading.specs.Result.{fine};
 ghost use Rattle.case_definitions.specs.Faces.{Definition, facesCounted};
 ghost use Rattle.case_definitions.specs.Definitions.{definitions};
-ghost use Rattle.mesh_cells.specs.Contracts.{Addable};
+ghost use Rattle.mesh_cells.specs.Contracts.{AddCellsEntry};
 ghost use Rattle.mesh.specs.Mesh.{joined, completed, filled, fromCells};
-ghost use Rattle.mesh.specs.Contracts.{Surveying, Building, Joinable, Completable, Buildable, draftsHeld};
+ghost use Rattle.mesh.specs.Contracts.{SurveyExit, BuildExit, JoinEntry, CompleteEntry, BuildEntry, partialMeshIn};
 ghost use Rattle.mesh.specs.Case.{surveyOf, areaShort, caseFaces, meshFrom};
 
 // The counts of a case and the number of faces of all its definitions, or refusal 1, 2 or 3.
@@ -37,7 +37,7 @@ pub enum Built {
 
 // Opens a case and walks its definitions.
 pub fn survey(case: &[u8]) -> Surveyed
-    ensures { λ r. ⌜ Surveying (now (case .entry)) r ⌝ }
+    ensures { λ r. ⌜ SurveyExit (now (case .entry)) r ⌝ }
 {
     match trailer::open(case) {
         Opened::Refused(k) => Surveyed::Refused(k),
@@ -62,8 +62,8 @@ pub fn is_short(n: Counts, faces: usize, words: usize, floats: usize) -> bool
 
 // 16, then the neighbours of each cell, then 17.
 fn join(words: &mut [u32], floats: &[f64], s: Sizes) -> Built
-    requires { ⌜ Joinable s (now words) (now floats) ⌝ }
-    ensures { λ r. ⌜ ((ps : List Vec3) → Building (joined ps (facesIn s (now (words .entry)) (now (floats .entry)))
+    requires { ⌜ JoinEntry s (now words) (now floats) ⌝ }
+    ensures { λ r. ⌜ ((ps : List Vec3) → BuildExit (joined ps (facesIn s (now (words .entry)) (now (floats .entry)))
         (cellsIn s (now (words .entry)) (now (floats .entry)))) (s .slots) ps (now (words .exit)) (now (floats .entry))
         r) ⌝ }
 {
@@ -78,7 +78,7 @@ fn join(words: &mut [u32], floats: &[f64], s: Sizes) -> Built
     }
 }
 
-// The drafts in the area with their centres (15), then 16 and 17.
+// The partial cells in the area with their centres (15), then 16 and 17.
 fn complete(
     case: &[u8],
     n: Counts,
@@ -87,9 +87,9 @@ fn complete(
     floats: &mut [f64],
     s: Sizes,
 ) -> Built
-    requires { ⌜ Completable (now case) (n .points) (wordsIn (now ws)) (now words) (now floats) s ⌝ }
-    ensures { λ r. ⌜ Building (completed (n .dimension) (pointsIn (now (case .entry)) (n .points))
-        (draftsHeld (wordsIn (now (ws .entry))) s (now (words .entry)) (now (floats .entry)))) (s .slots)
+    requires { ⌜ CompleteEntry (now case) (n .points) (wordsIn (now ws)) (now words) (now floats) s ⌝ }
+    ensures { λ r. ⌜ BuildExit (completed (n .dimension) (pointsIn (now (case .entry)) (n .points))
+        (partialMeshIn (wordsIn (now (ws .entry))) s (now (words .entry)) (now (floats .entry)))) (s .slots)
         (pointsIn (now (case .entry)) (n .points)) (now (words .exit)) (now (floats .exit)) r ⌝ }
 {
     match mesh_centres::finish_cells(case, n.points, n.dimension, ws, words, floats, s) {
@@ -100,14 +100,14 @@ fn complete(
 
 // 11 to 17.
 fn fill(case: &[u8], n: Counts, ws: &[u8], words: &mut [u32], floats: &mut [f64], s: Sizes) -> Built
-    requires { ⌜ Addable (now case) (n .points) (wordsIn (now ws)) (now words) (now floats) s ⌝ }
+    requires { ⌜ AddCellsEntry (now case) (n .points) (wordsIn (now ws)) (now words) (now floats) s ⌝ }
     ensures { λ r. ⌜ ((defs : List Definition) → definitions (s .cells) (wordsIn (now (ws .entry))) ≡ fine defs
-        → Building (filled (n .dimension) (pointsIn (now (case .entry)) (n .points)) defs) (s .slots)
+        → BuildExit (filled (n .dimension) (pointsIn (now (case .entry)) (n .points)) defs) (s .slots)
         (pointsIn (now (case .entry)) (n .points)) (now (words .exit)) (now (floats .exit)) r) ⌝ }
 {
     match mesh_cells::add_cells(case, n.points, n.dimension, ws, words, floats, s) {
-        Drafted::Refused(k) => Built::Refused(k),
-        Drafted::Faces(faces) => complete(
+        CellsAdded::Refused(k) => Built::Refused(k),
+        CellsAdded::Faces(faces) => complete(
             case,
             n,
             ws,
@@ -124,9 +124,9 @@ fn fill(case: &[u8], n: Counts, ws: &[u8], words: &mut [u32], floats: &mut [f64]
 
 // The mesh of a case that was surveyed, into an area that is long enough: refusals 8 to 17.
 pub fn build(case: &[u8], n: Counts, faces: usize, words: &mut [u32], floats: &mut [f64]) -> Built
-    requires { ⌜ Buildable (now case) n faces (now words) (now floats) ⌝ }
+    requires { ⌜ BuildEntry (now case) n faces (now words) (now floats) ⌝ }
     ensures { λ r. ⌜ ((defs : List Definition) → definitions (n .cells) (wordsOf (now (case .entry)) n) ≡ fine defs
-        → Building (fromCells (n .dimension) (pointsIn (now (case .entry)) (n .points)) defs) faces
+        → BuildExit (fromCells (n .dimension) (pointsIn (now (case .entry)) (n .points)) defs) faces
         (pointsIn (now (case .entry)) (n .points)) (now (words .exit)) (now (floats .exit)) r) ⌝ }
 {
     let k = mesh_coordinates::unacceptable(case, n);
@@ -150,7 +150,7 @@ pub fn build(case: &[u8], n: Counts, faces: usize, words: &mut [u32], floats: &m
 
 // The mesh of a case: refusals 1 to 4, and 8 to 17.
 pub fn from_cells(case: &[u8], words: &mut [u32], floats: &mut [f64]) -> Built
-    ensures { λ r. ⌜ Building
+    ensures { λ r. ⌜ BuildExit
         (meshFrom (now (case .entry)) (length (now (words .entry))) (length (now (floats .entry))))
         (caseFaces (surveyOf (now (case .entry))))
         (pointsIn (now (case .entry)) (countsOf (now (case .entry)) .points)) (now (words .exit)) (now (floats .exit))

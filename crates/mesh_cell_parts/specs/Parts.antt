@@ -1,6 +1,6 @@
--- The parts of a cell's draft: refusals 13 and 14 of a face of the cell, and the cell's record.
+-- The parts of a cell's partial cell: refusals 13 and 14 of a face of the cell, and the cell's record.
 -- `measuredFrom`: the geometry of a face that is turned outward.
--- `Growing`, `addFaceOf`: the faces of a cell, one after another.
+-- `CellFaces`, `addFaceOf`: the faces of a cell, one after another.
 -- `place_face`: `Grew`, `Placing`. `put_cell`: `CellPut`.
 use Prim.Native.Nat.{ℕ, _+_}
 use mathlib.Core.List.{List, [], _∷_, _++_}
@@ -18,13 +18,13 @@ unfoldable pub measuredFrom : Oriented → FaceGeometry
 measuredFrom o = record { centre = o .centre; area = o .area; normal = o .normal; «area_vector» = o .areaVector }
 
 -- the face table, and the numbers of the present cell's faces so far
-pub record Growing : Type 0 where
+pub record CellFaces : Type 0 where
   pub faces : List Face
-  pub own : List ℕ
+  pub numbers : List ℕ
 
 -- refusals 13 and 14, "face by face"
-unfoldable pub addFaceOf : ℕ → List Vec3 → ℕ → Vec3 → Growing → List ℕ → Result Growing
+unfoldable pub addFaceOf : ℕ → List Vec3 → ℕ → Vec3 → CellFaces → List ℕ → Result CellFaces
 addFaceOf d ps cell reference g l =
     orientedFace d ps reference l >>= λ o.
     addFace cell (o .vertices) (measuredFrom o) (g .faces) >>= λ p.
-    fine (record { faces = p .faces; own = g .own ++ p .number ∷ [] })
+    fine (record { faces = p .faces; numbers = g .numbers ++ p .number ∷ [] })

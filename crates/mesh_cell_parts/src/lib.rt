@@ -1,4 +1,4 @@
-// The parts of a cell's draft, in the lent area: a face of it in the face table, and its record.
+// The parts of a cell's partial cell, in the lent area: a face of it in the face table, and its record.
 use arith::Vec3;
 use case_definitions::Head;
 use mesh_area::Sizes;
@@ -7,8 +7,8 @@ use mesh_geometry::TurnedFace;
 ghost use Prim.Native.Nat.{_+_, _*_, _≤_, _<_};
 ghost use lib.ListN.{length};
 ghost use Rattle.mesh_area.specs.Layout.{pointsIn};
-ghost use Rattle.mesh_faces.specs.Contracts.{Usable};
-ghost use Rattle.mesh_cell_parts.specs.Contracts.{Placing, CellPut};
+ghost use Rattle.mesh_faces.specs.Contracts.{UseFaceEntry};
+ghost use Rattle.mesh_cell_parts.specs.Contracts.{PlaceFaceExit, PutCellExit};
 
 // A face's number and the number of faces in the table, or the refusal.
 pub enum FacePlaced {
@@ -36,9 +36,9 @@ pub fn place_face(
     cell: NewCell,
     vertices: &mut [u32],
 ) -> FacePlaced
-    requires { ⌜ Usable s (now words) (now floats) (now vertices) (cell .number) × (points ≤ 65536)
+    requires { ⌜ UseFaceEntry s (now words) (now floats) (now vertices) (cell .number) × (points ≤ 65536)
         × (24 * points ≤ length (now case)) ⌝ }
-    ensures { λ r. ⌜ Placing dimension (pointsIn (now (case .entry)) points) cell s (now (words .entry))
+    ensures { λ r. ⌜ PlaceFaceExit dimension (pointsIn (now (case .entry)) points) cell s (now (words .entry))
         (now (words .exit)) (now (floats .entry)) (now (floats .exit)) (now (vertices .entry)) r ⌝ }
 {
     let reference = cell.reference;
@@ -67,7 +67,7 @@ pub fn put_cell(
 )
     requires { ⌜ (s .slots ≤ 1048576) × (i < 16384) × (16 * s .slots + 8 * i + 8 ≤ length (now words))
         × (12 * s .slots + 4 * i + 4 ≤ length (now floats)) ⌝ }
-    ensures { λ _. ⌜ CellPut s (now (words .entry)) (now (words .exit)) (now (floats .entry)) (now (floats .exit)) i at
+    ensures { λ _. ⌜ PutCellExit s (now (words .entry)) (now (words .exit)) (now (floats .entry)) (now (floats .exit)) i at
         first count reference ⌝ }
 {
     let w = 16 * s.slots + 8 * i;

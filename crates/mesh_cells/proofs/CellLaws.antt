@@ -30,21 +30,21 @@ use Rattle.mesh_area.specs.declared.Sizes.{Sizes}
 use Rattle.mesh_area.specs.Layout.{listAt, vecFrom, facesIn, meshWords}
 use Rattle.mesh_face_table.specs.Chains.{Chained}
 use Rattle.mesh_face_table.proofs.RecordParts.{read-count}
-use Rattle.mesh_faces.specs.Contracts.{sized}
+use Rattle.mesh_faces.specs.Contracts.{withFaces}
 use Rattle.mesh_faces.proofs.AreaLaws.{chained-kept, faces-kept}
 use Rattle.mesh_points.specs.Collect.{wrongKind, missing, checked, referenceCase}
 use Rattle.mesh_points.specs.declared.Reference.{Reference}
 use Rattle.mesh_points.specs.declared.Reference.the-variants as Reference
 use Rattle.mesh_cell_parts.specs.Parts.{addFaceOf}
-use Rattle.mesh_cell_parts.specs.Contracts.{CellPut}
+use Rattle.mesh_cell_parts.specs.Contracts.{PutCellExit}
 use Rattle.mesh_cell_parts.specs.declared.NewCell.{NewCell}
-use Rattle.mesh_cells.specs.Cells.{Draft, Drafts, addCell, drafts}
+use Rattle.mesh_cells.specs.Cells.{PartialCell, PartialMesh, addCell, partialMesh}
 use Rattle.mesh_cells.specs.Contracts as Contracts
-use Rattle.mesh_cells.specs.Partial.{cellWord, draftIn, draftsIn}
-use Rattle.mesh_cells.specs.Contracts.{Lists, Adding, growingIn, addFaces, Listed, FacesReady, FacesAdding, CellReady, CellStored, CellFilling, CellFinding, Filled, read, definedIn, Addable, CellTurn, CellAdding}
+use Rattle.mesh_cells.specs.Partial.{cellWord, partialCellIn, partialCellsIn}
+use Rattle.mesh_cells.specs.Contracts.{FaceLists, AddCellsExit, cellFacesIn, addFaces, ListGrowth, AddFacesEntry, AddFacesExit, FillCellEntry, StoredCell, FillCellExit, NewCellExit, CellsSoFar, read, definedIn, AddCellsEntry, AddCellEntry, AddCellExit}
 use Rattle.mesh_cells.specs.Contracts as Contracts
-use Rattle.mesh_cells.specs.declared.Drafted.{Drafted}
-use Rattle.mesh_cells.specs.declared.Drafted.the-variants as Drafted
+use Rattle.mesh_cells.specs.declared.CellsAdded.{CellsAdded}
+use Rattle.mesh_cells.specs.declared.CellsAdded.the-variants as CellsAdded
 use Rattle.mesh_cells.specs.declared.Progress.{Progress}
 use Rattle.mesh_cells.specs.declared.CellFound.{CellFound}
 use Rattle.mesh_cells.specs.declared.CellFound.the-variants as CellFound
@@ -59,8 +59,8 @@ front-puts : {A : Type 0} (l l′ : List A) (b at : ℕ) (vs : List A) → l′ 
 front-puts l l′ b at vs e h =
     sym (take-take b at l′ h) ∙ ap (take b) (ap (take at) e ∙ take-puts l at vs) ∙ take-take b at l h
 
-module _ (ws : List ℕ) (s : Sizes) (words : List ℕ) (floats : List Float) (cell : NewCell) (rd : CellReady ws s words floats cell)
-    (words₁ : List ℕ) (floats₁ : List Float) (at f k : ℕ) (put : CellPut s words words₁ floats floats₁ (cell .number) at f k (cell .reference)) where
+module _ (ws : List ℕ) (s : Sizes) (words : List ℕ) (floats : List Float) (cell : NewCell) (rd : FillCellEntry ws s words floats cell)
+    (words₁ : List ℕ) (floats₁ : List Float) (at f k : ℕ) (put : PutCellExit s words words₁ floats floats₁ (cell .number) at f k (cell .reference)) where
   long-words : length words₁ ≡ length words
   long-words = ap length (put .words-put) ∙ length-puts words (16 * s .slots + 8 * cell .number) (at ∷ f ∷ k ∷ 0 ∷ [])
 
@@ -73,7 +73,7 @@ module _ (ws : List ℕ) (s : Sizes) (words : List ℕ) (floats : List Float) (c
   front-floats : take (12 * s .slots) floats₁ ≡ take (12 * s .slots) floats
   front-floats = front-puts floats floats₁ (12 * s .slots) (12 * s .slots + 4 * cell .number) (cell .reference .x ∷ cell .reference .y ∷ cell .reference .z ∷ []) (put .floats-put) (omega arith)
 
-  pub cell-faces : FacesReady ws s words₁ floats₁ cell
+  pub cell-faces : AddFacesEntry ws s words₁ floats₁ cell
   cell-faces =
       record {
         headed = rd .headed;
@@ -104,7 +104,7 @@ module _ (ws : List ℕ) (s : Sizes) (words : List ℕ) (floats : List Float) (c
       ap (λ (l : List Float). getD l j nan) (put .floats-put)
       ∙ getD-puts-out floats (12 * s .slots + 4 * cell .number) (cell .reference .x ∷ cell .reference .y ∷ cell .reference .z ∷ []) j nan (inl b)
 
-  module _ (words′ : List ℕ) (floats′ : List Float) (n : ℕ) (l : Listed s words₁ words′ floats₁ floats′ (cell .first) (cell .head .faces) n) (ea : at ≡ cell .head .at) (ef : f ≡ cell .first) (ek : k ≡ cell .head .faces) where
+  module _ (words′ : List ℕ) (floats′ : List Float) (n : ℕ) (l : ListGrowth s words₁ words′ floats₁ floats′ (cell .first) (cell .head .faces) n) (ea : at ≡ cell .head .at) (ef : f ≡ cell .first) (ek : k ≡ cell .head .faces) where
     high : (j : ℕ) → 16 * s .slots ≤ j → getD words′ j 0 ≡ getD words₁ j 0
     high j b =
         let e : 13 * s .slots + (j - 13 * s .slots) ≡ j = omega arith in
@@ -118,7 +118,7 @@ module _ (ws : List ℕ) (s : Sizes) (words : List ℕ) (floats : List Float) (c
     stored-word : (j : ℕ) → j < 4 → cellWord s words′ (cell .number) j ≡ getD (at ∷ f ∷ k ∷ 0 ∷ []) j 0
     stored-word j b = high (16 * s .slots + 8 * cell .number + j) (omega arith) ∙ word-put j b
 
-    stored : CellStored s words words′ floats floats′ cell n
+    stored : StoredCell s words words′ floats floats′ cell n
     unfolding vecFrom
     stored =
         let zero-first : 12 * s .slots + 4 * cell .number + 0 ≡ 12 * s .slots + 4 * cell .number = omega arith in
@@ -128,7 +128,7 @@ module _ (ws : List ℕ) (s : Sizes) (words : List ℕ) (floats : List Float) (c
           position = stored-word 0 (omega arith) ∙ ea;
           start = stored-word 1 (omega arith) ∙ ef;
           count = stored-word 2 (omega arith) ∙ ek;
-          alone = stored-word 3 (omega arith);
+          unlinked = stored-word 3 (omega arith);
           averaged =
               rw (float-high (12 * s .slots + 4 * cell .number) (omega arith), float-high (12 * s .slots + 4 * cell .number + 1) (omega arith), float-high (12 * s .slots + 4 * cell .number + 2) (omega arith))
               (rw (rw zero-first at (float-put 0 (omega arith)), float-put 1 (omega arith), float-put 2 (omega arith)));
@@ -139,19 +139,19 @@ module _ (ws : List ℕ) (s : Sizes) (words : List ℕ) (floats : List Float) (c
               (rw (float-before (12 * s .slots + 4 * j) (omega arith), float-before (12 * s .slots + 4 * j + 1) (omega arith), float-before (12 * s .slots + 4 * j + 2) (omega arith)));
         }
 
-  pub cell-filled : (d : ℕ) (ps : List Vec3) (words′ : List ℕ) (floats′ : List Float) (r : Drafted) → at ≡ cell .head .at → f ≡ cell .first → k ≡ cell .head .faces
-      → FacesAdding d ps ws cell s words₁ words′ floats₁ floats′ r → CellFilling d ps ws cell s words words′ floats floats′ r
-  cell-filled d ps words′ floats′ r ea ef ek (Contracts.FacesAdding.added n e l) =
+  pub cell-filled : (d : ℕ) (ps : List Vec3) (words′ : List ℕ) (floats′ : List Float) (r : CellsAdded) → at ≡ cell .head .at → f ≡ cell .first → k ≡ cell .head .faces
+      → AddFacesExit d ps ws cell s words₁ words′ floats₁ floats′ r → FillCellExit d ps ws cell s words words′ floats floats′ r
+  cell-filled d ps words′ floats′ r ea ef ek (Contracts.AddFacesExit.added n e l) =
       let same = faces-kept s words words₁ (rd .lent-words) long-words (rd .chained) front-words floats floats₁ front-floats in
-      Contracts.CellFilling.filled n (rw same at e) (stored words′ floats′ n l ea ef ek)
-  cell-filled d ps words′ floats′ r ea ef ek (Contracts.FacesAdding.refusing j e) =
+      Contracts.FillCellExit.filled n (rw same at e) (stored words′ floats′ n l ea ef ek)
+  cell-filled d ps words′ floats′ r ea ef ek (Contracts.AddFacesExit.refusing j e) =
       let same = faces-kept s words words₁ (rd .lent-words) long-words (rd .chained) front-words floats floats₁ front-floats in
-      Contracts.CellFilling.refusing j (rw same at e)
+      Contracts.FillCellExit.refusing j (rw same at e)
 
--- ---- the drafts in the area, one more
+-- ---- the partial cells in the area, one more
 
 -- no list reaches past the end
-lists-below : (ws : List ℕ) (s : Sizes) (words : List ℕ) (n end : ℕ) → Lists ws s words n end → (left j : ℕ) → j + suc left ≡ n → cellWord s words j 1 + cellWord s words j 2 ≤ end
+lists-below : (ws : List ℕ) (s : Sizes) (words : List ℕ) (n end : ℕ) → FaceLists ws s words n end → (left j : ℕ) → j + suc left ≡ n → cellWord s words j 1 + cellWord s words j 2 ≤ end
 lists-below ws s words n end l zero j e = let w = l .last j (omega arith) in omega arith
 lists-below ws s words n end l (suc left) j e =
     let w = lists-below ws s words n end l left (j + 1) (omega arith) in
@@ -159,9 +159,9 @@ lists-below ws s words n end l (suc left) j e =
     omega arith
 
 module _ (ws : List ℕ) (s : Sizes) (words words′ : List ℕ) (floats floats′ : List Float) (cell : NewCell) (n m : ℕ)
-    (l : Lists ws s words (cell .number) (cell .first)) (c : CellStored (sized s m) words words′ floats floats′ cell n) where
-  draft-kept : (j : ℕ) → j < cell .number → draftIn ws s words′ floats′ j ≡ draftIn ws s words floats j
-  unfolding draftIn listAt
+    (l : FaceLists ws s words (cell .number) (cell .first)) (c : StoredCell (withFaces s m) words words′ floats floats′ cell n) where
+  draft-kept : (j : ℕ) → j < cell .number → partialCellIn ws s words′ floats′ j ≡ partialCellIn ws s words floats j
+  unfolding partialCellIn listAt
   draft-kept j b =
       let below = lists-below ws s words (cell .number) (cell .first) l (cell .number - (j + 1)) j (omega arith) in
       let list : tab (λ k. getD words′ (13 * s .slots + cellWord s words j 1 + k) 0) (cellWord s words j 2) ≡ tab (λ k. getD words (13 * s .slots + cellWord s words j 1 + k) 0) (cellWord s words j 2) =
@@ -172,12 +172,12 @@ module _ (ws : List ℕ) (s : Sizes) (words words′ : List ℕ) (floats floats�
       in
       rw (c .cells-kept j 0 b (omega arith), c .cells-kept j 1 b (omega arith), c .cells-kept j 2 b (omega arith), c .floats-kept j b, list)
 
-  drafts-next : draftsIn ws s words′ floats′ (cell .number + 1)
-      ≡ draftsIn ws s words floats (cell .number) ++ record { definition = definitionAt ws (cell .head .at); faces = listAt words′ (13 * s .slots + cell .first) (cell .head .faces); reference = cell .reference } ∷ []
-  unfolding draftsIn draftIn definitionAt
+  drafts-next : partialCellsIn ws s words′ floats′ (cell .number + 1)
+      ≡ partialCellsIn ws s words floats (cell .number) ++ record { definition = definitionAt ws (cell .head .at); faces = listAt words′ (13 * s .slots + cell .first) (cell .head .faces); reference = cell .reference } ∷ []
+  unfolding partialCellsIn partialCellIn definitionAt
   drafts-next =
       tab-next _ (cell .number)
-      ∙ ap₂ (λ (a : List Draft) (b : Draft). a ++ b ∷ []) (tab-same _ _ (cell .number) draft-kept) (rw (c .position, c .start, c .count, c .averaged))
+      ∙ ap₂ (λ (a : List PartialCell) (b : PartialCell). a ++ b ∷ []) (tab-same _ _ (cell .number) draft-kept) (rw (c .position, c .start, c .count, c .averaged))
 
   -- cell j is the new one or one before it
   module _ (few : cell .head .faces ≤ 24) (all : cell .head .faces ≡ length (facesOf (definitionAt ws (cell .head .at)))) where
@@ -203,17 +203,17 @@ module _ (ws : List ℕ) (s : Sizes) (words words′ : List ℕ) (floats floats�
     few-in j b (no ne) = rw (c .cells-kept j 2 (omega arith) (omega arith)) (l .few j (omega arith))
 
     counts-in : (j : ℕ) → j < cell .number + 1 → Dec (j ≡ cell .number) → cellWord s words′ j 2 ≡ length (facesOf (readOf (definition (drop (cellWord s words′ j 0) ws))))
-    unfolding definitionAt draftIn
+    unfolding definitionAt partialCellIn
     counts-in j b (yes e) = rw (e, c .count, c .position) all
     counts-in j b (no ne) =
         rw (c .cells-kept j 2 (omega arith) (omega arith), c .cells-kept j 0 (omega arith) (omega arith)) (l .counts j (omega arith))
 
     lonely-in : (j : ℕ) → j < cell .number + 1 → Dec (j ≡ cell .number) → cellWord s words′ j 3 ≡ 0
-    lonely-in j b (yes e) = rw e (c .alone)
-    lonely-in j b (no ne) = c .cells-kept j 3 (omega arith) (omega arith) ∙ l .lonely j (omega arith)
+    lonely-in j b (yes e) = rw e (c .unlinked)
+    lonely-in j b (no ne) = c .cells-kept j 3 (omega arith) (omega arith) ∙ l .unlinked j (omega arith)
 
-    lists-next : Lists ws s words′ (cell .number + 1) (cell .first + cell .head .faces)
-    unfolding draftIn
+    lists-next : FaceLists ws s words′ (cell .number + 1) (cell .first + cell .head .faces)
+    unfolding partialCellIn
     lists-next =
         record {
           first = λ b. first-list (ℕ-discrete (cell .number) 0);
@@ -222,7 +222,7 @@ module _ (ws : List ℕ) (s : Sizes) (words words′ : List ℕ) (floats floats�
           none = λ e. absurd (omega arith);
           few = λ j b. few-in j b (ℕ-discrete j (cell .number));
           counts = λ j b. counts-in j b (ℕ-discrete j (cell .number));
-          lonely = λ j b. lonely-in j b (ℕ-discrete j (cell .number));
+          unlinked = λ j b. lonely-in j b (ℕ-discrete j (cell .number));
         }
 
 -- ---- `add_cell`
@@ -234,39 +234,39 @@ counted-least n [] = omega arith
 counted-least n (d ∷ l) = let w = counted-least (n + faceCount d) l in omega arith
 
 -- refusals 11 and 12, then the faces
-cell-checked : (d : ℕ) (ps : List Vec3) (t : Drafts) (def : Definition) → addCell d ps t def
-    ≡ (checked d ps def >>= λ v. steps (addFaceOf d ps (length (t .cells)) v) (record { faces = t .faces; own = [] }) (facesOf def) >>= λ g.
-    fine (record { faces = g .faces; cells = t .cells ++ record { definition = def; faces = g .own; reference = v } ∷ [] }))
+cell-checked : (d : ℕ) (ps : List Vec3) (t : PartialMesh) (def : Definition) → addCell d ps t def
+    ≡ (checked d ps def >>= λ v. steps (addFaceOf d ps (length (t .cells)) v) (record { faces = t .faces; numbers = [] }) (facesOf def) >>= λ g.
+    fine (record { faces = g .faces; cells = t .cells ++ record { definition = def; faces = g .numbers; reference = v } ∷ [] }))
 unfolding addCell checked refuse _>>=_
 cell-checked d ps t def = by (wrongKind d def) (missing ps def) refl refl
   where
     by : (a b : Bool) → wrongKind d def ≡ a → missing ps def ≡ b → addCell d ps t def
-        ≡ (checked d ps def >>= λ v. steps (addFaceOf d ps (length (t .cells)) v) (record { faces = t .faces; own = [] }) (facesOf def) >>= λ g.
-        fine (record { faces = g .faces; cells = t .cells ++ record { definition = def; faces = g .own; reference = v } ∷ [] }))
+        ≡ (checked d ps def >>= λ v. steps (addFaceOf d ps (length (t .cells)) v) (record { faces = t .faces; numbers = [] }) (facesOf def) >>= λ g.
+        fine (record { faces = g .faces; cells = t .cells ++ record { definition = def; faces = g .numbers; reference = v } ∷ [] }))
     by true b ea eb = rw ea
     by false true ea eb = rw (ea, eb)
     by false false ea eb = rw (ea, eb)
 
 -- the definitions are those that were read
-pub defined : (case : List ℕ) (points : ℕ) (ws words : List ℕ) (floats : List Float) (s : Sizes) → Addable case points ws words floats s → definitions (s .cells) ws ≡ fine (definedIn s ws)
+pub defined : (case : List ℕ) (points : ℕ) (ws words : List ℕ) (floats : List Float) (s : Sizes) → AddCellsEntry case points ws words floats s → definitions (s .cells) ws ≡ fine (definedIn s ws)
 unfolding read
 defined case points ws words floats s a = a .right ∙ ap fine (sym (ap read (a .right)))
 
 module _ (d : ℕ) (ps : List Vec3) (ws : List ℕ) (i : ℕ) (p : Progress) where
-  pub found-wrong : (k : ℕ) → Wrong k ≡ stepAt ws (p .at) → CellFinding d ps ws i p (CellFound.Refused k)
-  found-wrong k e = Contracts.CellFinding.wrong k e
+  pub found-wrong : (k : ℕ) → Wrong k ≡ stepAt ws (p .at) → NewCellExit d ps ws i p (CellFound.Refused k)
+  found-wrong k e = Contracts.NewCellExit.wrong k e
 
   module _ (h : Head) (c : Cursor) (e : Record h c ≡ stepAt ws (p .at)) (r : Reference) (er : referenceCase r ≡ checked d ps (definitionAt ws (h .at))) where
-    pub found-refused : (k : ℕ) → r ≡ Reference.Refused k → CellFinding d ps ws i p (CellFound.Refused k)
+    pub found-refused : (k : ℕ) → r ≡ Reference.Refused k → NewCellExit d ps ws i p (CellFound.Refused k)
     unfolding referenceCase
-    found-refused k q = Contracts.CellFinding.refusing h c k e (sym er ∙ ap referenceCase q)
+    found-refused k q = Contracts.NewCellExit.refusing h c k e (sym er ∙ ap referenceCase q)
 
-    pub found-cell : (v : Vec3) → r ≡ Reference.Point v → CellFinding d ps ws i p (CellFound.Cell (record { number = i; reference = v; head = h; first = p .first }) c)
+    pub found-cell : (v : Vec3) → r ≡ Reference.Point v → NewCellExit d ps ws i p (CellFound.Cell (record { number = i; reference = v; head = h; first = p .first }) c)
     unfolding referenceCase
-    found-cell v q = Contracts.CellFinding.cell h c v e (sym er ∙ ap referenceCase q)
+    found-cell v q = Contracts.NewCellExit.cell h c v e (sym er ∙ ap referenceCase q)
 
 module _ (d : ℕ) (ps : List Vec3) (case : List ℕ) (points : ℕ) (ws words : List ℕ) (floats : List Float) (s : Sizes) (i : ℕ) (p : Progress)
-    (t : CellTurn d ps case points ws words floats s i p) where
+    (t : AddCellEntry d ps case points ws words floats s i p) where
   abbrev defs : List Definition
   defs = definedIn s ws
 
@@ -305,17 +305,17 @@ module _ (d : ℕ) (ps : List Vec3) (case : List ℕ) (points : ℕ) (ws words :
     room = let w = counted-least (p .first + h .faces) (drop (i + 1) (definedIn s ws)) in omega (arith, counted)
 
     -- the cells so far
-    abbrev drafted : Drafts
-    drafted = record { faces = facesIn (sized s (p .faces)) words floats; cells = draftsIn ws s words floats i }
+    abbrev partial : PartialMesh
+    partial = record { faces = facesIn (withFaces s (p .faces)) words floats; cells = partialCellsIn ws s words floats i }
 
-    so-many : length (draftsIn ws s words floats i) ≡ i
-    unfolding draftsIn
-    so-many = length-tab (draftIn ws s words floats) i
+    so-many : length (partialCellsIn ws s words floats i) ≡ i
+    unfolding partialCellsIn
+    so-many = length-tab (partialCellIn ws s words floats) i
 
-    refusing : (k : ℕ) → addCell d ps drafted (getD (definedIn s ws) i (polygon [])) ≡ refused k → drafts d ps (definedIn s ws) ≡ refused k
-    refusing k q = sym (t .filled .rest) ∙ steps-refused (definedIn s ws) i (polygon []) there (addCell d ps) drafted k q
+    refusing : (k : ℕ) → addCell d ps partial (getD (definedIn s ws) i (polygon [])) ≡ refused k → partialMesh d ps (definedIn s ws) ≡ refused k
+    refusing k q = sym (t .filled .rest) ∙ steps-refused (definedIn s ws) i (polygon []) there (addCell d ps) partial k q
 
-    not-checked : (k : ℕ) → checked d ps (definitionAt ws (h .at)) ≡ refused k → drafts d ps (definedIn s ws) ≡ refused k
+    not-checked : (k : ℕ) → checked d ps (definitionAt ws (h .at)) ≡ refused k → partialMesh d ps (definedIn s ws) ≡ refused k
     unfolding _>>=_
     not-checked k x = refusing k (rw (same-def, cell-checked, x))
 
@@ -323,7 +323,7 @@ module _ (d : ℕ) (ps : List Vec3) (case : List ℕ) (points : ℕ) (ws words :
       abbrev new : NewCell
       new = record { number = i; reference = v; head = h; first = p .first }
 
-      ready : CellReady ws (sized s (p .faces)) words floats new
+      ready : FillCellEntry ws (withFaces s (p .faces)) words floats new
       ready =
           let many : p .faces ≤ s .slots = omega (arith, t .filled .behind, room) in
           let step = steps-to ws (p .at) h c e in
@@ -338,22 +338,22 @@ module _ (d : ℕ) (ps : List Vec3) (case : List ℕ) (points : ℕ) (ws words :
             position = omega (arith, position, step .past, step .within, t .addable .words-few);
           }
 
-      with-faces : addCell d ps drafted (getD (definedIn s ws) i (polygon []))
-          ≡ (addFaces d ps ws new (facesIn (sized s (p .faces)) words floats) >>= λ g.
-          fine (record { faces = g .faces; cells = draftsIn ws s words floats i ++ record { definition = definitionAt ws (h .at); faces = g .own; reference = v } ∷ [] }))
+      with-faces : addCell d ps partial (getD (definedIn s ws) i (polygon []))
+          ≡ (addFaces d ps ws new (facesIn (withFaces s (p .faces)) words floats) >>= λ g.
+          fine (record { faces = g .faces; cells = partialCellsIn ws s words floats i ++ record { definition = definitionAt ws (h .at); faces = g .numbers; reference = v } ∷ [] }))
       unfolding _>>=_
       with-faces = rw (same-def, cell-checked, x, so-many)
 
       module _ (words′ : List ℕ) (floats′ : List Float) where
-        not-filled : (a : Drafted) (k : ℕ) → CellFilling d ps ws new (sized s (p .faces)) words words′ floats floats′ a → a ≡ Drafted.Refused k
-            → CellAdding d ps ws s words′ floats′ i (CellAdded.Refused k)
+        not-filled : (a : CellsAdded) (k : ℕ) → FillCellExit d ps ws new (withFaces s (p .faces)) words words′ floats floats′ a → a ≡ CellsAdded.Refused k
+            → AddCellExit d ps ws s words′ floats′ i (CellAdded.Refused k)
         unfolding _>>=_
-        not-filled a k (Contracts.CellFilling.filled n q st) ea = absurd (let z : _≡_ {A = ℕ} 0 1 = cc in omega arith)
-        not-filled a k (Contracts.CellFilling.refusing j q) ea = let z : j ≡ k = cc in Contracts.CellAdding.refusing k (refusing k (with-faces ∙ rw (q, z)))
+        not-filled a k (Contracts.FillCellExit.filled n q st) ea = absurd (let z : _≡_ {A = ℕ} 0 1 = cc in omega arith)
+        not-filled a k (Contracts.FillCellExit.refusing j q) ea = let z : j ≡ k = cc in Contracts.AddCellExit.refusing k (refusing k (with-faces ∙ rw (q, z)))
 
-        filled-next : (n : ℕ) → addFaces d ps ws new (facesIn (sized s (p .faces)) words floats) ≡ fine (growingIn (sized s n) words′ floats′ (p .first) (h .faces))
-            → CellStored (sized s (p .faces)) words words′ floats floats′ new n
-            → Filled d ps ws (definedIn s ws) s words′ floats′ (i + 1) (record { at = c .at; first = p .first + h .faces; faces = n })
+        filled-next : (n : ℕ) → addFaces d ps ws new (facesIn (withFaces s (p .faces)) words floats) ≡ fine (cellFacesIn (withFaces s n) words′ floats′ (p .first) (h .faces))
+            → StoredCell (withFaces s (p .faces)) words words′ floats floats′ new n
+            → CellsSoFar d ps ws (definedIn s ws) s words′ floats′ (i + 1) (record { at = c .at; first = p .first + h .faces; faces = n })
         unfolding _>>=_
         filled-next n q st =
             let f = head-faces ws h (headed ws (p .at) h c e) in
@@ -366,41 +366,41 @@ module _ (d : ℕ) (ps : List Vec3) (case : List ℕ) (points : ℕ) (ws words :
               lists = lists-next ws s words words′ floats floats′ new n (p .faces) (t .filled .lists) st (f .few) (f .all);
               rest =
                   rw more
-                  (sym (steps-next (definedIn s ws) i (polygon []) there (addCell d ps) drafted _ (with-faces ∙ rw q))
+                  (sym (steps-next (definedIn s ws) i (polygon []) there (addCell d ps) partial _ (with-faces ∙ rw q))
                   ∙ t .filled .rest);
             }
 
-        added : (a : Drafted) (n : ℕ) → CellFilling d ps ws new (sized s (p .faces)) words words′ floats floats′ a → a ≡ Drafted.Faces n
-            → CellAdding d ps ws s words′ floats′ i (CellAdded.Next (record { at = c .at; first = p .first + h .faces; faces = n }))
-        added a n (Contracts.CellFilling.refusing j q) ea = absurd (let z : _≡_ {A = ℕ} 0 1 = cc in omega arith)
-        added a n (Contracts.CellFilling.filled m q st) ea = let z : m ≡ n = cc in Contracts.CellAdding.next _ (filled-next n (rw z at q) (rw z at st))
+        added : (a : CellsAdded) (n : ℕ) → FillCellExit d ps ws new (withFaces s (p .faces)) words words′ floats floats′ a → a ≡ CellsAdded.Faces n
+            → AddCellExit d ps ws s words′ floats′ i (CellAdded.Next (record { at = c .at; first = p .first + h .faces; faces = n }))
+        added a n (Contracts.FillCellExit.refusing j q) ea = absurd (let z : _≡_ {A = ℕ} 0 1 = cc in omega arith)
+        added a n (Contracts.FillCellExit.filled m q st) ea = let z : m ≡ n = cc in Contracts.AddCellExit.next _ (filled-next n (rw z at q) (rw z at st))
 
-  pub cell-refused : (r : CellFound) (k : ℕ) (words′ : List ℕ) (floats′ : List Float) → CellFinding d ps ws i p r → r ≡ CellFound.Refused k → CellAdding d ps ws s words′ floats′ i (CellAdded.Refused k)
-  cell-refused r k words′ floats′ (Contracts.CellFinding.cell h c v e x) q = absurd (let z : _≡_ {A = ℕ} 0 1 = cc in omega arith)
-  cell-refused r k words′ floats′ (Contracts.CellFinding.refusing h c j e x) q = let z : j ≡ k = cc in Contracts.CellAdding.refusing k (rw z at (not-checked h c e j x))
-  cell-refused r k words′ floats′ (Contracts.CellFinding.wrong j e) q = absurd (never j e)
+  pub cell-refused : (r : CellFound) (k : ℕ) (words′ : List ℕ) (floats′ : List Float) → NewCellExit d ps ws i p r → r ≡ CellFound.Refused k → AddCellExit d ps ws s words′ floats′ i (CellAdded.Refused k)
+  cell-refused r k words′ floats′ (Contracts.NewCellExit.cell h c v e x) q = absurd (let z : _≡_ {A = ℕ} 0 1 = cc in omega arith)
+  cell-refused r k words′ floats′ (Contracts.NewCellExit.refusing h c j e x) q = let z : j ≡ k = cc in Contracts.AddCellExit.refusing k (rw z at (not-checked h c e j x))
+  cell-refused r k words′ floats′ (Contracts.NewCellExit.wrong j e) q = absurd (never j e)
 
-  pub cell-ready : (r : CellFound) (y : NewCell) (c : Cursor) → CellFinding d ps ws i p r → r ≡ CellFound.Cell y c → CellReady ws (sized s (p .faces)) words floats y
-  cell-ready r y c (Contracts.CellFinding.refusing h c′ j e x) q = absurd (let z : _≡_ {A = ℕ} 0 1 = cc in omega arith)
-  cell-ready r y c (Contracts.CellFinding.wrong j e) q = absurd (never j e)
-  cell-ready r y c (Contracts.CellFinding.cell h c′ v e x) q =
+  pub cell-ready : (r : CellFound) (y : NewCell) (c : Cursor) → NewCellExit d ps ws i p r → r ≡ CellFound.Cell y c → FillCellEntry ws (withFaces s (p .faces)) words floats y
+  cell-ready r y c (Contracts.NewCellExit.refusing h c′ j e x) q = absurd (let z : _≡_ {A = ℕ} 0 1 = cc in omega arith)
+  cell-ready r y c (Contracts.NewCellExit.wrong j e) q = absurd (never j e)
+  cell-ready r y c (Contracts.NewCellExit.cell h c′ v e x) q =
       let z : record { number = i; reference = v; head = h; first = p .first } ≡ y = cc in
       rw z at (ready h c′ e v x)
 
-  pub cell-not-filled : (r : CellFound) (y : NewCell) (c : Cursor) (words′ : List ℕ) (floats′ : List Float) (a : Drafted) (k : ℕ) → CellFinding d ps ws i p r → r ≡ CellFound.Cell y c
-      → CellFilling d ps ws y (sized s (p .faces)) words words′ floats floats′ a → a ≡ Drafted.Refused k → CellAdding d ps ws s words′ floats′ i (CellAdded.Refused k)
-  cell-not-filled r y c words′ floats′ a k (Contracts.CellFinding.refusing h c′ j e x) q f ea = absurd (let z : _≡_ {A = ℕ} 0 1 = cc in omega arith)
-  cell-not-filled r y c words′ floats′ a k (Contracts.CellFinding.wrong j e) q f ea = absurd (never j e)
-  cell-not-filled r y c words′ floats′ a k (Contracts.CellFinding.cell h c′ v e x) q f ea =
+  pub cell-not-filled : (r : CellFound) (y : NewCell) (c : Cursor) (words′ : List ℕ) (floats′ : List Float) (a : CellsAdded) (k : ℕ) → NewCellExit d ps ws i p r → r ≡ CellFound.Cell y c
+      → FillCellExit d ps ws y (withFaces s (p .faces)) words words′ floats floats′ a → a ≡ CellsAdded.Refused k → AddCellExit d ps ws s words′ floats′ i (CellAdded.Refused k)
+  cell-not-filled r y c words′ floats′ a k (Contracts.NewCellExit.refusing h c′ j e x) q f ea = absurd (let z : _≡_ {A = ℕ} 0 1 = cc in omega arith)
+  cell-not-filled r y c words′ floats′ a k (Contracts.NewCellExit.wrong j e) q f ea = absurd (never j e)
+  cell-not-filled r y c words′ floats′ a k (Contracts.NewCellExit.cell h c′ v e x) q f ea =
       let z : record { number = i; reference = v; head = h; first = p .first } ≡ y = cc in
       not-filled h c′ e v x words′ floats′ a k (rw (← z) at f) ea
 
-  pub cell-next : (r : CellFound) (y : NewCell) (c : Cursor) (words′ : List ℕ) (floats′ : List Float) (a : Drafted) (n : ℕ) → CellFinding d ps ws i p r → r ≡ CellFound.Cell y c
-      → CellFilling d ps ws y (sized s (p .faces)) words words′ floats floats′ a → a ≡ Drafted.Faces n
-      → CellAdding d ps ws s words′ floats′ i (CellAdded.Next (record { at = c .at; first = y .first + y .head .faces; faces = n }))
-  cell-next r y c words′ floats′ a n (Contracts.CellFinding.refusing h c′ j e x) q f ea = absurd (let z : _≡_ {A = ℕ} 0 1 = cc in omega arith)
-  cell-next r y c words′ floats′ a n (Contracts.CellFinding.wrong j e) q f ea = absurd (never j e)
-  cell-next r y c words′ floats′ a n (Contracts.CellFinding.cell h c′ v e x) q f ea =
+  pub cell-next : (r : CellFound) (y : NewCell) (c : Cursor) (words′ : List ℕ) (floats′ : List Float) (a : CellsAdded) (n : ℕ) → NewCellExit d ps ws i p r → r ≡ CellFound.Cell y c
+      → FillCellExit d ps ws y (withFaces s (p .faces)) words words′ floats floats′ a → a ≡ CellsAdded.Faces n
+      → AddCellExit d ps ws s words′ floats′ i (CellAdded.Next (record { at = c .at; first = y .first + y .head .faces; faces = n }))
+  cell-next r y c words′ floats′ a n (Contracts.NewCellExit.refusing h c′ j e x) q f ea = absurd (let z : _≡_ {A = ℕ} 0 1 = cc in omega arith)
+  cell-next r y c words′ floats′ a n (Contracts.NewCellExit.wrong j e) q f ea = absurd (never j e)
+  cell-next r y c words′ floats′ a n (Contracts.NewCellExit.cell h c′ v e x) q f ea =
       let z : record { number = i; reference = v; head = h; first = p .first } ≡ y = cc in
       let zc : c′ ≡ c = cc in
       rw (← zc, ← z) (added h c′ e v x words′ floats′ a n (rw (← z) at f) ea)
@@ -408,8 +408,8 @@ module _ (d : ℕ) (ps : List Vec3) (case : List ℕ) (points : ℕ) (ws words :
 -- ---- `fill_cells`
 
 -- the area is lent as it was
-pub addable-kept : (case : List ℕ) (points : ℕ) (ws words₀ words : List ℕ) (floats₀ floats : List Float) (s : Sizes) → Addable case points ws words₀ floats₀ s
-    → length words ≡ length words₀ → length floats ≡ length floats₀ → Addable case points ws words floats s
+pub addable-kept : (case : List ℕ) (points : ℕ) (ws words₀ words : List ℕ) (floats₀ floats : List Float) (s : Sizes) → AddCellsEntry case points ws words₀ floats₀ s
+    → length words ≡ length words₀ → length floats ≡ length floats₀ → AddCellsEntry case points ws words floats s
 addable-kept case points ws words₀ words floats₀ floats s a lw lf =
     record {
       lent-words = lent-sized s words₀ words (s .faces) (a .lent-words) lw (a .lent-words .few-faces);
@@ -424,17 +424,17 @@ addable-kept case points ws words₀ words floats₀ floats s a lw lf =
     }
 
 module _ (d : ℕ) (ps : List Vec3) (ws : List ℕ) (s : Sizes) (words : List ℕ) (floats : List Float) (i : ℕ) where
-  pub added-refused : (r : CellAdded) (k : ℕ) → CellAdding d ps ws s words floats i r → r ≡ CellAdded.Refused k → drafts d ps (definedIn s ws) ≡ refused k
-  added-refused r k (Contracts.CellAdding.next q g) e = absurd (let z : _≡_ {A = ℕ} 0 1 = cc in omega arith)
-  added-refused r k (Contracts.CellAdding.refusing j g) e = let z : j ≡ k = cc in rw z at g
+  pub added-refused : (r : CellAdded) (k : ℕ) → AddCellExit d ps ws s words floats i r → r ≡ CellAdded.Refused k → partialMesh d ps (definedIn s ws) ≡ refused k
+  added-refused r k (Contracts.AddCellExit.next q g) e = absurd (let z : _≡_ {A = ℕ} 0 1 = cc in omega arith)
+  added-refused r k (Contracts.AddCellExit.refusing j g) e = let z : j ≡ k = cc in rw z at g
 
-  pub added-next : (r : CellAdded) (q : Progress) → CellAdding d ps ws s words floats i r → r ≡ CellAdded.Next q → Filled d ps ws (definedIn s ws) s words floats (i + 1) q
-  added-next r q (Contracts.CellAdding.refusing j g) e = absurd (let z : _≡_ {A = ℕ} 0 1 = cc in omega arith)
-  added-next r q (Contracts.CellAdding.next x g) e = let z : x ≡ q = cc in rw z at g
+  pub added-next : (r : CellAdded) (q : Progress) → AddCellExit d ps ws s words floats i r → r ≡ CellAdded.Next q → CellsSoFar d ps ws (definedIn s ws) s words floats (i + 1) q
+  added-next r q (Contracts.AddCellExit.refusing j g) e = absurd (let z : _≡_ {A = ℕ} 0 1 = cc in omega arith)
+  added-next r q (Contracts.AddCellExit.next x g) e = let z : x ≡ q = cc in rw z at g
 
-module _ (d : ℕ) (ps : List Vec3) (case : List ℕ) (points : ℕ) (ws words₀ : List ℕ) (floats₀ : List Float) (s : Sizes) (a : Addable case points ws words₀ floats₀ s) where
-  pub filled-start : Chained (sized s 0) words₀ → Filled d ps ws (definedIn s ws) s words₀ floats₀ 0 (record { at = 0; first = 0; faces = 0 })
-  unfolding facesCounted draftsIn facesIn tab drafts read
+module _ (d : ℕ) (ps : List Vec3) (case : List ℕ) (points : ℕ) (ws words₀ : List ℕ) (floats₀ : List Float) (s : Sizes) (a : AddCellsEntry case points ws words₀ floats₀ s) where
+  pub filled-start : Chained (withFaces s 0) words₀ → CellsSoFar d ps ws (definedIn s ws) s words₀ floats₀ 0 (record { at = 0; first = 0; faces = 0 })
+  unfolding facesCounted partialCellsIn facesIn tab partialMesh read
   filled-start ch =
       record {
         chained = ch;
@@ -449,7 +449,7 @@ module _ (d : ℕ) (ps : List Vec3) (case : List ℕ) (points : ℕ) (ws words�
               none = λ e. refl;
               few = λ j b. absurd (omega arith);
               counts = λ j b. absurd (omega arith);
-              lonely = λ j b. absurd (omega arith);
+              unlinked = λ j b. absurd (omega arith);
             };
         rest = refl;
       }
@@ -459,10 +459,10 @@ module _ (d : ℕ) (ps : List Vec3) (case : List ℕ) (points : ℕ) (ws words�
     unfolding read
     same = ap read e
 
-    pub drafts-refused : (words : List ℕ) (floats : List Float) (k : ℕ) → drafts d ps (definedIn s ws) ≡ refused k → Adding d ps ws defs s words floats (Drafted.Refused k)
-    drafts-refused words floats k q = Contracts.Adding.refusing (rw same at q)
+    pub drafts-refused : (words : List ℕ) (floats : List Float) (k : ℕ) → partialMesh d ps (definedIn s ws) ≡ refused k → AddCellsExit d ps ws defs s words floats (CellsAdded.Refused k)
+    drafts-refused words floats k q = Contracts.AddCellsExit.refusing (rw same at q)
 
-    module _ (words : List ℕ) (floats : List Float) (i : ℕ) (p : Progress) (lw : length words ≡ length words₀) (g : Filled d ps ws (definedIn s ws) s words floats i p)
+    module _ (words : List ℕ) (floats : List Float) (i : ℕ) (p : Progress) (lw : length words ≡ length words₀) (g : CellsSoFar d ps ws (definedIn s ws) s words floats i p)
         (low : i ≤ s .cells) (end : s .cells ≤ i) where
       none-left : drop i (definedIn s ws) ≡ []
       none-left =
@@ -475,22 +475,22 @@ module _ (d : ℕ) (ps : List Vec3) (case : List ℕ) (points : ℕ) (ws words�
       unfolding fold
       all-slots = rw (none-left, fold) at (g .counted)
 
-      corner : (f : ℕ) → f < p .faces → getD words (12 * f + 0) 0 ≤ 8
+      vertex : (f : ℕ) → f < p .faces → getD words (12 * f + 0) 0 ≤ 8
       unfolding meshWords
-      corner f b =
+      vertex f b =
           let few = g .chained .few in
-          let e : getD (meshWords (sized s (p .faces)) words) (12 * f + 0) 0 ≡ getD words (12 * f + 0) 0 = getD-take (16 * s .slots + 8 * s .cells) words (12 * f + 0) 0 (omega arith) in
-          rw (← e, read-count (meshWords (sized s (p .faces)) words) f) (g .chained .short f b)
+          let e : getD (meshWords (withFaces s (p .faces)) words) (12 * f + 0) 0 ≡ getD words (12 * f + 0) 0 = getD-take (16 * s .slots + 8 * s .cells) words (12 * f + 0) 0 (omega arith) in
+          rw (← e, read-count (meshWords (withFaces s (p .faces)) words) f) (g .chained .short f b)
 
-      pub drafts-done : Adding d ps ws defs s words floats (Drafted.Faces (p .faces))
+      pub drafts-done : AddCellsExit d ps ws defs s words floats (CellsAdded.Faces (p .faces))
       unfolding steps
       drafts-done =
-          let w : fine (record { faces = facesIn (sized s (p .faces)) words floats; cells = draftsIn ws s words floats i }) ≡ drafts d ps (definedIn s ws) = rw (none-left, steps) at (g .rest) in
-          Contracts.Adding.added (rw (same, all-cells) at (sym w))
+          let w : fine (record { faces = facesIn (withFaces s (p .faces)) words floats; cells = partialCellsIn ws s words floats i }) ≡ partialMesh d ps (definedIn s ws) = rw (none-left, steps) at (g .rest) in
+          Contracts.AddCellsExit.added (rw (same, all-cells) at (sym w))
           (record {
             table = refl;
             few = g .chained .few;
-            corners = corner;
+            vertices = vertex;
             cells = refl;
             lists = rw (all-cells, all-slots) at (g .lists);
           })

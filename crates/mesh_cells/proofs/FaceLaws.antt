@@ -13,7 +13,7 @@ use Rattle.reading.specs.Result.{refused, fine, steps}
 use Rattle.reading.proofs.ResultLaws.{steps-next, steps-refused}
 use Rattle.case_definitions.specs.Faces.{facesOf}
 use Rattle.case_definitions.specs.Contracts.{definitionAt, faceAt}
-use Rattle.case_faces.specs.Contracts.{AtFace, FaceCopied}
+use Rattle.case_faces.specs.Contracts.{AtFace, CopyFaceExit}
 use Rattle.case_definitions.specs.declared.Head.{Head}
 use Rattle.case_faces.specs.declared.FaceCursor.{FaceCursor}
 use Rattle.case_faces.proofs.FaceLaws.{at-first}
@@ -21,19 +21,19 @@ use Rattle.case_definitions.proofs.Walking.{head-faces}
 use Rattle.mesh_area.specs.declared.Sizes.{Sizes}
 use Rattle.mesh_area.specs.Layout.{LentWords, LentFloats, listAt, facesIn}
 use Rattle.mesh_points.proofs.CollectLaws.{copied-next}
-use Rattle.mesh_faces.specs.Contracts.{sized, Usable}
+use Rattle.mesh_faces.specs.Contracts.{withFaces, UseFaceEntry}
 use Rattle.mesh_faces.proofs.AreaLaws.{chained-kept, faces-kept}
 use Rattle.mesh_cell_parts.specs.Contracts as Contracts
 use Rattle.mesh_cell_parts.specs.Parts.{addFaceOf}
-use Rattle.mesh_cell_parts.specs.Contracts.{Grew, Placing}
+use Rattle.mesh_cell_parts.specs.Contracts.{TableGrowth, PlaceFaceExit}
 use Rattle.mesh_cell_parts.specs.declared.NewCell.{NewCell}
 use Rattle.mesh_cell_parts.specs.declared.FacePlaced.{FacePlaced}
 use Rattle.mesh_cell_parts.specs.declared.FacePlaced.the-variants as FacePlaced
 use Rattle.mesh_cells.specs.Contracts as Contracts
-use Rattle.mesh_cells.specs.Contracts.{growingIn, FaceReady, Listed, FaceAdding, FacesReady, addFaces, FacesAdding}
+use Rattle.mesh_cells.specs.Contracts.{cellFacesIn, AddFaceEntry, ListGrowth, AddFaceExit, AddFacesEntry, addFaces, AddFacesExit}
 use Rattle.mesh_cells.specs.declared.FaceAdded.{FaceAdded}
 use Rattle.mesh_cells.specs.declared.FaceAdded.the-variants as FaceAdded
-use Rattle.mesh_cells.specs.declared.Drafted.the-variants as Drafted
+use Rattle.mesh_cells.specs.declared.CellsAdded.the-variants as CellsAdded
 
 -- ---- `add_face`
 
@@ -42,17 +42,17 @@ pub kept-at : {A : Type 0} (l l′ : List A) (b j : ℕ) (x : A) → drop b l′
 kept-at {A} l l′ b j x e = sym (getD-drop b l′ j x) ∙ ap (λ (k : List A). getD k j x) e ∙ getD-drop b l j x
 
 -- the words that are lent with n faces in the table
-pub lent-sized : (s : Sizes) (words words′ : List ℕ) (n : ℕ) → LentWords s words → length words′ ≡ length words → n ≤ s .slots → LentWords (sized s n) words′
+pub lent-sized : (s : Sizes) (words words′ : List ℕ) (n : ℕ) → LentWords s words → length words′ ≡ length words → n ≤ s .slots → LentWords (withFaces s n) words′
 lent-sized s words words′ n l e h =
     record { few-slots = l .few-slots; few-faces = h; few-cells = l .few-cells; long = omega (arith, l .long) }
 
-pub lent-floats-sized : (s : Sizes) (floats floats′ : List Float) (n : ℕ) → LentFloats s floats → length floats′ ≡ length floats → n ≤ s .slots → LentFloats (sized s n) floats′
+pub lent-floats-sized : (s : Sizes) (floats floats′ : List Float) (n : ℕ) → LentFloats s floats → length floats′ ≡ length floats → n ≤ s .slots → LentFloats (withFaces s n) floats′
 lent-floats-sized s floats floats′ n l e h =
     record { few-slots = l .few-slots; few-faces = h; few-cells = l .few-cells; long = omega (arith, l .long) }
 
-module _ (ws : List ℕ) (s : Sizes) (words : List ℕ) (floats : List Float) (cell : NewCell) (c : FaceCursor) (rd : FaceReady ws s words floats cell c)
-    (vs₀ vs : List ℕ) (count : ℕ) (next : FaceCursor) (f : FaceCopied ws (cell .head) c vs₀ vs count next) where
-  pub face-usable : Usable s words floats (take count vs) (cell .number)
+module _ (ws : List ℕ) (s : Sizes) (words : List ℕ) (floats : List Float) (cell : NewCell) (c : FaceCursor) (rd : AddFaceEntry ws s words floats cell c)
+    (vs₀ vs : List ℕ) (count : ℕ) (next : FaceCursor) (f : CopyFaceExit ws (cell .head) c vs₀ vs count next) where
+  pub face-usable : UseFaceEntry s words floats (take count vs) (cell .number)
   face-usable =
       let l : length (take count vs) ≡ count = ap length (f .front) ∙ sym (f .counted) in
       record {
@@ -65,15 +65,15 @@ module _ (ws : List ℕ) (s : Sizes) (words : List ℕ) (floats : List Float) (c
       }
 
   module _ (d : ℕ) (ps : List Vec3) (words₁ : List ℕ) (floats′ : List Float) where
-    pub face-refused : (r : FacePlaced) (k : ℕ) → Placing d ps cell s words words₁ floats floats′ (take count vs) r → r ≡ FacePlaced.Refused k
-        → FaceAdding d ps ws cell s words words₁ floats floats′ c (FaceAdded.Refused k)
-    face-refused r k (Contracts.Placing.placed j m e g) q = absurd (let z : _≡_ {A = ℕ} 0 1 = cc in omega arith)
-    face-refused r k (Contracts.Placing.refusing j e) q =
+    pub face-refused : (r : FacePlaced) (k : ℕ) → PlaceFaceExit d ps cell s words words₁ floats floats′ (take count vs) r → r ≡ FacePlaced.Refused k
+        → AddFaceExit d ps ws cell s words words₁ floats floats′ c (FaceAdded.Refused k)
+    face-refused r k (Contracts.PlaceFaceExit.placed j m e g) q = absurd (let z : _≡_ {A = ℕ} 0 1 = cc in omega arith)
+    face-refused r k (Contracts.PlaceFaceExit.refusing j e) q =
         let z : j ≡ k = cc in
-        Contracts.FaceAdding.refusing k (rw (← z, ← f .front) (e (growingIn s words floats (cell .first) (c .face)) refl))
+        Contracts.AddFaceExit.refusing k (rw (← z, ← f .front) (e (cellFacesIn s words floats (cell .first) (c .face)) refl))
 
-    module _ (i n x : ℕ) (ex : x ≡ i) (e : (own : List ℕ) → addFaceOf d ps (cell .number) (cell .reference) (record { faces = facesIn s words floats; own = own }) (take count vs)
-        ≡ fine (record { faces = facesIn (sized s n) words₁ floats′; own = own ++ i ∷ [] })) (g : Grew s words words₁ floats floats′ i n)
+    module _ (i n x : ℕ) (ex : x ≡ i) (e : (own : List ℕ) → addFaceOf d ps (cell .number) (cell .reference) (record { faces = facesIn s words floats; numbers = own }) (take count vs)
+        ≡ fine (record { faces = facesIn (withFaces s n) words₁ floats′; numbers = own ++ i ∷ [] })) (g : TableGrowth s words words₁ floats floats′ i n)
         (long : length words₁ ≡ length words) (long-floats : length floats′ ≡ length floats) where
       many : n ≤ s .slots
       many = omega (arith, g .more, rd .behind, rd .face, rd .room)
@@ -99,13 +99,13 @@ module _ (ws : List ℕ) (s : Sizes) (words : List ℕ) (floats : List Float) (c
       front : take (13 * s .slots) (set words₁ (13 * s .slots + cell .first + c .face) x) ≡ take (13 * s .slots) words₁
       front = take-set-le (13 * s .slots) words₁ (13 * s .slots + cell .first + c .face) x (omega arith)
 
-      pub face-next : FaceAdding d ps ws cell s words (set words₁ (13 * s .slots + cell .first + c .face) x) floats floats′ c (FaceAdded.Next next n)
+      pub face-next : AddFaceExit d ps ws cell s words (set words₁ (13 * s .slots + cell .first + c .face) x) floats floats′ c (FaceAdded.Next next n)
       face-next =
           let lent = lent-sized s words words₁ n (rd .lent-words) long many in
-          let same = faces-kept (sized s n) words₁ (set words₁ (13 * s .slots + cell .first + c .face) x) lent (length-set words₁ _ x) (g .chained) front floats′ floats′ refl in
-          Contracts.FaceAdding.next next n (rw (← f .front, same, listed) (e (listAt words (13 * s .slots + cell .first) (c .face)))) (copied-next ws (cell .head) c vs₀ vs count next f) (f .goes)
+          let same = faces-kept (withFaces s n) words₁ (set words₁ (13 * s .slots + cell .first + c .face) x) lent (length-set words₁ _ x) (g .chained) front floats′ floats′ refl in
+          Contracts.AddFaceExit.next next n (rw (← f .front, same, listed) (e (listAt words (13 * s .slots + cell .first) (c .face)))) (copied-next ws (cell .head) c vs₀ vs count next f) (f .goes)
           (record {
-            chained = chained-kept (sized s n) words₁ (set words₁ (13 * s .slots + cell .first + c .face) x) lent (length-set words₁ _ x) (g .chained) front;
+            chained = chained-kept (withFaces s n) words₁ (set words₁ (13 * s .slots + cell .first + c .face) x) lent (length-set words₁ _ x) (g .chained) front;
             behind = omega (arith, g .more, rd .behind);
             before = λ j l. far j (λ z. omega arith);
             after = λ j l. far j (λ z. omega arith);
@@ -114,21 +114,21 @@ module _ (ws : List ℕ) (s : Sizes) (words : List ℕ) (floats : List Float) (c
             long-floats = long-floats;
           })
 
-    pub face-added : (r : FacePlaced) (i n x : ℕ) → Placing d ps cell s words words₁ floats floats′ (take count vs) r → r ≡ FacePlaced.Face i n → x ≡ i
+    pub face-added : (r : FacePlaced) (i n x : ℕ) → PlaceFaceExit d ps cell s words words₁ floats floats′ (take count vs) r → r ≡ FacePlaced.Face i n → x ≡ i
         → length words₁ ≡ length words → length floats′ ≡ length floats
-        → FaceAdding d ps ws cell s words (set words₁ (13 * s .slots + cell .first + c .face) x) floats floats′ c (FaceAdded.Next next n)
-    face-added r i n x (Contracts.Placing.placed j m e g) q ex lw lf =
+        → AddFaceExit d ps ws cell s words (set words₁ (13 * s .slots + cell .first + c .face) x) floats floats′ c (FaceAdded.Next next n)
+    face-added r i n x (Contracts.PlaceFaceExit.placed j m e g) q ex lw lf =
         let a : j ≡ i = cc in
         let b : m ≡ n = cc in
         face-next i n x ex (rw (a, b) at e) (rw (a, b) at g) lw lf
-    face-added r i n x (Contracts.Placing.refusing j e) q ex lw lf = absurd (let z : _≡_ {A = ℕ} 0 1 = cc in omega arith)
+    face-added r i n x (Contracts.PlaceFaceExit.refusing j e) q ex lw lf = absurd (let z : _≡_ {A = ℕ} 0 1 = cc in omega arith)
 
 -- the number of a face is a word
 pub face-number : (d : ℕ) (ps : List Vec3) (cell : NewCell) (s : Sizes) (words words₁ : List ℕ) (floats floats′ : List Float) (vertices : List ℕ) (r : FacePlaced) (i n : ℕ)
-    → Placing d ps cell s words words₁ floats floats′ vertices r → r ≡ FacePlaced.Face i n → s .faces < s .slots → s .slots ≤ 1048576 → i < 4294967296
-face-number d ps cell s words words₁ floats floats′ vertices r i n (Contracts.Placing.placed j m e g) q few slots =
+    → PlaceFaceExit d ps cell s words words₁ floats floats′ vertices r → r ≡ FacePlaced.Face i n → s .faces < s .slots → s .slots ≤ 1048576 → i < 4294967296
+face-number d ps cell s words words₁ floats floats′ vertices r i n (Contracts.PlaceFaceExit.placed j m e g) q few slots =
     let a : j ≡ i = cc in omega (arith, g .number, g .more)
-face-number d ps cell s words words₁ floats floats′ vertices r i n (Contracts.Placing.refusing j e) q few slots = absurd (let z : _≡_ {A = ℕ} 0 1 = cc in omega arith)
+face-number d ps cell s words words₁ floats floats′ vertices r i n (Contracts.PlaceFaceExit.refusing j e) q few slots = absurd (let z : _≡_ {A = ℕ} 0 1 = cc in omega arith)
 
 -- ---- `add_faces`
 
@@ -136,12 +136,12 @@ face-number d ps cell s words words₁ floats floats′ vertices r i n (Contract
 pub record Going (d : ℕ) (ps : List Vec3) (ws : List ℕ) (cell : NewCell) (s : Sizes) (words₀ words : List ℕ) (floats₀ floats : List Float) (n : ℕ) (c : FaceCursor) : Type 0 where
   pub at-face : AtFace ws (cell .head) c
   pub face : c .face ≤ cell .head .faces
-  pub listed : Listed s words₀ words floats₀ floats (cell .first) (c .face) n
-  pub rest : steps (addFaceOf d ps (cell .number) (cell .reference)) (growingIn (sized s n) words floats (cell .first) (c .face)) (drop (c .face) (facesOf (definitionAt ws (cell .head .at))))
+  pub listed : ListGrowth s words₀ words floats₀ floats (cell .first) (c .face) n
+  pub rest : steps (addFaceOf d ps (cell .number) (cell .reference)) (cellFacesIn (withFaces s n) words floats (cell .first) (c .face)) (drop (c .face) (facesOf (definitionAt ws (cell .head .at))))
       ≡ addFaces d ps ws cell (facesIn s words₀ floats₀)
 
 module _ (d : ℕ) (ps : List Vec3) (ws : List ℕ) (cell : NewCell) (s : Sizes) (words₀ : List ℕ) (floats₀ : List Float)
-    (rd : FacesReady ws s words₀ floats₀ cell) where
+    (rd : AddFacesEntry ws s words₀ floats₀ cell) where
   pub going-start : (c : FaceCursor) → (c .face ≡ 0) × (c .at ≡ cell .head .first) → Going d ps ws cell s words₀ words₀ floats₀ floats₀ (s .faces) c
   unfolding listAt tab
   going-start c e =
@@ -162,7 +162,7 @@ module _ (d : ℕ) (ps : List Vec3) (ws : List ℕ) (cell : NewCell) (s : Sizes)
       }
 
   module _ (words : List ℕ) (floats : List Float) (n : ℕ) (c : FaceCursor) (g : Going d ps ws cell s words₀ words floats₀ floats n c) where
-    pub going-ready : c .face < cell .head .faces → FaceReady ws (sized s n) words floats cell c
+    pub going-ready : c .face < cell .head .faces → AddFaceEntry ws (withFaces s n) words floats cell c
     going-ready more =
         let many : n ≤ s .slots = omega (arith, g .listed .behind, rd .room) in
         record {
@@ -177,33 +177,33 @@ module _ (d : ℕ) (ps : List Vec3) (ws : List ℕ) (cell : NewCell) (s : Sizes)
         }
 
     module _ (more : c .face < cell .head .faces) (words′ : List ℕ) (floats′ : List Float) (r : FaceAdded)
-        (a : FaceAdding d ps ws cell (sized s n) words words′ floats floats′ c r) where
+        (a : AddFaceExit d ps ws cell (withFaces s n) words words′ floats floats′ c r) where
       there : c .face < length (facesOf (definitionAt ws (cell .head .at)))
       there = omega (arith, head-faces ws (cell .head) (rd .headed) .all)
 
-      pub going-refused : (k : ℕ) → r ≡ FaceAdded.Refused k → FacesAdding d ps ws cell s words₀ words′ floats₀ floats′ (Drafted.Refused k)
+      pub going-refused : (k : ℕ) → r ≡ FaceAdded.Refused k → AddFacesExit d ps ws cell s words₀ words′ floats₀ floats′ (CellsAdded.Refused k)
       unfolding faceAt
       going-refused k q = by r a q
         where
-          by : (r : FaceAdded) → FaceAdding d ps ws cell (sized s n) words words′ floats floats′ c r → r ≡ FaceAdded.Refused k
-              → FacesAdding d ps ws cell s words₀ words′ floats₀ floats′ (Drafted.Refused k)
-          by r (Contracts.FaceAdding.next q′ m′ e f p l) q = absurd (let z : _≡_ {A = ℕ} 0 1 = cc in omega arith)
-          by r (Contracts.FaceAdding.refusing j e) q =
+          by : (r : FaceAdded) → AddFaceExit d ps ws cell (withFaces s n) words words′ floats floats′ c r → r ≡ FaceAdded.Refused k
+              → AddFacesExit d ps ws cell s words₀ words′ floats₀ floats′ (CellsAdded.Refused k)
+          by r (Contracts.AddFaceExit.next q′ m′ e f p l) q = absurd (let z : _≡_ {A = ℕ} 0 1 = cc in omega arith)
+          by r (Contracts.AddFaceExit.refusing j e) q =
               let z : j ≡ k = cc in
-              Contracts.FacesAdding.refusing k (sym (g .rest) ∙ steps-refused (facesOf (definitionAt ws (cell .head .at))) (c .face) [] there (addFaceOf d ps (cell .number) (cell .reference)) _ k (rw z at e))
+              Contracts.AddFacesExit.refusing k (sym (g .rest) ∙ steps-refused (facesOf (definitionAt ws (cell .head .at))) (c .face) [] there (addFaceOf d ps (cell .number) (cell .reference)) _ k (rw z at e))
 
       pub going-next : (q : FaceCursor) (m : ℕ) → r ≡ FaceAdded.Next q m → Going d ps ws cell s words₀ words′ floats₀ floats′ m q
       unfolding faceAt
       going-next q m er = by r a er
         where
-          by : (r : FaceAdded) → FaceAdding d ps ws cell (sized s n) words words′ floats floats′ c r → r ≡ FaceAdded.Next q m
+          by : (r : FaceAdded) → AddFaceExit d ps ws cell (withFaces s n) words words′ floats floats′ c r → r ≡ FaceAdded.Next q m
               → Going d ps ws cell s words₀ words′ floats₀ floats′ m q
-          by r (Contracts.FaceAdding.refusing j e) er = absurd (let z : _≡_ {A = ℕ} 0 1 = cc in omega arith)
-          by r (Contracts.FaceAdding.next q′ m′ e f p l) er =
+          by r (Contracts.AddFaceExit.refusing j e) er = absurd (let z : _≡_ {A = ℕ} 0 1 = cc in omega arith)
+          by r (Contracts.AddFaceExit.next q′ m′ e f p l) er =
               let zq : q′ ≡ q = cc in
               let zm : m′ ≡ m = cc in
               let f′ : q .face ≡ c .face + 1 = rw zq at f in
-              let l′ : Listed (sized s n) words words′ floats floats′ (cell .first + c .face) 1 m = rw zm at l in
+              let l′ : ListGrowth (withFaces s n) words words′ floats floats′ (cell .first + c .face) 1 m = rw zm at l in
               record {
                 at-face = rw zq at p;
                 face = omega arith;
@@ -224,13 +224,13 @@ module _ (d : ℕ) (ps : List Vec3) (ws : List ℕ) (cell : NewCell) (s : Sizes)
       pub going-less : (q : FaceCursor) (m : ℕ) → r ≡ FaceAdded.Next q m → cell .head .faces - q .face < cell .head .faces - c .face
       going-less q m er = by r a er
         where
-          by : (r : FaceAdded) → FaceAdding d ps ws cell (sized s n) words words′ floats floats′ c r → r ≡ FaceAdded.Next q m → cell .head .faces - q .face < cell .head .faces - c .face
-          by r (Contracts.FaceAdding.refusing j e) er = absurd (let z : _≡_ {A = ℕ} 0 1 = cc in omega arith)
-          by r (Contracts.FaceAdding.next q′ m′ e f p l) er = let zq : q′ ≡ q = cc in let f′ : q .face ≡ c .face + 1 = rw zq at f in omega arith
+          by : (r : FaceAdded) → AddFaceExit d ps ws cell (withFaces s n) words words′ floats floats′ c r → r ≡ FaceAdded.Next q m → cell .head .faces - q .face < cell .head .faces - c .face
+          by r (Contracts.AddFaceExit.refusing j e) er = absurd (let z : _≡_ {A = ℕ} 0 1 = cc in omega arith)
+          by r (Contracts.AddFaceExit.next q′ m′ e f p l) er = let zq : q′ ≡ q = cc in let f′ : q .face ≡ c .face + 1 = rw zq at f in omega arith
 
-    pub going-done : cell .head .faces ≤ c .face → FacesAdding d ps ws cell s words₀ words floats₀ floats (Drafted.Faces n)
+    pub going-done : cell .head .faces ≤ c .face → AddFacesExit d ps ws cell s words₀ words floats₀ floats (CellsAdded.Faces n)
     unfolding steps
     going-done end =
         let z : c .face ≡ cell .head .faces = omega (arith, g .face) in
         let w = rw (drop-of-length-le (facesOf (definitionAt ws (cell .head .at))) {i = c .face} (omega (arith, head-faces ws (cell .head) (rd .headed) .all)), steps) at (g .rest) in
-        Contracts.FacesAdding.added n (rw z at (sym w)) (rw z at (g .listed))
+        Contracts.AddFacesExit.added n (rw z at (sym w)) (rw z at (g .listed))

@@ -1,4 +1,4 @@
-// The first pass of from_cells: the face table and the cells as drafts, in the lent area.
+// The first pass of from_cells: the face table and the cells as partial cells, in the lent area.
 use arith::number::narrow;
 use case_definitions::Cursor;
 use case_definitions::Head;
@@ -19,11 +19,11 @@ ghost use Rattle.case_definitions.specs.Faces.{Definition};
 ghost use Rattle.case_definitions.specs.Definitions.{definitions};
 ghost use Rattle.mesh_area.specs.Layout.{pointsIn};
 ghost use Rattle.mesh_face_table.specs.Chains.{Chained};
-ghost use Rattle.mesh_faces.specs.Contracts.{sized};
-ghost use Rattle.mesh_cells.specs.Contracts.{Adding, FaceReady, FaceAdding, FacesReady, FacesAdding, CellReady, CellFilling, CellFinding, Addable, CellTurn, CellAdding};
+ghost use Rattle.mesh_faces.specs.Contracts.{withFaces};
+ghost use Rattle.mesh_cells.specs.Contracts.{AddCellsExit, AddFaceEntry, AddFaceExit, AddFacesEntry, AddFacesExit, FillCellEntry, FillCellExit, NewCellExit, AddCellsEntry, AddCellEntry, AddCellExit};
 
 // The number of faces in the table, or the refusal.
-pub enum Drafted {
+pub enum CellsAdded {
     Faces(usize),
     Refused(u64),
 }
@@ -67,9 +67,9 @@ fn add_face(
     cell: NewCell,
     c: FaceCursor,
 ) -> FaceAdded
-    requires { ⌜ FaceReady (wordsIn (now ws)) s (now words) (now floats) cell c × (points ≤ 65536)
+    requires { ⌜ AddFaceEntry (wordsIn (now ws)) s (now words) (now floats) cell c × (points ≤ 65536)
         × (24 * points ≤ length (now case)) ⌝ }
-    ensures { λ r. ⌜ FaceAdding dimension (pointsIn (now (case .entry)) points) (wordsIn (now (ws .entry))) cell s
+    ensures { λ r. ⌜ AddFaceExit dimension (pointsIn (now (case .entry)) points) (wordsIn (now (ws .entry))) cell s
         (now (words .entry)) (now (words .exit)) (now (floats .entry)) (now (floats .exit)) c r ⌝ }
 {
     let mut vertices = [0u32; 8];
@@ -107,10 +107,10 @@ fn add_faces(
     floats: &mut [f64],
     s: Sizes,
     cell: NewCell,
-) -> Drafted
-    requires { ⌜ FacesReady (wordsIn (now ws)) s (now words) (now floats) cell × (points ≤ 65536)
+) -> CellsAdded
+    requires { ⌜ AddFacesEntry (wordsIn (now ws)) s (now words) (now floats) cell × (points ≤ 65536)
         × (24 * points ≤ length (now case)) ⌝ }
-    ensures { λ r. ⌜ FacesAdding dimension (pointsIn (now (case .entry)) points) (wordsIn (now (ws .entry))) cell s
+    ensures { λ r. ⌜ AddFacesExit dimension (pointsIn (now (case .entry)) points) (wordsIn (now (ws .entry))) cell s
         (now (words .entry)) (now (words .exit)) (now (floats .entry)) (now (floats .exit)) r ⌝ }
 {
     let h = cell.head;
@@ -124,14 +124,14 @@ fn add_faces(
         };
         let added = add_face(case, points, dimension, ws, words, floats, t, cell, c);
         match added {
-            FaceAdded::Refused(k) => return Drafted::Refused(k),
+            FaceAdded::Refused(k) => return CellsAdded::Refused(k),
             FaceAdded::Next(next, m) => {
                 n = m;
                 c = next;
             }
         }
     }
-    Drafted::Faces(n)
+    CellsAdded::Faces(n)
 }
 
 // ---- the cells
@@ -146,10 +146,10 @@ fn fill_cell(
     floats: &mut [f64],
     s: Sizes,
     cell: NewCell,
-) -> Drafted
-    requires { ⌜ CellReady (wordsIn (now ws)) s (now words) (now floats) cell × (points ≤ 65536)
+) -> CellsAdded
+    requires { ⌜ FillCellEntry (wordsIn (now ws)) s (now words) (now floats) cell × (points ≤ 65536)
         × (24 * points ≤ length (now case)) ⌝ }
-    ensures { λ r. ⌜ CellFilling dimension (pointsIn (now (case .entry)) points) (wordsIn (now (ws .entry))) cell s
+    ensures { λ r. ⌜ FillCellExit dimension (pointsIn (now (case .entry)) points) (wordsIn (now (ws .entry))) cell s
         (now (words .entry)) (now (words .exit)) (now (floats .entry)) (now (floats .exit)) r ⌝ }
 {
     let h = cell.head;
@@ -177,12 +177,12 @@ fn new_cell(
     p: Progress,
 ) -> CellFound
     requires { ⌜ (points ≤ 65536) × (24 * points ≤ length (now case)) ⌝ }
-    ensures { λ r. ⌜ CellFinding dimension (pointsIn (now (case .entry)) points) (wordsIn (now (ws .entry))) i p r ⌝ }
+    ensures { λ r. ⌜ NewCellExit dimension (pointsIn (now (case .entry)) points) (wordsIn (now (ws .entry))) i p r ⌝ }
 {
     let at = p.at;
     let step = walker::record_at(ws, Cursor { at });
     match step {
-        // This does not come where the definitions are right (`Addable`).
+        // This does not come where the definitions are right (`AddCellsEntry`).
         Step::Wrong(k) => CellFound::Refused(k),
         Step::Record(head, next) => {
             let found = mesh_points::reference_of(dimension, case, points, ws, head);
@@ -217,9 +217,9 @@ fn add_cell(
     i: usize,
     p: Progress,
 ) -> CellAdded
-    requires { ⌜ CellTurn dimension (pointsIn (now case) points) (now case) points (wordsIn (now ws)) (now words)
+    requires { ⌜ AddCellEntry dimension (pointsIn (now case) points) (now case) points (wordsIn (now ws)) (now words)
         (now floats) s i p ⌝ }
-    ensures { λ r. ⌜ CellAdding dimension (pointsIn (now (case .entry)) points) (wordsIn (now (ws .entry))) s
+    ensures { λ r. ⌜ AddCellExit dimension (pointsIn (now (case .entry)) points) (wordsIn (now (ws .entry))) s
         (now (words .exit)) (now (floats .exit)) i r ⌝ }
 {
     let found = new_cell(case, points, dimension, ws, i, p);
@@ -233,8 +233,8 @@ fn add_cell(
             };
             let filled = fill_cell(case, points, dimension, ws, words, floats, t, cell);
             match filled {
-                Drafted::Refused(k) => CellAdded::Refused(k),
-                Drafted::Faces(n) => CellAdded::Next(Progress {
+                CellsAdded::Refused(k) => CellAdded::Refused(k),
+                CellsAdded::Faces(n) => CellAdded::Next(Progress {
                     at: next.at,
                     first: cell.first + cell.head.faces,
                     faces: n,
@@ -253,10 +253,10 @@ fn fill_cells(
     words: &mut [u32],
     floats: &mut [f64],
     s: Sizes,
-) -> Drafted
-    requires { ⌜ Addable (now case) points (wordsIn (now ws)) (now words) (now floats) s
-        × Chained (sized s 0) (now words) ⌝ }
-    ensures { λ r. ⌜ ((defs : List Definition) → definitions (s .cells) (wordsIn (now (ws .entry))) ≡ fine defs → Adding
+) -> CellsAdded
+    requires { ⌜ AddCellsEntry (now case) points (wordsIn (now ws)) (now words) (now floats) s
+        × Chained (withFaces s 0) (now words) ⌝ }
+    ensures { λ r. ⌜ ((defs : List Definition) → definitions (s .cells) (wordsIn (now (ws .entry))) ≡ fine defs → AddCellsExit
         dimension (pointsIn (now (case .entry)) points) (wordsIn (now (ws .entry))) defs s (now (words .exit))
         (now (floats .exit)) r) ⌝ }
 {
@@ -269,12 +269,12 @@ fn fill_cells(
     while i < s.cells {
         let added = add_cell(case, points, dimension, ws, words, floats, s, i, p);
         match added {
-            CellAdded::Refused(k) => return Drafted::Refused(k),
+            CellAdded::Refused(k) => return CellsAdded::Refused(k),
             CellAdded::Next(q) => p = q,
         }
         i += 1;
     }
-    Drafted::Faces(p.faces)
+    CellsAdded::Faces(p.faces)
 }
 
 // The first pass over the definitions `ws`: all cells, each with its faces.
@@ -286,9 +286,9 @@ pub fn add_cells(
     words: &mut [u32],
     floats: &mut [f64],
     s: Sizes,
-) -> Drafted
-    requires { ⌜ Addable (now case) points (wordsIn (now ws)) (now words) (now floats) s ⌝ }
-    ensures { λ r. ⌜ ((defs : List Definition) → definitions (s .cells) (wordsIn (now (ws .entry))) ≡ fine defs → Adding
+) -> CellsAdded
+    requires { ⌜ AddCellsEntry (now case) points (wordsIn (now ws)) (now words) (now floats) s ⌝ }
+    ensures { λ r. ⌜ ((defs : List Definition) → definitions (s .cells) (wordsIn (now (ws .entry))) ≡ fine defs → AddCellsExit
         dimension (pointsIn (now (case .entry)) points) (wordsIn (now (ws .entry))) defs s (now (words .exit))
         (now (floats .exit)) r) ⌝ }
 {

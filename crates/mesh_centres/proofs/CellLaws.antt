@@ -13,8 +13,8 @@ use Rattle.arith.proofs.RecordLaws.{tab-same, lt-or-ge, getD-puts-out, getD-put
 use Rattle.mesh_area.specs.declared.Sizes.{Sizes}
 use Rattle.mesh_area.specs.Layout.{listAt, vecFrom, cellIn, meshWords, meshFloats, wordsEnd, floatsEnd}
 use Rattle.mesh_volumes.specs.declared.CellGeometry.{CellGeometry}
-use Rattle.mesh_cells.specs.Partial.{cellWord, draftIn}
-use Rattle.mesh_cells.specs.Contracts.{Lists}
+use Rattle.mesh_cells.specs.Partial.{cellWord, partialCellIn}
+use Rattle.mesh_cells.specs.Contracts.{FaceLists}
 use Rattle.mesh_centres.specs.Contracts.{cellFrom, floatsOf, firstCells}
 
 -- ---- the words of a cell, which stay
@@ -32,7 +32,7 @@ empty-list : (w : List ℕ) (at n : ℕ) → n ≡ 0 → listAt w at n ≡ []
 unfolding listAt tab
 empty-list w at n e = rw e
 
-module _ (ws : List ℕ) (s : Sizes) (words : List ℕ) (lists : Lists ws s words (s .cells) (s .slots)) where
+module _ (ws : List ℕ) (s : Sizes) (words : List ℕ) (lists : FaceLists ws s words (s .cells) (s .slots)) where
   -- the lists follow each other, up to the end
   apart : (i d : ℕ) → i + 1 + d < s .cells → cellWord s words i 1 + cellWord s words i 2 ≤ cellWord s words (i + 1 + d) 1
   apart i zero h = let e : i + 1 + 0 ≡ i + 1 = omega arith in rw e (let n = lists .next i (omega arith) in omega arith)
@@ -62,7 +62,7 @@ module _ (ws : List ℕ) (s : Sizes) (words : List ℕ) (lists : Lists ws s word
         (mesh-list s words (13 * s .slots + cellWord s words i 1) (cellWord s words i 2) (omega arith))
 
     no-neighbours : (at : ℕ) → listAt (meshWords s words) at (getD (meshWords s words) (16 * s .slots + 8 * i + 3) 0) ≡ []
-    no-neighbours at = empty-list _ at _ (mesh-word s words (16 * s .slots + 8 * i + 3) (omega arith) ∙ lists .lonely i h)
+    no-neighbours at = empty-list _ at _ (mesh-word s words (16 * s .slots + 8 * i + 3) (omega arith) ∙ lists .unlinked i h)
 
 -- ---- the floats of a cell
 
@@ -102,9 +102,9 @@ module _ (s : Sizes) (floats : List Float) (i : ℕ) (g : CellGeometry) (cell : 
     unfolding firstCells
     cells-kept = tab-same _ _ i cell-kept
 
-    pub cell-finished : (ws : List ℕ) (floats₀ : List Float) → Lists ws s words (s .cells) (s .slots)
+    pub cell-finished : (ws : List ℕ) (floats₀ : List Float) → FaceLists ws s words (s .cells) (s .slots)
         → cellIn (meshWords s words) (meshFloats s after) (s .slots) i
-        ≡ record { faces = draftIn ws s words floats₀ i .faces; neighbours = []; centre = g .centre; volume = g .volume }
-    unfolding cellIn draftIn vecFrom
+        ≡ record { faces = partialCellIn ws s words floats₀ i .faces; neighbours = []; centre = g .centre; volume = g .volume }
+    unfolding cellIn partialCellIn vecFrom
     cell-finished ws floats₀ lists =
         rw (own-faces ws s words lists i cell, no-neighbours ws s words lists i cell, stored-first, stored-at 1 (lit≤ tt), stored-at 2 (lit≤ tt), stored-at 3 (lit≤ tt))

@@ -1,4 +1,4 @@
--- From the area that holds the drafts to the cells, with the face table beside them. Assumes nothing.
+-- From the area that holds the partial cells to the cells, with the face table beside them. Assumes nothing.
 use Prim.Native.Nat.{ℕ, _+_, _*_, _≤_, _<_}
 use native.Mathlib.Omega.{arith}
 use mathlib.Core.Path.{_≡_, sym, ap, _∙_}
@@ -13,17 +13,17 @@ use Rattle.case_definitions.specs.Faces.{Definition}
 use Rattle.case_definitions.specs.Definitions.{definitions}
 use Rattle.mesh_area.specs.declared.Sizes.{Sizes}
 use Rattle.mesh_area.specs.Layout.{vecFrom, faceIn, facesIn, meshWords, meshFloats, floatsEnd, LentWords, LentFloats}
-use Rattle.mesh_coordinates.specs.Coordinates.{Points}
-use Rattle.mesh_cells.specs.Cells.{Drafts, drafts}
-use Rattle.mesh_cells.specs.Contracts.{Held}
+use Rattle.mesh_coordinates.specs.Coordinates.{PointBytes}
+use Rattle.mesh_cells.specs.Cells.{PartialMesh, partialMesh}
+use Rattle.mesh_cells.specs.Contracts.{PartialMeshHeld}
 use Rattle.mesh_centres.specs.Finish.{definitionsOf}
-use Rattle.mesh_centres.specs.Contracts.{Finishable}
-use Rattle.mesh_centres.proofs.DraftLaws.{drafts-defined}
+use Rattle.mesh_centres.specs.Contracts.{FinishCellsEntry}
+use Rattle.mesh_centres.proofs.PartialLaws.{drafts-defined}
 
-module _ (d : ℕ) (ps : List Vec3) (ws words : List ℕ) (floats : List Float) (s : Sizes) (n : ℕ) (t : Drafts) (held : Held ws s words floats n t) where
+module _ (d : ℕ) (ps : List Vec3) (ws words : List ℕ) (floats : List Float) (s : Sizes) (n : ℕ) (t : PartialMesh) (held : PartialMeshHeld ws s words floats n t) where
   -- what `add_cells` leaves is what `finish_cells` needs
-  pub held-finishable : (case : List ℕ) (points : ℕ) (defs : List Definition) → drafts d ps defs ≡ fine t → definitions (s .cells) ws ≡ fine defs
-      → LentWords s words → LentFloats s floats → Points case points → Finishable case points ws words floats s
+  pub held-finishable : (case : List ℕ) (points : ℕ) (defs : List Definition) → partialMesh d ps defs ≡ fine t → definitions (s .cells) ws ≡ fine defs
+      → LentWords s words → LentFloats s floats → PointBytes case points → FinishCellsEntry case points ws words floats s
   held-finishable case points defs made right lent-words lent-floats points-there =
       record {
         lent-words = lent-words;

@@ -15,7 +15,7 @@ use Rattle.reading.specs.Result.{Result, refused, fine, _>>=_, mapAll}
 use Rattle.reading.proofs.ResultLaws.{bound, mapAll-next, mapAll-refused}
 use Rattle.case_definitions.specs.Faces.{Definition, facesOf}
 use Rattle.case_definitions.specs.Definitions.{Taken, definition, definitions}
-use Rattle.case_definitions.specs.Contracts.{readOf, definitionAt, Headed, headOf, stepAt}
+use Rattle.case_definitions.specs.Contracts.{readOf, definitionAt, HeadAt, headOf, stepAt}
 use Rattle.case_definitions.specs.declared.Cursor.{Cursor}
 use Rattle.case_definitions.specs.declared.Head.{Head}
 use Rattle.case_definitions.specs.declared.Step.{Step}
@@ -29,14 +29,14 @@ use Rattle.mesh_volumes.specs.declared.CellMeasure.{CellMeasure}
 use Rattle.mesh_volumes.specs.declared.CellMeasure.the-variants as Measure
 use Rattle.mesh_volumes.specs.Geometry.{cellGeometry, cellOf}
 use Rattle.mesh_measure.specs.Contracts.{facesAt}
-use Rattle.mesh_cells.specs.Cells.{Draft}
-use Rattle.mesh_cells.specs.Partial.{draftIn, draftsIn}
+use Rattle.mesh_cells.specs.Cells.{PartialCell}
+use Rattle.mesh_cells.specs.Partial.{partialCellIn, partialCellsIn}
 use Rattle.mesh_centres.specs.declared.Finished.{Finished}
 use Rattle.mesh_centres.specs.declared.Finished.the-variants as Finished
 use Rattle.mesh_centres.specs.declared.CellFinished.{CellFinished}
 use Rattle.mesh_centres.specs.declared.CellFinished.the-variants as CellFinished
 use Rattle.mesh_centres.specs.Finish.{finished, finishedAs, definitionsOf}
-use Rattle.mesh_centres.specs.Contracts.{Finishable, Finishing, cellFrom, floatsOf, geometryAt, RecordFinishing, stored, CellReady, CellFinishing, next, firstCells, Going}
+use Rattle.mesh_centres.specs.Contracts.{FinishCellsEntry, FinishCellsExit, cellFrom, floatsOf, geometryAt, FinishRecordExit, stored, FinishCellEntry, FinishCellExit, next, firstCells, Going}
 use Rattle.mesh_centres.specs.Contracts as Contracts
 use Rattle.mesh_centres.proofs.CellLaws.{later-kept, cells-kept, cell-finished}
 
@@ -48,12 +48,12 @@ module _ (d : ℕ) (ps : List Vec3) (ws : List ℕ) (s : Sizes) (floats : List F
   unfolding geometryAt facesAt
   same-geometry = rw (← place, ← averaged) measured
 
-  pub record-zero : r ≡ Measure.ZeroVolume → RecordFinishing d ps ws s floats floats i (h .at) Finished.ZeroVolume
+  pub record-zero : r ≡ Measure.ZeroVolume → FinishRecordExit d ps ws s floats floats i (h .at) Finished.ZeroVolume
   unfolding cellOf
   record-zero e = Contracts.zero (sym same-geometry ∙ ap cellOf e) refl
 
   pub record-stored : (g : CellGeometry) (floats′ : List Float) → r ≡ Measure.Cell g → floats′ ≡ puts floats at (floatsOf g)
-      → RecordFinishing d ps ws s floats floats′ i (h .at) Finished.Done
+      → FinishRecordExit d ps ws s floats floats′ i (h .at) Finished.Done
   unfolding cellOf
   record-stored g floats′ e put = stored g (sym same-geometry ∙ ap cellOf e) (rw place at put)
 
@@ -67,25 +67,25 @@ module _ (ws : List ℕ) (c : Cursor) (t : Step) (met : t ≡ stepAt ws (c .at))
   unfolding headOf
   head-at = ap (λ (x : Head). x .at) (to .head)
 
-  pub cell-headed : Headed ws h
+  pub cell-headed : HeadAt ws h
   cell-headed = record { next = q; step = ap (stepAt ws) head-at ∙ sym met ∙ e }
 
   -- what the record's answer says of the cell
   module _ (d : ℕ) (ps : List Vec3) (s : Sizes) (floats floats′ : List Float) (i : ℕ) where
-    pub cell-zero : {r : Finished} → RecordFinishing d ps ws s floats floats′ i (h .at) r → r ≡ Finished.ZeroVolume
-        → CellFinishing d ps ws s floats floats′ i (c .at) CellFinished.ZeroVolume
+    pub cell-zero : {r : Finished} → FinishRecordExit d ps ws s floats floats′ i (h .at) r → r ≡ Finished.ZeroVolume
+        → FinishCellExit d ps ws s floats floats′ i (c .at) CellFinished.ZeroVolume
     cell-zero (Contracts.zero m k) g = Contracts.zero (rw head-at at m) k
     cell-zero (stored a m k) g = absurd (let z : _≡_ {A = ℕ} 0 1 = cc in omega arith)
 
-    pub cell-next : {r : Finished} → RecordFinishing d ps ws s floats floats′ i (h .at) r → r ≡ Finished.Done
-        → CellFinishing d ps ws s floats floats′ i (c .at) (CellFinished.Next q)
+    pub cell-next : {r : Finished} → FinishRecordExit d ps ws s floats floats′ i (h .at) r → r ≡ Finished.Done
+        → FinishCellExit d ps ws s floats floats′ i (c .at) (CellFinished.Next q)
     unfolding definitionAt readOf
     cell-next (Contracts.zero m k) g = absurd (let z : _≡_ {A = ℕ} 0 1 = cc in omega arith)
     cell-next (stored a m k) g = next q a (rw head-at at m) k (rw (to .read, readOf))
 
 -- a right record is there
 pub cell-wrong : (d : ℕ) (ps : List Vec3) (ws : List ℕ) (s : Sizes) (floats : List Float) (i : ℕ) (c : Cursor) (t : Step) (w : Taken Definition) (k : ℕ)
-    → t ≡ stepAt ws (c .at) → definition (drop (c .at) ws) ≡ fine w → t ≡ Wrong k → CellFinishing d ps ws s floats floats i (c .at) CellFinished.ZeroVolume
+    → t ≡ stepAt ws (c .at) → definition (drop (c .at) ws) ≡ fine w → t ≡ Wrong k → FinishCellExit d ps ws s floats floats i (c .at) CellFinished.ZeroVolume
 cell-wrong d ps ws s floats i c t w k met right e =
     let n = steps-wrong ws (c .at) k (sym e ∙ met) in absurd (let z : _≡_ {A = ℕ} 0 1 = cc in omega arith)
 
@@ -111,12 +111,12 @@ here ws defs n i at x h m e =
 
 -- ---- all cells
 
-module _ (d : ℕ) (case : List ℕ) (points : ℕ) (ps : List Vec3) (ws words : List ℕ) (floats₀ : List Float) (s : Sizes) (able : Finishable case points ws words floats₀ s) where
-  abbrev cells : List Draft
-  cells = draftsIn ws s words floats₀ (s .cells)
+module _ (d : ℕ) (case : List ℕ) (points : ℕ) (ps : List Vec3) (ws words : List ℕ) (floats₀ : List Float) (s : Sizes) (able : FinishCellsEntry case points ws words floats₀ s) where
+  abbrev cells : List PartialCell
+  cells = partialCellsIn ws s words floats₀ (s .cells)
 
   length-cells : length cells ≡ s .cells
-  unfolding draftsIn
+  unfolding partialCellsIn
   length-cells = length-tab _ (s .cells)
 
   pub go-start : Going d ps ws s words floats₀ floats₀ 0 0
@@ -134,11 +134,11 @@ module _ (d : ℕ) (case : List ℕ) (points : ℕ) (ps : List Vec3) (ws words :
       by (fine bs) = refl
 
   module _ (floats : List Float) (i : ℕ) (c : Cursor) (go : Going d ps ws s words floats₀ floats i (c .at)) (more : i < s .cells) (long : length floats ≡ length floats₀) where
-    draft : Draft
-    draft = draftIn ws s words floats₀ i
+    draft : PartialCell
+    draft = partialCellIn ws s words floats₀ i
 
     draft-at : getD cells i draft ≡ draft
-    unfolding draftsIn draft
+    unfolding partialCellsIn draft
     draft-at = getD-tab _ (s .cells) i draft more
 
     definition-here : Here ws (definitionsOf cells) (s .cells) i (c .at) (draft .definition)
@@ -148,18 +148,18 @@ module _ (d : ℕ) (case : List ℕ) (points : ℕ) (ps : List Vec3) (ws words :
     lent : LentFloats s floats
     lent = let l = able .lent-floats in record { few-slots = l .few-slots; few-faces = l .few-faces; few-cells = l .few-cells; long = rw long (l .long) }
 
-    pub go-ready : CellReady case points ws floats s i c
+    pub go-ready : FinishCellEntry case points ws floats s i c
     go-ready = record { lent-floats = lent; points-there = able .points-there; cell = more; taken = definition-here .taken; right = definition-here .right }
 
-    -- the definition is that of the draft
+    -- the definition is that of the partial cell
     same-definition : definitionAt ws (c .at) ≡ draft .definition
     unfolding definitionAt readOf
     same-definition =
         let h = definition-here in
-        rw (h .right, readOf) (h .read ∙ List·getD-map (λ (c : Draft). c .definition) cells i draft ∙ ap (λ (c : Draft). c .definition) draft-at)
+        rw (h .right, readOf) (h .read ∙ List·getD-map (λ (c : PartialCell). c .definition) cells i draft ∙ ap (λ (c : PartialCell). c .definition) draft-at)
 
     same-reference : vecFrom floats (cellFrom s i) ≡ draft .reference
-    unfolding draft draftIn vecFrom
+    unfolding draft partialCellIn vecFrom
     same-reference =
         rw (go .later (cellFrom s i) (omega arith), go .later (cellFrom s i + 1) (omega arith), go .later (cellFrom s i + 2) (omega arith))
 
@@ -201,7 +201,7 @@ module _ (d : ℕ) (case : List ℕ) (points : ℕ) (ps : List Vec3) (ws words :
           ∙ take-take (12 * s .slots) (cellFrom s i) floats (omega arith)
 
     module _ (floats′ : List Float) where
-      pub go-next : {r : CellFinished} (q : Cursor) → CellFinishing d ps ws s floats floats′ i (c .at) r → r ≡ CellFinished.Next q
+      pub go-next : {r : CellFinished} (q : Cursor) → FinishCellExit d ps ws s floats floats′ i (c .at) r → r ≡ CellFinished.Next q
           → Going d ps ws s words floats₀ floats′ (i + 1) (q .at)
       go-next q (Contracts.zero m k) e = absurd (let z : _≡_ {A = ℕ} 0 1 = cc in omega arith)
       go-next q (next p g m put right) e =
@@ -219,8 +219,8 @@ module _ (d : ℕ) (case : List ℕ) (points : ℕ) (ps : List Vec3) (ws words :
             faces = faces-kept g ∙ go .faces;
           })
 
-      pub go-stop : {r : CellFinished} → CellFinishing d ps ws s floats floats′ i (c .at) r → r ≡ CellFinished.ZeroVolume
-          → Finishing d ps ws s words floats₀ floats′ Finished.ZeroVolume
+      pub go-stop : {r : CellFinished} → FinishCellExit d ps ws s floats floats′ i (c .at) r → r ≡ CellFinished.ZeroVolume
+          → FinishCellsExit d ps ws s words floats₀ floats′ Finished.ZeroVolume
       unfolding finishedAs
       go-stop (next p g m put right) e = absurd (let z : _≡_ {A = ℕ} 0 1 = cc in omega arith)
       go-stop (Contracts.zero m k) e =
@@ -233,7 +233,7 @@ module _ (d : ℕ) (case : List ℕ) (points : ℕ) (ps : List Vec3) (ws words :
           })
 
   pub go-done : (floats : List Float) (i : ℕ) (c : Cursor) → Going d ps ws s words floats₀ floats i (c .at) → i ≤ s .cells → s .cells ≤ i → length floats ≡ length floats₀
-      → Finishing d ps ws s words floats₀ floats Finished.Done
+      → FinishCellsExit d ps ws s words floats₀ floats Finished.Done
   unfolding finishedAs cellsIn firstCells mapAll _>>=_
   go-done floats i c go le ge long =
       let e : i ≡ s .cells = omega arith in

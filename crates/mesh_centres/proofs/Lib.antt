@@ -1,4 +1,4 @@
-pub mod DraftLaws
+pub mod PartialLaws
 pub mod CellLaws
 pub mod Laws
 pub mod HeldLaws

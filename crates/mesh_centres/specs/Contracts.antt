@@ -1,6 +1,6 @@
 -- The contracts of `finish_cells` and its parts.
 -- `cellFrom`, `floatsOf`: a cell's floats. `geometryAt`: its geometry.
--- `finish_record`: `RecordReady`, `RecordFinishing`. `finish_cell`: `CellReady`, `CellFinishing`.
+-- `finish_record`: `FinishRecordEntry`, `FinishRecordExit`. `finish_cell`: `FinishCellEntry`, `FinishCellExit`.
 -- `finish_cells`: `firstCells`, `Going`.
 use Prim.Native.Nat.{ℕ, _*_, _≤_, _+_, _-_, _<_}
 use mathlib.Core.Path.{_≡_}
@@ -15,13 +15,13 @@ use Rattle.mesh_area.specs.declared.Sizes.{Sizes}
 use Rattle.mesh_area.specs.Tables.{Cell}
 use Rattle.mesh_area.specs.Layout.{cellsIn, floatsEnd, LentWords, LentFloats, vecFrom, cellIn, meshWords, meshFloats}
 use Rattle.mesh_volumes.specs.Geometry.{cellGeometry}
-use Rattle.mesh_coordinates.specs.Coordinates.{Points}
-use Rattle.mesh_cells.specs.Partial.{draftsIn}
-use Rattle.mesh_cells.specs.Contracts.{Lists}
+use Rattle.mesh_coordinates.specs.Coordinates.{PointBytes}
+use Rattle.mesh_cells.specs.Partial.{partialCellsIn}
+use Rattle.mesh_cells.specs.Contracts.{FaceLists}
 use Rattle.mesh_centres.specs.declared.Finished.{Finished}
 use Rattle.mesh_centres.specs.declared.Finished.the-variants.{Done, ZeroVolume}
 use Rattle.arith.specs.Records.{tab, puts}
-use Rattle.case_definitions.specs.Contracts.{Headed, definitionAt}
+use Rattle.case_definitions.specs.Contracts.{HeadAt, definitionAt}
 use Rattle.case_definitions.specs.declared.Cursor.{Cursor}
 use Rattle.case_definitions.specs.declared.Head.{Head}
 use Rattle.mesh_volumes.specs.declared.CellGeometry.{CellGeometry}
@@ -30,19 +30,19 @@ use Rattle.mesh_centres.specs.declared.CellFinished.{CellFinished}
 use Rattle.mesh_centres.specs.declared.Finished.the-variants as Finished
 use Rattle.mesh_centres.specs.declared.CellFinished.the-variants as CellFinished
 
--- what the caller of `finish_cells` shows: the area holds the drafts of the definitions
-pub record Finishable (case : List ℕ) (points : ℕ) (ws words : List ℕ) (floats : List Float) (s : Sizes) : Type 0 where
+-- what the caller of `finish_cells` shows: the area holds the partial cells of the definitions
+pub record FinishCellsEntry (case : List ℕ) (points : ℕ) (ws words : List ℕ) (floats : List Float) (s : Sizes) : Type 0 where
   pub lent-words : LentWords s words
   pub lent-floats : LentFloats s floats
-  pub points-there : Points case points
+  pub points-there : PointBytes case points
   pub defs : List Definition
   pub right : definitions (s .cells) ws ≡ fine defs
-  pub lists : Lists ws s words (s .cells) (s .slots)
-  pub defined : definitionsOf (draftsIn ws s words floats (s .cells)) ≡ defs
+  pub lists : FaceLists ws s words (s .cells) (s .slots)
+  pub defined : definitionsOf (partialCellsIn ws s words floats (s .cells)) ≡ defs
 
 -- what it leaves: the cells, or refusal 15; the faces before them and what stands behind them are as they were
-pub record Finishing (d : ℕ) (ps : List Vec3) (ws : List ℕ) (s : Sizes) (words : List ℕ) (floats floats′ : List Float) (r : Finished) : Type 0 where
-  pub cells : mapAll (finished d ps) (draftsIn ws s words floats (s .cells)) ≡ finishedAs r (cellsIn s words floats′)
+pub record FinishCellsExit (d : ℕ) (ps : List Vec3) (ws : List ℕ) (s : Sizes) (words : List ℕ) (floats floats′ : List Float) (r : Finished) : Type 0 where
+  pub cells : mapAll (finished d ps) (partialCellsIn ws s words floats (s .cells)) ≡ finishedAs r (cellsIn s words floats′)
   pub faces : take (12 * s .slots) floats′ ≡ take (12 * s .slots) floats
   pub long : length floats′ ≡ length floats
   pub later : (j : ℕ) → floatsEnd s ≤ j → getD floats′ j nan ≡ getD floats j nan
@@ -62,32 +62,32 @@ unfoldable pub geometryAt : ℕ → List Vec3 → List ℕ → Sizes → List Fl
 geometryAt d ps ws s floats i at = cellGeometry d ps (vecFrom floats (cellFrom s i)) (facesOf (definitionAt ws at))
 
 -- the floats, the points and the words are as cell i needs them
-pub record RecordReady (case : List ℕ) (points : ℕ) (ws : List ℕ) (floats : List Float) (s : Sizes) (i : ℕ) (h : Head) : Type 0 where
+pub record FinishRecordEntry (case : List ℕ) (points : ℕ) (ws : List ℕ) (floats : List Float) (s : Sizes) (i : ℕ) (h : Head) : Type 0 where
   pub lent-floats : LentFloats s floats
-  pub points-there : Points case points
+  pub points-there : PointBytes case points
   pub cell : i < s .cells
-  pub headed : Headed ws h
+  pub headed : HeadAt ws h
 
 -- `finish_record`: the geometry of cell i is stored, or it has none
-pub data RecordFinishing (d : ℕ) (ps : List Vec3) (ws : List ℕ) (s : Sizes) (floats floats′ : List Float) (i at : ℕ) : Finished → Type 0 where
+pub data FinishRecordExit (d : ℕ) (ps : List Vec3) (ws : List ℕ) (s : Sizes) (floats floats′ : List Float) (i at : ℕ) : Finished → Type 0 where
   stored : (g : CellGeometry) → geometryAt d ps ws s floats i at ≡ fine g → floats′ ≡ puts floats (cellFrom s i) (floatsOf g)
-      → RecordFinishing d ps ws s floats floats′ i at Finished.Done
-  zero : geometryAt d ps ws s floats i at ≡ refused 15 → floats′ ≡ floats → RecordFinishing d ps ws s floats floats′ i at Finished.ZeroVolume
+      → FinishRecordExit d ps ws s floats floats′ i at Finished.Done
+  zero : geometryAt d ps ws s floats i at ≡ refused 15 → floats′ ≡ floats → FinishRecordExit d ps ws s floats floats′ i at Finished.ZeroVolume
 
 -- a right record is at the cursor: `survey` has walked over all of them, so the walker does not refuse one here with 3
-pub record CellReady (case : List ℕ) (points : ℕ) (ws : List ℕ) (floats : List Float) (s : Sizes) (i : ℕ) (c : Cursor) : Type 0 where
+pub record FinishCellEntry (case : List ℕ) (points : ℕ) (ws : List ℕ) (floats : List Float) (s : Sizes) (i : ℕ) (c : Cursor) : Type 0 where
   pub lent-floats : LentFloats s floats
-  pub points-there : Points case points
+  pub points-there : PointBytes case points
   pub cell : i < s .cells
   pub taken : Taken Definition
   pub right : definition (drop (c .at) ws) ≡ fine taken
 
 -- `finish_cell`: the geometry of cell i is stored, and the next record starts at q; or it has none
-pub data CellFinishing (d : ℕ) (ps : List Vec3) (ws : List ℕ) (s : Sizes) (floats floats′ : List Float) (i at : ℕ) : CellFinished → Type 0 where
+pub data FinishCellExit (d : ℕ) (ps : List Vec3) (ws : List ℕ) (s : Sizes) (floats floats′ : List Float) (i at : ℕ) : CellFinished → Type 0 where
   next : (q : Cursor) (g : CellGeometry) → geometryAt d ps ws s floats i at ≡ fine g → floats′ ≡ puts floats (cellFrom s i) (floatsOf g)
       → definition (drop at ws) ≡ fine (record { read = definitionAt ws at; left = drop (q .at) ws })
-      → CellFinishing d ps ws s floats floats′ i at (CellFinished.Next q)
-  zero : geometryAt d ps ws s floats i at ≡ refused 15 → floats′ ≡ floats → CellFinishing d ps ws s floats floats′ i at CellFinished.ZeroVolume
+      → FinishCellExit d ps ws s floats floats′ i at (CellFinished.Next q)
+  zero : geometryAt d ps ws s floats i at ≡ refused 15 → floats′ ≡ floats → FinishCellExit d ps ws s floats floats′ i at CellFinished.ZeroVolume
 
 -- ---- all cells
 
@@ -95,10 +95,10 @@ pub data CellFinishing (d : ℕ) (ps : List Vec3) (ws : List ℕ) (s : Sizes) (f
 unfoldable pub firstCells : Sizes → List ℕ → List Float → ℕ → List Cell
 firstCells s words floats i = tab (cellIn (meshWords s words) (meshFloats s floats) (s .slots)) i
 
--- i cells are finished, where floats₀ held the drafts; what is left, finished after them, gives the whole
+-- i cells are finished, where floats₀ held the partial cells; what is left, finished after them, gives the whole
 pub record Going (d : ℕ) (ps : List Vec3) (ws : List ℕ) (s : Sizes) (words : List ℕ) (floats₀ floats : List Float) (i at : ℕ) : Type 0 where
-  pub left : definitions (s .cells - i) (drop at ws) ≡ fine (drop i (definitionsOf (draftsIn ws s words floats₀ (s .cells))))
-  pub rest : (mapAll (finished d ps) (drop i (draftsIn ws s words floats₀ (s .cells))) >>= λ bs. fine (firstCells s words floats i ++ bs))
-      ≡ mapAll (finished d ps) (draftsIn ws s words floats₀ (s .cells))
+  pub left : definitions (s .cells - i) (drop at ws) ≡ fine (drop i (definitionsOf (partialCellsIn ws s words floats₀ (s .cells))))
+  pub rest : (mapAll (finished d ps) (drop i (partialCellsIn ws s words floats₀ (s .cells))) >>= λ bs. fine (firstCells s words floats i ++ bs))
+      ≡ mapAll (finished d ps) (partialCellsIn ws s words floats₀ (s .cells))
   pub later : (j : ℕ) → cellFrom s i ≤ j → getD floats j nan ≡ getD floats₀ j nan
   pub faces : take (12 * s .slots) floats ≡ take (12 * s .slots) floats₀

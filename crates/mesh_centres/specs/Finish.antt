@@ -7,12 +7,12 @@ use Rattle.case_definitions.specs.Faces.{Definition, facesOf}
 use Rattle.case_definitions.specs.Definitions.{definitions}
 use Rattle.mesh_area.specs.Tables.{Cell}
 use Rattle.mesh_volumes.specs.Geometry.{cellGeometry}
-use Rattle.mesh_cells.specs.Cells.{Draft}
+use Rattle.mesh_cells.specs.Cells.{PartialCell}
 use Rattle.mesh_centres.specs.declared.Finished.{Finished}
 use Rattle.mesh_centres.specs.declared.Finished.the-variants.{Done, ZeroVolume}
 
 -- refusal 15, "zero volume": a cell with its centre and its area or volume; its neighbours come later
-unfoldable pub finished : ℕ → List Vec3 → Draft → Result Cell
+unfoldable pub finished : ℕ → List Vec3 → PartialCell → Result Cell
 finished d ps c =
     cellGeometry d ps (c .reference) (facesOf (c .definition)) >>= λ g.
     fine (record { faces = c .faces; neighbours = []; centre = g .centre; volume = g .volume })
@@ -22,6 +22,6 @@ unfoldable pub finishedAs : Finished → List Cell → Result (List Cell)
 finishedAs Done cells = fine cells
 finishedAs ZeroVolume cells = refused 15
 
--- the definitions that the drafts have
-abbrev pub definitionsOf : List Draft → List Definition
-definitionsOf l = map (λ (c : Draft). c .definition) l
+-- the definitions that the partial cells have
+abbrev pub definitionsOf : List PartialCell → List Definition
+definitionsOf l = map (λ (c : PartialCell). c .definition) l

@@ -13,7 +13,7 @@ ghost use lib.ListN.{length};
 ghost use Rattle.arith.specs.Records.{puts};
 ghost use Rattle.case_file.specs.Trailer.{wordsIn};
 ghost use Rattle.mesh_area.specs.Layout.{pointsIn, vecFrom};
-ghost use Rattle.mesh_centres.specs.Contracts.{Finishable, Finishing, floatsOf, RecordReady, RecordFinishing, CellReady, CellFinishing};
+ghost use Rattle.mesh_centres.specs.Contracts.{FinishCellsEntry, FinishCellsExit, floatsOf, FinishRecordEntry, FinishRecordExit, FinishCellEntry, FinishCellExit};
 
 // The cells are finished, or one of them has no volume.
 pub enum Finished {
@@ -57,8 +57,8 @@ fn finish_record(
     i: usize,
     h: Head,
 ) -> Finished
-    requires { ⌜ RecordReady (now case) points (wordsIn (now ws)) (now floats) s i h ⌝ }
-    ensures { λ r. ⌜ RecordFinishing dimension (pointsIn (now (case .entry)) points) (wordsIn (now (ws .entry))) s
+    requires { ⌜ FinishRecordEntry (now case) points (wordsIn (now ws)) (now floats) s i h ⌝ }
+    ensures { λ r. ⌜ FinishRecordExit dimension (pointsIn (now (case .entry)) points) (wordsIn (now (ws .entry))) s
         (now (floats .entry)) (now (floats .exit)) i (h .at) r ⌝ }
 {
     let base = 12 * s.slots;
@@ -84,13 +84,13 @@ fn finish_cell(
     i: usize,
     c: Cursor,
 ) -> CellFinished
-    requires { ⌜ CellReady (now case) points (wordsIn (now ws)) (now floats) s i c ⌝ }
-    ensures { λ r. ⌜ CellFinishing dimension (pointsIn (now (case .entry)) points) (wordsIn (now (ws .entry))) s
+    requires { ⌜ FinishCellEntry (now case) points (wordsIn (now ws)) (now floats) s i c ⌝ }
+    ensures { λ r. ⌜ FinishCellExit dimension (pointsIn (now (case .entry)) points) (wordsIn (now (ws .entry))) s
         (now (floats .entry)) (now (floats .exit)) i (c .at) r ⌝ }
 {
     match walker::record_at(ws, c) {
         // This cannot come: a right record is at c, since all of them were walked over before the
-        // first pass (`CellReady`). A bad one would have been refused there, with 3.
+        // first pass (`FinishCellEntry`). A bad one would have been refused there, with 3.
         Step::Wrong(_) => CellFinished::ZeroVolume,
         Step::Record(h, next) => {
             match finish_record(case, points, dimension, ws, floats, s, i, h) {
@@ -111,8 +111,8 @@ pub fn finish_cells(
     floats: &mut [f64],
     s: Sizes,
 ) -> Finished
-    requires { ⌜ Finishable (now case) points (wordsIn (now ws)) (now words) (now floats) s ⌝ }
-    ensures { λ r. ⌜ Finishing dimension (pointsIn (now (case .entry)) points) (wordsIn (now (ws .entry))) s
+    requires { ⌜ FinishCellsEntry (now case) points (wordsIn (now ws)) (now words) (now floats) s ⌝ }
+    ensures { λ r. ⌜ FinishCellsExit dimension (pointsIn (now (case .entry)) points) (wordsIn (now (ws .entry))) s
         (now (words .entry)) (now (floats .entry)) (now (floats .exit)) r ⌝ }
 {
     let mut c = Cursor { at: 0 };

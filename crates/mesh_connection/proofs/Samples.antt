@@ -10,7 +10,7 @@ use Rattle.arith.specs.Vec.{origin}
 use Rattle.arith.specs.declared.Found.{Found}
 use Rattle.arith.specs.declared.Found.the-variants.{At, Nothing}
 use Rattle.mesh_area.specs.Tables.{Face, faceAt}
-use Rattle.mesh_neighbours.specs.Neighbours.{otherOf, beyond, addFound, addNeighbour, neighboursOf}
+use Rattle.mesh_neighbours.specs.Neighbours.{otherCell, beyond, addFound, addNeighbour, neighboursOf}
 use Rattle.mesh_connection.specs.Connection.{someBelow, everyBelow, oneRound, rounds, connectedBy, sidesAre, joins, share, connected}
 
 -- a face between two cells
@@ -18,7 +18,7 @@ side : ℕ → Found → Face
 side o n = record { vertices = []; owner = o; neighbour = n; centre = origin; area = 0·0; normal = origin; areaVector = origin }
 
 computing : ℕ
-unfolding side anyOf fold addNew tab faceAt otherOf beyond addFound addNeighbour neighboursOf someBelow everyBelow oneRound rounds connectedBy sidesAre joins share connected
+unfolding side anyOf fold addNew tab faceAt otherCell beyond addFound addNeighbour neighboursOf someBelow everyBelow oneRound rounds connectedBy sidesAre joins share connected
 computing = 0
 
 -- a row of three cells and a wall, and the same where the last cell has the wall

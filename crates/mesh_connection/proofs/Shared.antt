@@ -18,10 +18,10 @@ use Rattle.mesh_area.specs.Tables.{Face, Cell, faceAt, cellAt, noFace, noCell}
 use Rattle.mesh_area.specs.declared.Sizes.{Sizes}
 use Rattle.mesh_area.specs.Layout.{facesIn, cellsIn}
 use Rattle.mesh_area.proofs.LayoutLaws.{length-cellsIn}
-use Rattle.mesh_neighbours.specs.Neighbours.{otherOf, beyond, addFound, addNeighbour, neighboursOf, linkedAt, linked}
-use Rattle.mesh_neighbours.specs.Contracts.{Linked}
-use Rattle.mesh_connection.specs.Connection.{sidesAre, joins, share, connected, meets, connectedCells}
-use Rattle.mesh_connection.specs.Contracts.{Connected}
+use Rattle.mesh_neighbours.specs.Neighbours.{otherCell, beyond, addFound, addNeighbour, neighboursOf, linkedAt, linked}
+use Rattle.mesh_neighbours.specs.Contracts.{FillNeighboursExit}
+use Rattle.mesh_connection.specs.Connection.{sidesAre, joins, share, connected, areNeighbours, connectedCells}
+use Rattle.mesh_connection.specs.Contracts.{EnsureConnectedExit}
 use Rattle.mesh_connection.proofs.Counting.{clash, true-or, true-and, or-left, or-right, same-test}
 use Rattle.mesh_connection.proofs.Rounds.{any-at, any-some, connected-same}
 
@@ -167,9 +167,9 @@ sides-in i j owner x d = rw (d .is, sidesAre) (by (d .ways))
     by (inr w) = or-right (eqb owner i && eqb (d .other) j) (eqb owner j && eqb (d .other) i) (rw (eq-eqb owner j (w .0), eq-eqb (d .other) i (w .1)))
 
 -- seen from i the other one is j
-far-in : (i j owner : ℕ) (x : Found) → Sided i j owner x → otherOf i owner x ≡ At j
-unfolding otherOf
-far-in i j owner x d = rw (d .is, otherOf) (by (ℕ-discrete owner i) (d .ways))
+far-in : (i j owner : ℕ) (x : Found) → Sided i j owner x → otherCell i owner x ≡ At j
+unfolding otherCell
+far-in i j owner x d = rw (d .is, otherCell) (by (ℕ-discrete owner i) (d .ways))
   where
     by : Dec (owner ≡ i) → ((owner ≡ i) × (d .other ≡ j)) ⊎ ((owner ≡ j) × (d .other ≡ i)) → At (cond (eqb owner i) (d .other) owner) ≡ At j
     by (yes o) (inl w) = rw (eq-eqb owner i o) (ap At (w .1))
@@ -177,8 +177,8 @@ far-in i j owner x d = rw (d .is, otherOf) (by (ℕ-discrete owner i) (d .ways))
     by (no ne) (inl w) = absurd (ne (w .0))
     by (no ne) (inr w) = rw (ne-eqb owner i ne) (ap At (w .0))
 
-far-out : (i j owner : ℕ) (x : Found) → otherOf i owner x ≡ At j → ((n : ℕ) → x ≡ At n → (owner ≡ i) ⊎ (n ≡ i)) → Sided i j owner x
-unfolding otherOf
+far-out : (i j owner : ℕ) (x : Found) → otherCell i owner x ≡ At j → ((n : ℕ) → x ≡ At n → (owner ≡ i) ⊎ (n ≡ i)) → Sided i j owner x
+unfolding otherCell
 far-out i j owner Nothing e side = let z : _≡_ {A = ℕ} 0 1 = cc in absurd (omega arith)
 far-out i j owner (At n) e side = record { other = n; is = refl; ways = by (ℕ-discrete owner i) (side n refl) }
   where
@@ -231,8 +231,8 @@ module _ (fs : List Face) (cs : List Cell) (agree : Agree fs cs) (i j : ℕ) (h 
   unfolding linked linkedAt cellAt
   linked-list = ap (λ (c : Cell). c .neighbours) (getD-tab (linkedAt fs cs) (length cs) i noCell h)
 
-  same-touch : meets (linked fs cs) i j ≡ share fs i j
-  unfolding meets neighboursOf anyOf
+  same-touch : areNeighbours (linked fs cs) i j ≡ share fs i j
+  unfolding areNeighbours neighboursOf anyOf
   same-touch = rw linked-list (same-test _ _ (λ e. neighbours-share (only (fold-only fs i j [] (cellAt cs i .faces) e))) (λ e. fold-has fs i j [] (cellAt cs i .faces) (share-neighbours e)))
     where
       only : In j [] ⊎ Faced fs i j (cellAt cs i .faces) → Faced fs i j (cellAt cs i .faces)
@@ -243,10 +243,10 @@ module _ (fs : List Face) (cs : List Cell) (agree : Agree fs cs) (i j : ℕ) (h 
 pub linked-connected : (fs : List Face) (cs : List Cell) → Agree fs cs → connectedCells (linked fs cs) ≡ connected (length cs) fs
 unfolding connectedCells connected linked
 linked-connected fs cs agree =
-    rw (length-tab (linkedAt fs cs) (length cs)) (connected-same (meets (linked fs cs)) (share fs) (length cs) (λ i j hi hj. same-touch fs cs agree i j hi))
+    rw (length-tab (linkedAt fs cs) (length cs)) (connected-same (areNeighbours (linked fs cs)) (share fs) (length cs) (λ i j hi hj. same-touch fs cs agree i j hi))
 
 -- what a builder learns that fills the lists and then asks for connection
-pub ensured : (s : Sizes) (w w′ w″ : List ℕ) (r : Bool) (floats : List Float) → Linked s w w′ → Connected s w′ w″ r → Agree (facesIn s w floats) (cellsIn s w floats)
+pub ensured : (s : Sizes) (w w′ w″ : List ℕ) (r : Bool) (floats : List Float) → FillNeighboursExit s w w′ → EnsureConnectedExit s w′ w″ r → Agree (facesIn s w floats) (cellsIn s w floats)
     → r ≡ connected (s .cells) (facesIn s w floats)
 ensured s w w′ w″ r floats l k agree =
     k .result floats

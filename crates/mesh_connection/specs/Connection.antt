@@ -2,7 +2,7 @@
 -- `someBelow`, `everyBelow`: of the numbers below n.
 -- `oneRound`, `rounds`, `connectedBy`: reached by rounds. `Reachable`: without counting them.
 -- `sidesAre`, `joins`, `share`, `connected`: over shared faces.
--- `meets`, `connectedCells`: over the cells' neighbours.
+-- `areNeighbours`, `connectedCells`: over the cells' neighbours.
 use Prim.Native.Nat.{ℕ, zero, suc, _<_}
 use mathlib.Core.Path.{_≡_}
 use mathlib.Core.Bool.{Bool, true, false, _&&_, _||_}
@@ -67,9 +67,9 @@ connected n fs = connectedBy (share fs) n
 -- ---- over the cells' neighbours, as `ensure_connected` walks them; where faces and cells agree it is the same (proofs/Shared.antt)
 
 -- j is a neighbour of i
-unfoldable pub meets : List Cell → ℕ → ℕ → Bool
-meets cs i j = anyOf (eqb j) (cellAt cs i .neighbours)
+unfoldable pub areNeighbours : List Cell → ℕ → ℕ → Bool
+areNeighbours cs i j = anyOf (eqb j) (cellAt cs i .neighbours)
 
 -- every cell is reached from cell 0
 unfoldable pub connectedCells : List Cell → Bool
-connectedCells cs = connectedBy (meets cs) (length cs)
+connectedCells cs = connectedBy (areNeighbours cs) (length cs)

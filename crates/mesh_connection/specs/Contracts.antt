@@ -1,7 +1,7 @@
 -- What the functions of this crate need, and what they leave in the words.
--- `visitedIn`, `queueIn`, `Cleared`: the flags and the queue.
--- `Marked`, `Met`: one cell met. `countBelow`, `neighboursAt`: what is counted, and over what.
--- `Placed`, `Queued`, `Searching`: the invariant. `Connected`: what `ensure_connected` promises.
+-- `visitedIn`, `queueIn`, `ClearExit`: the flags and the queue.
+-- `MarkExit`, `MeetExit`: one cell met. `countBelow`, `neighboursAt`: what is counted, and over what.
+-- `QueuePlace`, `ReachedPlace`, `SearchState`: the invariant. `EnsureConnectedExit`: what `ensure_connected` promises.
 use Prim.Native.Nat.{ℕ, zero, suc, _+_, _*_, _<_, _≤_}
 use mathlib.Core.Path.{_≡_}
 use mathlib.Core.Bool.{Bool, true, false, cond}
@@ -13,7 +13,7 @@ use lib.ListN.{getD, take}
 use Rattle.mesh_area.specs.declared.Sizes.{Sizes}
 use Rattle.mesh_area.specs.Tables.{cellAt}
 use Rattle.mesh_area.specs.Layout.{cellsIn, wordsEnd}
-use Rattle.mesh_connection.specs.Connection.{rounds, meets, connectedCells}
+use Rattle.mesh_connection.specs.Connection.{rounds, areNeighbours, connectedCells}
 
 -- ---- the search: flag of cell i in word base + 2 i, place k of the queue in word base + 2 k + 1
 
@@ -26,12 +26,12 @@ abbrev pub queueIn : List ℕ → ℕ → ℕ → ℕ
 queueIn w base k = getD w (base + 2 * k + 1) 0
 
 -- no cell below n is visited
-pub record Cleared (w w′ : List ℕ) (base n : ℕ) : Type 0 where
+pub record ClearExit (w w′ : List ℕ) (base n : ℕ) : Type 0 where
   pub none : (j : ℕ) → j < n → visitedIn w′ base j ≡ false
   pub kept : take base w′ ≡ take base w
 
 -- cell d is visited now, and stands in the queue at tail
-pub record Marked (w w′ : List ℕ) (base d tail : ℕ) : Type 0 where
+pub record MarkExit (w w′ : List ℕ) (base d tail : ℕ) : Type 0 where
   pub seen : visitedIn w′ base d ≡ true
   pub others : (j : ℕ) → j ≢ d → visitedIn w′ base j ≡ visitedIn w base j
   pub last : queueIn w′ base tail ≡ d
@@ -39,10 +39,10 @@ pub record Marked (w w′ : List ℕ) (base d tail : ℕ) : Type 0 where
   pub kept : take base w′ ≡ take base w
 
 -- cell d is none of the n, was visited, or is now
-pub data Met (w w′ : List ℕ) (base n d tail r : ℕ) : Type 0 where
-  out : n ≤ d → w′ ≡ w → r ≡ tail → Met w w′ base n d tail r
-  was : visitedIn w base d ≡ true → w′ ≡ w → r ≡ tail → Met w w′ base n d tail r
-  new : d < n → visitedIn w base d ≡ false → Marked w w′ base d tail → r ≡ tail + 1 → Met w w′ base n d tail r
+pub data MeetExit (w w′ : List ℕ) (base n d tail r : ℕ) : Type 0 where
+  out : n ≤ d → w′ ≡ w → r ≡ tail → MeetExit w w′ base n d tail r
+  was : visitedIn w base d ≡ true → w′ ≡ w → r ≡ tail → MeetExit w w′ base n d tail r
+  new : d < n → visitedIn w base d ≡ false → MarkExit w w′ base d tail → r ≡ tail + 1 → MeetExit w w′ base n d tail r
 
 -- how many of 0 .. n - 1 pass
 unfoldable pub countBelow : (ℕ → Bool) → ℕ → ℕ
@@ -54,20 +54,20 @@ abbrev pub neighboursAt : Sizes → List ℕ → ℕ → List ℕ
 neighboursAt s w i = cellAt (cellsIn s w []) i .neighbours
 
 -- the place of cell j in the queue
-pub record Placed (w : List ℕ) (base tail j : ℕ) : Type 0 where
+pub record QueuePlace (w : List ℕ) (base tail j : ℕ) : Type 0 where
   pub at : ℕ
   pub low : at < tail
   pub here : queueIn w base at ≡ j
 
 -- the k th in the queue was visited, and k rounds reach it
-pub record Queued (w : List ℕ) (base n : ℕ) (touch : ℕ → ℕ → Bool) (k : ℕ) : Type 0 where
+pub record ReachedPlace (w : List ℕ) (base n : ℕ) (touch : ℕ → ℕ → Bool) (k : ℕ) : Type 0 where
   pub inside : queueIn w base k < n
   pub seen : visitedIn w base (queueIn w base k) ≡ true
   pub near : getD (rounds touch n k) (queueIn w base k) false ≡ true
 
 -- who is visited is in the queue, who is in the queue is reached in as many rounds as its place says,
 -- and whom the queue has passed has all its neighbours visited; w₀ is the area at the start
-pub record Searching (s : Sizes) (w₀ w : List ℕ) (base head tail : ℕ) : Type 0 where
+pub record SearchState (s : Sizes) (w₀ w : List ℕ) (base head tail : ℕ) : Type 0 where
   pub at-end : base ≡ wordsEnd s
   pub some : 0 < s .cells
   pub kept : take (wordsEnd s) w ≡ take (wordsEnd s) w₀
@@ -75,11 +75,11 @@ pub record Searching (s : Sizes) (w₀ w : List ℕ) (base head tail : ℕ) : Ty
   pub fits : tail ≤ s .cells
   pub counted : tail ≡ countBelow (visitedIn w base) (s .cells)
   pub begun : visitedIn w base 0 ≡ true
-  pub queued : (k : ℕ) → k < tail → Queued w base (s .cells) (meets (cellsIn s w₀ [])) k
-  pub placed : (j : ℕ) → j < s .cells → visitedIn w base j ≡ true → Placed w base tail j
-  pub closed : (k j : ℕ) → k < head → j < s .cells → meets (cellsIn s w₀ []) (queueIn w base k) j ≡ true → visitedIn w base j ≡ true
+  pub queued : (k : ℕ) → k < tail → ReachedPlace w base (s .cells) (areNeighbours (cellsIn s w₀ [])) k
+  pub placed : (j : ℕ) → j < s .cells → visitedIn w base j ≡ true → QueuePlace w base tail j
+  pub closed : (k j : ℕ) → k < head → j < s .cells → areNeighbours (cellsIn s w₀ []) (queueIn w base k) j ≡ true → visitedIn w base j ≡ true
 
 -- every cell is reached over the neighbours, and the mesh's part is as it was
-pub record Connected (s : Sizes) (w w′ : List ℕ) (r : Bool) : Type 0 where
+pub record EnsureConnectedExit (s : Sizes) (w w′ : List ℕ) (r : Bool) : Type 0 where
   pub result : (floats : List Float) → r ≡ connectedCells (cellsIn s w floats)
   pub kept : take (wordsEnd s) w′ ≡ take (wordsEnd s) w

@@ -7,7 +7,7 @@ ghost use mathlib.Core.Bool.{false};
 ghost use Prim.Native.Nat.{_+_, _*_, _≤_, _<_};
 ghost use lib.ListN.{length};
 ghost use Rattle.mesh_area.specs.Layout.{wordsEnd, LentWords};
-ghost use Rattle.mesh_connection.specs.Contracts.{visitedIn, queueIn, Cleared, Marked, Met, Searching, Connected};
+ghost use Rattle.mesh_connection.specs.Contracts.{visitedIn, queueIn, ClearExit, MarkExit, MeetExit, SearchState, EnsureConnectedExit};
 
 fn visited(words: &[u32], base: usize, i: usize) -> bool
     requires { ⌜ base + 2 * i < length (now words) ⌝ }
@@ -27,7 +27,7 @@ fn queue_at(words: &[u32], base: usize, k: usize) -> usize
 fn mark(words: &mut [u32], base: usize, d: usize, tail: usize)
     requires { ⌜ (base + 2 * d + 2 ≤ length (now words)) × (base + 2 * tail + 2 ≤ length (now words))
         × (d < 4294967296) ⌝ }
-    ensures { λ _. ⌜ Marked (now (words .entry)) (now (words .exit)) base d tail ⌝ }
+    ensures { λ _. ⌜ MarkExit (now (words .entry)) (now (words .exit)) base d tail ⌝ }
 {
     words[base + 2 * d] = 1;
     words[base + 2 * tail + 1] = narrow(d);
@@ -37,7 +37,7 @@ fn mark(words: &mut [u32], base: usize, d: usize, tail: usize)
 fn meet(words: &mut [u32], base: usize, n: usize, d: usize, tail: usize) -> usize
     requires { ⌜ (base + 2 * n ≤ length (now words)) × (n < 4294967296) × (tail < 4294967296) ⌝ }
     requires { ⌜ (d < n → visitedIn (now words) base d ≡ false → tail < n) ⌝ }
-    ensures { λ r. ⌜ Met (now (words .entry)) (now (words .exit)) base n d tail r ⌝ }
+    ensures { λ r. ⌜ MeetExit (now (words .entry)) (now (words .exit)) base n d tail r ⌝ }
 {
     if d >= n {
         return tail;
@@ -51,8 +51,8 @@ fn meet(words: &mut [u32], base: usize, n: usize, d: usize, tail: usize) -> usiz
 
 // Visits the neighbours of the cell at the queue's head; the queue's new end.
 fn spread(words: &mut [u32], s: Sizes, base: usize, head: usize, tail: usize) -> usize
-    requires { ⌜ LentWords s (now words) × Searching s (now words) (now words) base head tail × (head < tail) ⌝ }
-    ensures { λ r. ⌜ Searching s (now (words .entry)) (now (words .exit)) base (head + 1) r ⌝ }
+    requires { ⌜ LentWords s (now words) × SearchState s (now words) (now words) base head tail × (head < tail) ⌝ }
+    ensures { λ r. ⌜ SearchState s (now (words .entry)) (now (words .exit)) base (head + 1) r ⌝ }
 {
     let c = queue_at(words, base, head);
     let end = mesh_area::neighbour_count(words, s, c);
@@ -69,7 +69,7 @@ fn spread(words: &mut [u32], s: Sizes, base: usize, head: usize, tail: usize) ->
 // No cell is visited.
 fn clear(words: &mut [u32], base: usize, n: usize)
     requires { ⌜ base + 2 * n ≤ length (now words) ⌝ }
-    ensures { λ _. ⌜ Cleared (now (words .entry)) (now (words .exit)) base n ⌝ }
+    ensures { λ _. ⌜ ClearExit (now (words .entry)) (now (words .exit)) base n ⌝ }
 {
     let mut i = 0;
     while i < n {
@@ -81,7 +81,7 @@ fn clear(words: &mut [u32], base: usize, n: usize)
 // Cell 0 alone is visited, and stands in the queue.
 fn start(words: &mut [u32], s: Sizes, base: usize)
     requires { ⌜ LentWords s (now words) × (base ≡ wordsEnd s) × (0 < s .cells) ⌝ }
-    ensures { λ _. ⌜ Searching s (now (words .entry)) (now (words .exit)) base 0 1 ⌝ }
+    ensures { λ _. ⌜ SearchState s (now (words .entry)) (now (words .exit)) base 0 1 ⌝ }
 {
     clear(words, base, s.cells);
     mark(words, base, 0, 0);
@@ -89,8 +89,8 @@ fn start(words: &mut [u32], s: Sizes, base: usize)
 
 // Visits all that can be reached from cell 0; how many cells that are.
 fn reach(words: &mut [u32], s: Sizes, base: usize) -> usize
-    requires { ⌜ LentWords s (now words) × Searching s (now words) (now words) base 0 1 ⌝ }
-    ensures { λ r. ⌜ Searching s (now (words .entry)) (now (words .exit)) base r r ⌝ }
+    requires { ⌜ LentWords s (now words) × SearchState s (now words) (now words) base 0 1 ⌝ }
+    ensures { λ r. ⌜ SearchState s (now (words .entry)) (now (words .exit)) base r r ⌝ }
 {
     let mut tail = 1;
     let mut head = 0;
@@ -104,7 +104,7 @@ fn reach(words: &mut [u32], s: Sizes, base: usize) -> usize
 // Every cell is connected with cell 0.
 pub fn ensure_connected(words: &mut [u32], s: Sizes) -> bool
     requires { ⌜ LentWords s (now words) ⌝ }
-    ensures { λ r. ⌜ Connected s (now (words .entry)) (now (words .exit)) r ⌝ }
+    ensures { λ r. ⌜ EnsureConnectedExit s (now (words .entry)) (now (words .exit)) r ⌝ }
 {
     if s.cells <= 1 {
         return true;

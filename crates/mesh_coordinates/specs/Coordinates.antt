@@ -1,5 +1,5 @@
 -- Refusals 8, 9 and 10.
--- `Points`: the bytes hold the points. `acceptable`: the refusals in their order. `acceptedAs`: what the function answers.
+-- `PointBytes`: the bytes hold the points. `acceptable`: the refusals in their order. `acceptedAs`: what the function answers.
 use Prim.Native.Nat.{ℕ, zero, suc, _*_, _≤_}
 use mathlib.Core.Bool.{not}
 use mathlib.Core.List.{List}
@@ -13,7 +13,7 @@ use Rattle.reading.specs.Result.{Result, refused, fine, _>>=_, refuse}
 use Rattle.case_definitions.specs.Faces.{Definition}
 
 -- the bytes hold so many points
-pub record Points (case : List ℕ) (points : ℕ) : Type 0 where
+pub record PointBytes (case : List ℕ) (points : ℕ) : Type 0 where
   pub few : points ≤ 65536
   pub long : 24 * points ≤ length case
 

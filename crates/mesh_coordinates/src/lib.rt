@@ -8,11 +8,11 @@ ghost use Rattle.arith.specs.Lists.{allOf};
 ghost use Rattle.arith.specs.Vec.{each3};
 ghost use Rattle.case_definitions.specs.Faces.{Definition};
 ghost use Rattle.mesh_area.specs.Layout.{pointsIn};
-ghost use Rattle.mesh_coordinates.specs.Coordinates.{Points, acceptable, acceptedAs};
+ghost use Rattle.mesh_coordinates.specs.Coordinates.{PointBytes, acceptable, acceptedAs};
 
 // Every coordinate is finite.
 fn all_finite(case: &[u8], points: usize) -> bool
-    requires { ⌜ Points (now case) points ⌝ }
+    requires { ⌜ PointBytes (now case) points ⌝ }
     ensures { λ r. ⌜ r ≡ allOf (each3 finite) (pointsIn (now (case .entry)) points) ⌝ }
 {
     let mut i = 0;
@@ -27,7 +27,7 @@ fn all_finite(case: &[u8], points: usize) -> bool
 
 // No coordinate is beyond 1,048,576 in size.
 fn all_within(case: &[u8], points: usize) -> bool
-    requires { ⌜ Points (now case) points ⌝ }
+    requires { ⌜ PointBytes (now case) points ⌝ }
     ensures { λ r. ⌜ r ≡ allOf (each3 within) (pointsIn (now (case .entry)) points) ⌝ }
 {
     let mut i = 0;
@@ -42,7 +42,7 @@ fn all_within(case: &[u8], points: usize) -> bool
 
 // Refusal 8, 9 or 10, or 0.
 pub fn unacceptable(case: &[u8], n: Counts) -> u64
-    requires { ⌜ Points (now case) (n .points) ⌝ }
+    requires { ⌜ PointBytes (now case) (n .points) ⌝ }
     ensures { λ r. ⌜ ((defs : List Definition) → length defs ≡ n .cells → acceptedAs r ≡ acceptable
         (pointsIn (now (case .entry)) (n .points)) defs) ⌝ }
 {

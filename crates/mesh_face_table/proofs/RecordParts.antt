@@ -18,7 +18,7 @@ use Rattle.arith.proofs.RecordLaws.{chunk-other, length-chunk, getD-chunk, leng
 use Rattle.mesh_area.specs.Layout.{faceIn, listAt, vecFrom}
 use Rattle.mesh_keys.proofs.KeyLaws.{sorted-front}
 use Rattle.mesh_geometry.specs.declared.FaceGeometry.{FaceGeometry}
-use Rattle.mesh_face_table.specs.Records.{Body, bodyOf, bodyIn, measuredOf, measuredIn, faceOf, headIn, fresh, joined, freshAt, floatsOf}
+use Rattle.mesh_face_table.specs.Records.{FaceWords, faceWordsOf, faceWordsIn, measuredOf, measuredIn, faceOf, headIn, fresh, joined, newFaceAt, floatsOf}
 
 -- ---- a run of stores
 
@@ -57,8 +57,8 @@ numbers-long r n long e short = rw (add-sub-cancel-left 1 n) (length-part r 1 n 
 
 pub key-same : (r own key rest : List ℕ) (n : ℕ) (s : Bool) → length r ≡ 12 → n ≡ getD r 0 0 → getD r 0 0 ≤ 8
     → own ≡ sorted (take (1 + n - 1) (drop 1 r)) ++ rest → s ≡ same (take n own) key
-    → s ≡ same (sorted (bodyOf r .vertices)) key
-unfolding bodyOf
+    → s ≡ same (sorted (faceWordsOf r .vertices)) key
+unfolding faceWordsOf
 key-same r own key rest n s long e short so es =
     let h = rw (numbers-long r n long e short, add-sub-cancel-left 1 n) at (sorted-front own _ rest so) in
     es ∙ rw (h, e, take-take (getD r 0 0) 8 (drop 1 r) short)
@@ -72,8 +72,8 @@ keep r k v j t = getD-set-other r k j v 0 (eqb-false j k t)
 keep-numbers : (r : List ℕ) (k v : ℕ) → 8 ≤ k → part (set r (1 + k) v) 1 8 ≡ part r 1 8
 keep-numbers r k v h = rw (drop-set-add 1 r k v, take-set-le 8 (drop 1 r) k v h)
 
-other-put : (r : List ℕ) (other : ℕ) → length r ≡ 12 → bodyOf (set r 10 other) ≡ joined (bodyOf r) other
-unfolding bodyOf
+other-put : (r : List ℕ) (other : ℕ) → length r ≡ 12 → faceWordsOf (set r 10 other) ≡ joined (faceWordsOf r) other
+unfolding faceWordsOf
 other-put r other long =
     rw (keep r 10 other 0 refl, keep r 10 other 9 refl, keep r 10 other 11 refl, getD-set-same r 10 other 0 (omega arith), keep-numbers r 9 other (lit≤ tt))
 
@@ -85,12 +85,12 @@ copy-turn r r₀ vertices j inv more =
     rw (inv, add-one j, take-suc vertices j 0 more, sets-snoc (take j vertices) r₀ 1 (getD vertices j 0), k)
 
 pub face-put : (r r₀ vertices : List ℕ) (j n cell link : ℕ) → r ≡ sets (set r₀ 0 n) 1 (take j vertices) → j ≤ length vertices → length vertices ≤ j → n ≡ length vertices
-    → set (set (set r 9 cell) 10 0) 11 link ≡ freshAt r₀ 0 vertices cell link
-unfolding freshAt
+    → set (set (set r 9 cell) 10 0) 11 link ≡ newFaceAt r₀ 0 vertices cell link
+unfolding newFaceAt
 face-put r r₀ vertices j n cell link e le ge en = rw (e, en, le-antisymm le ge, take-length vertices)
 
-body-fresh : (r vertices : List ℕ) (cell link : ℕ) → length r ≡ 12 → length vertices ≤ 8 → bodyOf (freshAt r 0 vertices cell link) ≡ fresh vertices cell link
-unfolding bodyOf freshAt
+body-fresh : (r vertices : List ℕ) (cell link : ℕ) → length r ≡ 12 → length vertices ≤ 8 → faceWordsOf (newFaceAt r 0 vertices cell link) ≡ fresh vertices cell link
+unfolding faceWordsOf newFaceAt
 body-fresh r vertices cell link long few =
     let n = length vertices in
     let q = sets (set r 0 n) 1 vertices in
@@ -161,29 +161,29 @@ module _ (w vertices : List ℕ) (at cell link : ℕ) (few : length vertices ≤
   end = cell ∷ 0 ∷ link ∷ []
 
   -- in a longer list, and behind the record
-  pub fresh-take : (e : ℕ) → at + 12 ≤ e → take e (freshAt w at vertices cell link) ≡ freshAt (take e w) at vertices cell link
-  unfolding freshAt
+  pub fresh-take : (e : ℕ) → at + 12 ≤ e → take e (newFaceAt w at vertices cell link) ≡ newFaceAt (take e w) at vertices cell link
+  unfolding newFaceAt
   fresh-take e h =
       sets-front e end (sets w at front) (at + 9) (omega arith) ∙ ap (λ (l : List ℕ). sets l (at + 9) end) (sets-front e front w at (omega arith))
 
-  pub fresh-drop : (e : ℕ) → at + 12 ≤ e → drop e (freshAt w at vertices cell link) ≡ drop e w
-  unfolding freshAt
+  pub fresh-drop : (e : ℕ) → at + 12 ≤ e → drop e (newFaceAt w at vertices cell link) ≡ drop e w
+  unfolding newFaceAt
   fresh-drop e h = sets-behind e end (sets w at front) (at + 9) (omega arith) ∙ sets-behind e front w at (omega arith)
 
-  fresh-plus : freshAt w at vertices cell link ≡ sets (sets w (at + 0) front) (at + 9) end
-  unfolding freshAt
+  fresh-plus : newFaceAt w at vertices cell link ≡ sets (sets w (at + 0) front) (at + 9) end
+  unfolding newFaceAt
   fresh-plus = let z : at + 0 ≡ at = omega arith in rw z
 
-  fresh-before : take at (freshAt w at vertices cell link) ≡ take at w
+  fresh-before : take at (newFaceAt w at vertices cell link) ≡ take at w
   fresh-before = rw fresh-plus (sets-before at end (sets w (at + 0) front) 9 ∙ sets-before at front w 0)
 
-  fresh-part : take 12 (drop at (freshAt w at vertices cell link)) ≡ freshAt (take 12 (drop at w)) 0 vertices cell link
-  unfolding freshAt
+  fresh-part : take 12 (drop at (newFaceAt w at vertices cell link)) ≡ newFaceAt (take 12 (drop at w)) 0 vertices cell link
+  unfolding newFaceAt
   fresh-part =
       rw (fresh-plus, sets-inside at end (sets w (at + 0) front) 9, sets-inside at front w 0)
       (sets-front 12 end (sets (drop at w) 0 front) 9 (lit≤ tt) ∙ ap (λ (l : List ℕ). sets l 9 end) (sets-front 12 front (drop at w) 0 (omega arith)))
 
-  pub fresh-back : (m : List ℕ) → m ≡ freshAt (take (at + 12 - at) (drop at w)) 0 vertices cell link → patch at (at + 12 - at) w m ≡ freshAt w at vertices cell link
+  pub fresh-back : (m : List ℕ) → m ≡ newFaceAt (take (at + 12 - at) (drop at w)) 0 vertices cell link → patch at (at + 12 - at) w m ≡ newFaceAt w at vertices cell link
   fresh-back m e =
       back w _ m at fresh-before (fresh-drop (at + 12) (omega arith)) (fresh-part ∙ sym (rw (add-sub-cancel-left at 12) at e))
 
@@ -206,9 +206,9 @@ module _ (fl : List Float) (at : ℕ) (m : FaceGeometry) where
 -- ---- what a store leaves of the other records
 
 -- the words of face f are these; no other face's have changed, and nothing after them
-pub record FaceStored (w w′ : List ℕ) (f : ℕ) (body : Body) : Type 0 where
-  pub here : bodyIn w′ f ≡ body
-  pub others : (j : ℕ) → j ≢ f → bodyIn w′ j ≡ bodyIn w j
+pub record FaceStored (w w′ : List ℕ) (f : ℕ) (body : FaceWords) : Type 0 where
+  pub here : faceWordsIn w′ f ≡ body
+  pub others : (j : ℕ) → j ≢ f → faceWordsIn w′ j ≡ faceWordsIn w j
   pub rest : drop (12 * f + 12) w′ ≡ drop (12 * f + 12) w
 
 -- the floats of face f alike
@@ -224,19 +224,19 @@ stored-others {A} w w′ i room long eb ea j ne =
     ∙ chunk-other w (chunk w′ 12 i) 12 i room (length-chunk w′ 12 i (omega arith)) j ne
 
 pub face-stored : (w w′ vertices : List ℕ) (i cell link : ℕ) → 12 * i + 12 ≤ length w → length vertices ≤ 8 → length w′ ≡ length w
-    → w′ ≡ freshAt w (12 * i) vertices cell link → FaceStored w w′ i (fresh vertices cell link)
-unfolding bodyIn
+    → w′ ≡ newFaceAt w (12 * i) vertices cell link → FaceStored w w′ i (fresh vertices cell link)
+unfolding faceWordsIn
 face-stored w w′ vertices i cell link room few long e =
     let eb : take (12 * i) w′ ≡ take (12 * i) w = rw e (fresh-before w vertices (12 * i) cell link few) in
     let ea : drop (12 * i + 12) w′ ≡ drop (12 * i + 12) w = rw e (fresh-drop w vertices (12 * i) cell link few (12 * i + 12) (omega arith)) in
     record {
       here = rw (e, fresh-part w vertices (12 * i) cell link few) (body-fresh (chunk w 12 i) vertices cell link (length-chunk w 12 i room) few);
-      others = λ j ne. ap bodyOf (stored-others w w′ i room long eb ea j ne);
+      others = λ j ne. ap faceWordsOf (stored-others w w′ i room long eb ea j ne);
       rest = ea;
     }
 
-pub other-stored : (w w′ : List ℕ) (i x : ℕ) → 12 * i + 12 ≤ length w → length w′ ≡ length w → w′ ≡ set w (12 * i + 10) x → FaceStored w w′ i (joined (bodyIn w i) x)
-unfolding bodyIn
+pub other-stored : (w w′ : List ℕ) (i x : ℕ) → 12 * i + 12 ≤ length w → length w′ ≡ length w → w′ ≡ set w (12 * i + 10) x → FaceStored w w′ i (joined (faceWordsIn w i) x)
+unfolding faceWordsIn
 other-stored w w′ i x room long e =
     let eb : take (12 * i) w′ ≡ take (12 * i) w = rw e (take-set-le (12 * i) w (12 * i + 10) x (omega arith)) in
     let ea : drop (12 * i + 12) w′ ≡ drop (12 * i + 12) w = rw e (drop-set-lt (12 * i + 12) w (12 * i + 10) x (omega arith)) in
@@ -244,7 +244,7 @@ other-stored w w′ i x room long e =
       here =
           rw (e, drop-set-add (12 * i) w 10 x, take-set-lt 12 (drop (12 * i) w) 10 x (lit≤ tt))
           (other-put (chunk w 12 i) x (length-chunk w 12 i room));
-      others = λ j ne. ap bodyOf (stored-others w w′ i room long eb ea j ne);
+      others = λ j ne. ap faceWordsOf (stored-others w w′ i room long eb ea j ne);
       rest = ea;
     }
 
@@ -261,16 +261,16 @@ measured-stored fl fl′ i m room e =
     }
 
 -- one word of a record
-pub read-other : (w : List ℕ) (f : ℕ) → getD w (12 * f + 10) 0 ≡ bodyIn w f .other
-unfolding bodyIn bodyOf
+pub read-other : (w : List ℕ) (f : ℕ) → getD w (12 * f + 10) 0 ≡ faceWordsIn w f .neighbour
+unfolding faceWordsIn faceWordsOf
 read-other w f = sym (getD-chunk w 12 f 10 0 (lit≤ tt))
 
-pub read-link : (w : List ℕ) (f : ℕ) → getD w (12 * f + 11) 0 ≡ bodyIn w f .link
-unfolding bodyIn bodyOf
+pub read-link : (w : List ℕ) (f : ℕ) → getD w (12 * f + 11) 0 ≡ faceWordsIn w f .link
+unfolding faceWordsIn faceWordsOf
 read-link w f = sym (getD-chunk w 12 f 11 0 (lit≤ tt))
 
-pub read-count : (w : List ℕ) (f : ℕ) → getD w (12 * f + 0) 0 ≡ bodyIn w f .count
-unfolding bodyIn bodyOf
+pub read-count : (w : List ℕ) (f : ℕ) → getD w (12 * f + 0) 0 ≡ faceWordsIn w f .count
+unfolding faceWordsIn faceWordsOf
 read-count w f = sym (getD-chunk w 12 f 0 0 (lit≤ tt))
 
 pub read-head : (w : List ℕ) (slots b : ℕ) → getD w (12 * slots + b) 0 ≡ headIn w slots b
@@ -288,8 +288,8 @@ list-part w a (suc n) h =
     let inside : n < length (drop a w) = simp length-drop (omega arith) in
     rw (take-suc (drop a w) n 0 inside, getD-drop a w n 0, list-part w a n (omega arith))
 
-pub face-parts : (w : List ℕ) (fl : List Float) (f : ℕ) → 12 * f + 12 ≤ length w → bodyIn w f .count ≤ 8 → faceIn w fl f ≡ faceOf (bodyIn w f) (measuredIn fl f)
-unfolding faceIn bodyIn bodyOf measuredIn measuredOf faceOf vecFrom
+pub face-parts : (w : List ℕ) (fl : List Float) (f : ℕ) → 12 * f + 12 ≤ length w → faceWordsIn w f .count ≤ 8 → faceIn w fl f ≡ faceOf (faceWordsIn w f) (measuredIn fl f)
+unfolding faceIn faceWordsIn faceWordsOf measuredIn measuredOf faceOf vecFrom
 face-parts w fl f room short =
     let n = getD (chunk w 12 f) 0 0 in
     let count : n ≡ getD w (12 * f + 0) 0 = getD-chunk w 12 f 0 0 (lit≤ tt) in

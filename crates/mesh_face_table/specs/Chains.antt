@@ -14,7 +14,7 @@ use Rattle.arith.specs.Lists.{same, sorted}
 use Rattle.mesh_area.specs.Layout.{meshWords}
 use Rattle.mesh_area.specs.declared.Sizes.{Sizes}
 use Rattle.mesh_keys.specs.Keys.{total}
-use Rattle.mesh_face_table.specs.Records.{Body, bodyIn, headIn}
+use Rattle.mesh_face_table.specs.Records.{FaceWords, faceWordsIn, headIn}
 
 -- the last of 0 .. n - 1 that passes, + 1; 0 where none does
 unfoldable pub last : (ℕ → Bool) → ℕ → ℕ
@@ -26,21 +26,21 @@ abbrev pub bucketOf : ℕ → List ℕ → ℕ
 bucketOf slots vertices = total vertices % slots
 
 -- face f is in bucket b
-abbrev pub inBucket : (ℕ → Body) → ℕ → ℕ → ℕ → Bool
+abbrev pub inBucket : (ℕ → FaceWords) → ℕ → ℕ → ℕ → Bool
 inBucket body slots b f = eqb (bucketOf slots (body f .vertices)) b
 
 -- face f has this key
-abbrev pub keyAt : (ℕ → Body) → List ℕ → ℕ → Bool
+abbrev pub keyAt : (ℕ → FaceWords) → List ℕ → ℕ → Bool
 keyAt body key f = same (sorted (body f .vertices)) key
 
 -- THE INVARIANT: each link is the last face before in the same bucket, each head the last face of the bucket, and no key stands twice
 pub record Chains (w : List ℕ) (slots n : ℕ) : Type 0 where
   pub few : n ≤ slots
   pub room : 13 * slots ≤ length w
-  pub short : (f : ℕ) → f < n → bodyIn w f .count ≤ 8
-  pub links : (f : ℕ) → f < n → bodyIn w f .link ≡ last (inBucket (bodyIn w) slots (bucketOf slots (bodyIn w f .vertices))) f
-  pub heads : (b : ℕ) → b < slots → headIn w slots b ≡ last (inBucket (bodyIn w) slots b) n
-  pub distinct : (j k : ℕ) → j < n → k < n → sorted (bodyIn w j .vertices) ≡ sorted (bodyIn w k .vertices) → j ≡ k
+  pub short : (f : ℕ) → f < n → faceWordsIn w f .count ≤ 8
+  pub links : (f : ℕ) → f < n → faceWordsIn w f .link ≡ last (inBucket (faceWordsIn w) slots (bucketOf slots (faceWordsIn w f .vertices))) f
+  pub heads : (b : ℕ) → b < slots → headIn w slots b ≡ last (inBucket (faceWordsIn w) slots b) n
+  pub distinct : (j k : ℕ) → j < n → k < n → sorted (faceWordsIn w j .vertices) ≡ sorted (faceWordsIn w k .vertices) → j ≡ k
 
 -- the same of the area
 abbrev pub Chained : Sizes → List ℕ → Type 0

@@ -1,12 +1,12 @@
 -- What the search for a face needs.
--- `Searchable`: what a search needs.
+-- `FindEntry`: what a search needs.
 use Prim.Native.Nat.{ℕ, _<_, _≤_}
 use mathlib.Core.List.{List}
 use lib.ListN.{length}
 use Rattle.mesh_face_table.specs.Chains.{Chains}
 
 -- what a search needs
-pub record Searchable (w : List ℕ) (slots n : ℕ) (key : List ℕ) : Type 0 where
+pub record FindEntry (w : List ℕ) (slots n : ℕ) (key : List ℕ) : Type 0 where
   pub chains : Chains w slots n
   pub some : 0 < slots
   pub short : length key ≤ 8

@@ -1,9 +1,9 @@
 -- The record of a face in the lent area, and what is stored there.
--- `Body`, `bodyOf`, `bodyIn`: the words of a face.
+-- `FaceWords`, `faceWordsOf`, `faceWordsIn`: the words of a face.
 -- `measuredOf`, `measuredIn`, `floatsOf`: the floats of a face.
 -- `faceOf`, `tableIn`: the face that they hold, and the first n faces.
 -- `headIn`: the head of a bucket.
--- `fresh`, `joined`, `freshAt`: a face of one cell, of two, and the first of them stored.
+-- `fresh`, `joined`, `newFaceAt`: a face of one cell, of two, and the first of them stored.
 use Prim.Native.Nat.{ℕ, _+_, _*_}
 use mathlib.Core.List.{List, [], _∷_}
 use lib.ListN.{length, getD, take}
@@ -17,27 +17,27 @@ use Rattle.mesh_geometry.specs.declared.FaceGeometry.{FaceGeometry}
 -- ---- one record
 
 -- the twelve words of a face
-pub record Body : Type 0 where
+pub record FaceWords : Type 0 where
   pub count : ℕ
   pub vertices : List ℕ
   pub owner : ℕ
-  pub other : ℕ
+  pub neighbour : ℕ
   pub link : ℕ
 
 -- by their places
-unfoldable pub bodyOf : List ℕ → Body
-bodyOf r =
+unfoldable pub faceWordsOf : List ℕ → FaceWords
+faceWordsOf r =
     record {
       count = getD r 0 0;
       vertices = take (getD r 0 0) (part r 1 8);
       owner = getD r 9 0;
-      other = getD r 10 0;
+      neighbour = getD r 10 0;
       link = getD r 11 0;
     }
 
 -- those of face f
-unfoldable pub bodyIn : List ℕ → ℕ → Body
-bodyIn w f = bodyOf (chunk w 12 f)
+unfoldable pub faceWordsIn : List ℕ → ℕ → FaceWords
+faceWordsIn w f = faceWordsOf (chunk w 12 f)
 
 -- the twelve floats of a face, of which ten are used
 unfoldable pub measuredOf : List Float → FaceGeometry
@@ -48,12 +48,12 @@ unfoldable pub measuredIn : List Float → ℕ → FaceGeometry
 measuredIn fl f = measuredOf (chunk fl 12 f)
 
 -- the face that they hold
-unfoldable pub faceOf : Body → FaceGeometry → Face
+unfoldable pub faceOf : FaceWords → FaceGeometry → Face
 faceOf b m =
     record {
       vertices = b .vertices;
       owner = b .owner;
-      neighbour = found (b .other);
+      neighbour = found (b .neighbour);
       centre = m .centre;
       area = m .area;
       normal = m .normal;
@@ -62,25 +62,25 @@ faceOf b m =
 
 -- the first n faces
 unfoldable pub tableIn : List ℕ → List Float → ℕ → List Face
-tableIn w fl n = tab (λ f. faceOf (bodyIn w f) (measuredIn fl f)) n
+tableIn w fl n = tab (λ f. faceOf (faceWordsIn w f) (measuredIn fl f)) n
 
 -- the head of bucket b, where there are F slots
 unfoldable pub headIn : List ℕ → ℕ → ℕ → ℕ
 headIn w slots b = getD w (12 * slots + b) 0
 
 -- a face of one cell
-abbrev pub fresh : List ℕ → ℕ → ℕ → Body
-fresh vertices cell link = record { count = length vertices; vertices = vertices; owner = cell; other = 0; link = link }
+abbrev pub fresh : List ℕ → ℕ → ℕ → FaceWords
+fresh vertices cell link = record { count = length vertices; vertices = vertices; owner = cell; neighbour = 0; link = link }
 
 -- the same face with a second one
-abbrev pub joined : Body → ℕ → Body
-joined b other = record { count = b .count; vertices = b .vertices; owner = b .owner; other = other; link = b .link }
+abbrev pub joined : FaceWords → ℕ → FaceWords
+joined b other = record { count = b .count; vertices = b .vertices; owner = b .owner; neighbour = other; link = b .link }
 
 -- ---- a record stored
 
 -- the words of a face of one cell from a place on: its vertices behind their count, then its cell, no second cell, and its link
-unfoldable pub freshAt : List ℕ → ℕ → List ℕ → ℕ → ℕ → List ℕ
-freshAt w at vertices cell link = sets (sets w at (length vertices ∷ vertices)) (at + 9) (cell ∷ 0 ∷ link ∷ [])
+unfoldable pub newFaceAt : List ℕ → ℕ → List ℕ → ℕ → ℕ → List ℕ
+newFaceAt w at vertices cell link = sets (sets w at (length vertices ∷ vertices)) (at + 9) (cell ∷ 0 ∷ link ∷ [])
 
 -- what was measured of a face, in the order of its floats
 abbrev pub floatsOf : FaceGeometry → List Float

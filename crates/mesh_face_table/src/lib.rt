@@ -8,16 +8,16 @@ ghost use lib.ListN.{length, getD, set};
 ghost use lib.Seq.{sets};
 ghost use Rattle.arith.specs.Lists as Lists;
 ghost use Rattle.arith.specs.Lists.{sorted};
-ghost use Rattle.mesh_face_table.specs.Records.{bodyOf, bodyIn, headIn, freshAt, floatsOf};
+ghost use Rattle.mesh_face_table.specs.Records.{faceWordsOf, faceWordsIn, headIn, newFaceAt, floatsOf};
 ghost use Rattle.mesh_face_table.specs.Chains.{last, keyAt};
-ghost use Rattle.mesh_face_table.specs.Contracts.{Searchable};
+ghost use Rattle.mesh_face_table.specs.Contracts.{FindEntry};
 
 // ---- one record of 12 words, of 12 floats
 
 // Its numbers, sorted, are the key.
 fn has_key(r: &[u32], key: &[u32]) -> bool
     requires { ⌜ (length (now r) ≡ 12) × (getD (now r) 0 0 ≤ 8) ⌝ }
-    ensures { λ s. ⌜ s ≡ Lists.same (sorted (bodyOf (now (r .entry)) .vertices)) (now (key .entry)) ⌝ }
+    ensures { λ s. ⌜ s ≡ Lists.same (sorted (faceWordsOf (now (r .entry)) .vertices)) (now (key .entry)) ⌝ }
 {
     let n = wide(r[0]);
     let end = 1 + n;
@@ -29,7 +29,7 @@ fn has_key(r: &[u32], key: &[u32]) -> bool
 // A new face of one cell.
 fn put_face(r: &mut [u32], vertices: &[u32], cell: u32, link: u32)
     requires { ⌜ (length (now r) ≡ 12) × (length (now vertices) ≤ 8) ⌝ }
-    ensures { λ _. ⌜ now (r .exit) ≡ freshAt (now (r .entry)) 0 (now (vertices .entry)) cell link ⌝ }
+    ensures { λ _. ⌜ now (r .exit) ≡ newFaceAt (now (r .entry)) 0 (now (vertices .entry)) cell link ⌝ }
 {
     r[0] = narrow(vertices.len());
     let mut j = 0;
@@ -63,7 +63,7 @@ fn put_measured(r: &mut [f64], m: FaceGeometry)
 // Face f, of one cell.
 pub fn store_face(words: &mut [u32], f: usize, vertices: &[u32], cell: u32, link: u32)
     requires { ⌜ (12 * f + 12 ≤ length (now words)) × (length (now vertices) ≤ 8) ⌝ }
-    ensures { λ _. ⌜ now (words .exit) ≡ freshAt (now (words .entry)) (12 * f) (now (vertices .entry)) cell link ⌝ }
+    ensures { λ _. ⌜ now (words .exit) ≡ newFaceAt (now (words .entry)) (12 * f) (now (vertices .entry)) cell link ⌝ }
 {
     let s = 12 * f;
     let e = s + 12;
@@ -71,7 +71,7 @@ pub fn store_face(words: &mut [u32], f: usize, vertices: &[u32], cell: u32, link
 }
 
 // The second cell of face f, + 1.
-pub fn store_other(words: &mut [u32], f: usize, other: u32)
+pub fn store_neighbour(words: &mut [u32], f: usize, other: u32)
     requires { ⌜ 12 * f + 12 ≤ length (now words) ⌝ }
     ensures { λ _. ⌜ now (words .exit) ≡ set (now (words .entry)) (12 * f + 10) other ⌝ }
 {
@@ -97,9 +97,9 @@ pub fn store_head(words: &mut [u32], slots: usize, b: usize, head: u32)
 }
 
 // The second cell of face f, + 1, or 0.
-pub fn other_of(words: &[u32], f: usize) -> u32
+pub fn neighbour_word(words: &[u32], f: usize) -> u32
     requires { ⌜ 12 * f + 12 ≤ length (now words) ⌝ }
-    ensures { λ r. ⌜ r ≡ bodyIn (now (words .entry)) f .other ⌝ }
+    ensures { λ r. ⌜ r ≡ faceWordsIn (now (words .entry)) f .neighbour ⌝ }
 {
     words[12 * f + 10]
 }
@@ -107,7 +107,7 @@ pub fn other_of(words: &[u32], f: usize) -> u32
 // The face before f in its bucket, + 1, or 0.
 fn link_of(words: &[u32], f: usize) -> u32
     requires { ⌜ 12 * f + 12 ≤ length (now words) ⌝ }
-    ensures { λ r. ⌜ r ≡ bodyIn (now (words .entry)) f .link ⌝ }
+    ensures { λ r. ⌜ r ≡ faceWordsIn (now (words .entry)) f .link ⌝ }
 {
     words[12 * f + 11]
 }
@@ -124,8 +124,8 @@ pub fn head_of(words: &[u32], slots: usize, b: usize) -> u32
 
 // The last face with this key, + 1; 0 where there is none.
 fn walk(words: &[u32], slots: usize, n: usize, key: &[u32]) -> usize
-    requires { ⌜ Searchable (now words) slots n (now key) ⌝ }
-    ensures { λ r. ⌜ r ≡ last (keyAt (bodyIn (now (words .entry))) (now (key .entry))) n ⌝ }
+    requires { ⌜ FindEntry (now words) slots n (now key) ⌝ }
+    ensures { λ r. ⌜ r ≡ last (keyAt (faceWordsIn (now (words .entry))) (now (key .entry))) n ⌝ }
 {
     let b = mesh_keys::sum(key) % slots;
     let mut at = wide(head_of(words, slots, b));
@@ -143,8 +143,8 @@ fn walk(words: &[u32], slots: usize, n: usize, key: &[u32]) -> usize
 
 // The number + 1 of the face with these numbers, in any order; 0 where there is none.
 pub fn find(words: &[u32], slots: usize, n: usize, vertices: &[u32]) -> usize
-    requires { ⌜ Searchable (now words) slots n (now vertices) ⌝ }
-    ensures { λ r. ⌜ (r ≡ last (keyAt (bodyIn (now (words .entry))) (sorted (now (vertices .entry)))) n) × (r ≤ n) ⌝ }
+    requires { ⌜ FindEntry (now words) slots n (now vertices) ⌝ }
+    ensures { λ r. ⌜ (r ≡ last (keyAt (faceWordsIn (now (words .entry))) (sorted (now (vertices .entry)))) n) × (r ≤ n) ⌝ }
 {
     let k = vertices.len();
     let mut key = [0u32; 8];

@@ -10,7 +10,7 @@ use Rattle.arith.specs.declared.Found.{Found}
 use Rattle.arith.specs.declared.Found.the-variants.{At, Nothing}
 use Rattle.mesh_area.specs.Tables.{Face, faceAt}
 use Rattle.mesh_geometry.specs.declared.FaceGeometry.{FaceGeometry}
-use Rattle.mesh_faces.specs.Table.{hasKey, faceWithKey, joining, settled, adding}
+use Rattle.mesh_faces.specs.Table.{hasKey, faceWithKey, joining, settled, useFace}
 use Rattle.mesh_faces.specs.declared.Added.the-variants.{New, Second}
 
 -- what is found is there
@@ -46,13 +46,13 @@ module _ (cell : ℕ) (fs : List Face) (i : ℕ) where
     settles-second (At k) e = ap At (joins-there (faceAt fs k .neighbour) k e)
 
     -- a new face has the next number
-    pub new-number : New i ≡ adding cell vertices m fs .answer → i ≡ length fs
-    unfolding adding
+    pub new-number : New i ≡ useFace cell vertices m fs .answer → i ≡ length fs
+    unfolding useFace
     new-number e = settles-new (faceWithKey (sorted vertices) fs) e
 
     -- a face that gets its second cell is one of the table
-    pub second-number : Second i ≡ adding cell vertices m fs .answer → i < length fs
-    unfolding adding faceWithKey
+    pub second-number : Second i ≡ useFace cell vertices m fs .answer → i < length fs
+    unfolding useFace faceWithKey
     second-number e =
         let h = first-below (hasKey (sorted vertices)) 0 fs i (settles-second (faceWithKey (sorted vertices) fs) e) in
         omega arith

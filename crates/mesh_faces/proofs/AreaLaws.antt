@@ -13,13 +13,13 @@ use Rattle.mesh_area.specs.Layout.{facesIn, faceIn, meshWords, meshFloats, Lent
 use Rattle.mesh_area.specs.declared.Sizes.{Sizes}
 use Rattle.mesh_geometry.specs.declared.FaceGeometry.{FaceGeometry}
 use Rattle.mesh_keys.specs.Keys.{total}
-use Rattle.mesh_face_table.specs.Records.{bodyOf, bodyIn, measuredOf, measuredIn, faceOf, tableIn, headIn, freshAt, floatsOf}
+use Rattle.mesh_face_table.specs.Records.{faceWordsOf, faceWordsIn, measuredOf, measuredIn, faceOf, tableIn, headIn, newFaceAt, floatsOf}
 use Rattle.mesh_face_table.specs.Chains.{last, bucketOf, Chains, Chained}
 use Rattle.mesh_face_table.proofs.RecordParts.{face-parts, fresh-take, fresh-drop, sets-front, sets-behind, sets-snoc}
 use Rattle.mesh_face_table.proofs.ChainLaws.{chains-same}
 use Rattle.mesh_faces.specs.declared.Added.{Added}
 use Rattle.mesh_faces.specs.declared.Added.the-variants.{New, Second, Third}
-use Rattle.mesh_faces.specs.Contracts.{Ready, wordsAfter, floatsAfter, Settled, after, storedAt, sized, Usable, Used}
+use Rattle.mesh_faces.specs.Contracts.{AddEntry, wordsAfter, floatsAfter, SettleExit, facesAfter, storedAt, withFaces, UseFaceEntry, UseFaceExit}
 
 -- ---- area's faces are the table's
 
@@ -27,7 +27,7 @@ pub table-in : (w : List ℕ) (fl : List Float) (s : Sizes) (words : List ℕ) (
     → Chains w (s .slots) (s .faces) → facesIn s words floats ≡ tableIn w fl (s .faces)
 unfolding facesIn tableIn
 table-in w fl s words floats ew ef ch =
-    rw (ew, ef) (tab-same (faceIn w fl) (λ f. faceOf (bodyIn w f) (measuredIn fl f)) (s .faces) (λ k l. face-parts w fl k (let r = ch .room in let f = ch .few in omega arith) (ch .short k l)))
+    rw (ew, ef) (tab-same (faceIn w fl) (λ f. faceOf (faceWordsIn w f) (measuredIn fl f)) (s .faces) (λ k l. face-parts w fl k (let r = ch .room in let f = ch .few in omega arith) (ch .short k l)))
 
 -- ---- what a used face leaves of the first e, and behind them
 
@@ -40,7 +40,7 @@ module _ (slots : ℕ) (vertices : List ℕ) (cell : ℕ) (w : List ℕ) (few : 
   words-front (New f) low =
       let k = 12 * slots + bucketOf slots vertices in
       let lt : k < e = head-low (omega arith) in
-      rw (take-set-lt e (freshAt w (12 * f) vertices cell (getD w k 0)) k (f + 1) lt, fresh-take w vertices (12 * f) cell (getD w k 0) few e (omega arith), getD-take e w k 0 lt)
+      rw (take-set-lt e (newFaceAt w (12 * f) vertices cell (getD w k 0)) k (f + 1) lt, fresh-take w vertices (12 * f) cell (getD w k 0) few e (omega arith), getD-take e w k 0 lt)
   words-front (Second f) low = take-set-lt e w (12 * f + 10) (cell + 1) (omega arith)
   words-front Third low = refl
 
@@ -49,7 +49,7 @@ module _ (slots : ℕ) (vertices : List ℕ) (cell : ℕ) (w : List ℕ) (few : 
   words-behind (New f) low =
       let k = 12 * slots + bucketOf slots vertices in
       let lt : k < e = head-low (omega arith) in
-      drop-set-lt e (freshAt w (12 * f) vertices cell (headIn w slots (bucketOf slots vertices))) k (f + 1) lt ∙ fresh-drop w vertices (12 * f) cell _ few e (omega arith)
+      drop-set-lt e (newFaceAt w (12 * f) vertices cell (headIn w slots (bucketOf slots vertices))) k (f + 1) lt ∙ fresh-drop w vertices (12 * f) cell _ few e (omega arith)
   words-behind (Second f) low = drop-set-lt e w (12 * f + 10) (cell + 1) (omega arith)
   words-behind Third low = refl
 
@@ -68,14 +68,14 @@ module _ (slots : ℕ) (m : FaceGeometry) (fl : List Float) (e : ℕ) (h : 12 * 
 
 -- ---- the mesh's part, lent and back
 
-module _ (s : Sizes) (words : List ℕ) (floats : List Float) (vertices : List ℕ) (cell c : ℕ) (u : Usable s words floats vertices cell) (ec : c ≡ cell) where
+module _ (s : Sizes) (words : List ℕ) (floats : List Float) (vertices : List ℕ) (cell c : ℕ) (u : UseFaceEntry s words floats vertices cell) (ec : c ≡ cell) where
   words-long : length (take (16 * s .slots + 8 * s .cells) words) ≡ 16 * s .slots + 8 * s .cells
   words-long = length-take-le (16 * s .slots + 8 * s .cells) words (let l = u .lent-words .long in omega arith)
 
   floats-long : length (take (12 * s .slots + 4 * s .cells) floats) ≡ 12 * s .slots + 4 * s .cells
   floats-long = length-take-le (12 * s .slots + 4 * s .cells) floats (let l = u .lent-floats .long in omega arith)
 
-  pub part-ready : Ready (take (16 * s .slots + 8 * s .cells) words) (take (12 * s .slots + 4 * s .cells) floats) (s .slots) (s .faces) vertices c
+  pub part-ready : AddEntry (take (16 * s .slots + 8 * s .cells) words) (take (12 * s .slots + 4 * s .cells) floats) (s .slots) (s .faces) vertices c
   unfolding meshWords
   part-ready =
       record {
@@ -89,16 +89,16 @@ module _ (s : Sizes) (words : List ℕ) (floats : List Float) (vertices : List �
 
   module _ (mw : List ℕ) (mf : List Float) (m : FaceGeometry) (r : Added)
       (lw : length mw ≡ length (take (16 * s .slots + 8 * s .cells) words)) (lf : length mf ≡ length (take (12 * s .slots + 4 * s .cells) floats))
-      (st : Settled (take (16 * s .slots + 8 * s .cells) words) mw (take (12 * s .slots + 4 * s .cells) floats) mf (s .slots) (s .faces) vertices m c r) where
+      (st : SettleExit (take (16 * s .slots + 8 * s .cells) words) mw (take (12 * s .slots + 4 * s .cells) floats) mf (s .slots) (s .faces) vertices m c r) where
     before : facesIn s words floats ≡ tableIn (take (16 * s .slots + 8 * s .cells) words) (take (12 * s .slots + 4 * s .cells) floats) (s .faces)
     unfolding meshWords meshFloats
     before = table-in (meshWords s words) (meshFloats s floats) s words floats refl refl (u .chained)
 
-    back-words : meshWords (sized s (after r (s .faces))) (mw ++ drop (16 * s .slots + 8 * s .cells) words) ≡ mw
+    back-words : meshWords (withFaces s (facesAfter r (s .faces))) (mw ++ drop (16 * s .slots + 8 * s .cells) words) ≡ mw
     unfolding meshWords
     back-words = take-at mw (drop (16 * s .slots + 8 * s .cells) words) (16 * s .slots + 8 * s .cells) (lw ∙ words-long)
 
-    back-floats : meshFloats (sized s (after r (s .faces))) (mf ++ drop (12 * s .slots + 4 * s .cells) floats) ≡ mf
+    back-floats : meshFloats (withFaces s (facesAfter r (s .faces))) (mf ++ drop (12 * s .slots + 4 * s .cells) floats) ≡ mf
     unfolding meshFloats
     back-floats = take-at mf (drop (12 * s .slots + 4 * s .cells) floats) (12 * s .slots + 4 * s .cells) (lf ∙ floats-long)
 
@@ -116,12 +116,12 @@ module _ (s : Sizes) (words : List ℕ) (floats : List Float) (vertices : List �
         rw (st .floats-left, ← floats-front (s .slots) m floats e h r (st .low), ← floats-behind (s .slots) m floats e h r (st .low))
         (take-append-drop e (floatsAfter r m floats))
 
-    pub part-used : Used s words (mw ++ drop (16 * s .slots + 8 * s .cells) words) floats (mf ++ drop (12 * s .slots + 4 * s .cells) floats) vertices m cell r
+    pub part-used : UseFaceExit s words (mw ++ drop (16 * s .slots + 8 * s .cells) words) floats (mf ++ drop (12 * s .slots + 4 * s .cells) floats) vertices m cell r
     part-used =
         record {
           answer = rw (before, ← ec) (st .answer);
           faces =
-              table-in mw mf (sized s (after r (s .faces))) (mw ++ drop (16 * s .slots + 8 * s .cells) words) (mf ++ drop (12 * s .slots + 4 * s .cells) floats) back-words back-floats (st .chains)
+              table-in mw mf (withFaces s (facesAfter r (s .faces))) (mw ++ drop (16 * s .slots + 8 * s .cells) words) (mf ++ drop (12 * s .slots + 4 * s .cells) floats) back-words back-floats (st .chains)
               ∙ rw (before, ← ec) (st .faces);
           chained = rw back-words (st .chains);
           words-left = left-words;
@@ -130,10 +130,10 @@ module _ (s : Sizes) (words : List ℕ) (floats : List Float) (vertices : List �
           floats-kept = rw left-floats (floats-behind (s .slots) m floats (12 * s .slots) (omega arith) r (st .low));
         }
 
-pub part-words : (s : Sizes) (words : List ℕ) (floats : List Float) (vertices : List ℕ) (cell : ℕ) → Usable s words floats vertices cell → 16 * s .slots + 8 * s .cells ≡ length (take (16 * s .slots + 8 * s .cells) words)
+pub part-words : (s : Sizes) (words : List ℕ) (floats : List Float) (vertices : List ℕ) (cell : ℕ) → UseFaceEntry s words floats vertices cell → 16 * s .slots + 8 * s .cells ≡ length (take (16 * s .slots + 8 * s .cells) words)
 part-words s words floats vertices cell u = sym (length-take-le (16 * s .slots + 8 * s .cells) words (let l = u .lent-words .long in omega arith))
 
-pub part-floats : (s : Sizes) (words : List ℕ) (floats : List Float) (vertices : List ℕ) (cell : ℕ) → Usable s words floats vertices cell → 12 * s .slots + 4 * s .cells ≡ length (take (12 * s .slots + 4 * s .cells) floats)
+pub part-floats : (s : Sizes) (words : List ℕ) (floats : List Float) (vertices : List ℕ) (cell : ℕ) → UseFaceEntry s words floats vertices cell → 12 * s .slots + 4 * s .cells ≡ length (take (12 * s .slots + 4 * s .cells) floats)
 part-floats s words floats vertices cell u = sym (length-take-le (12 * s .slots + 4 * s .cells) floats (let l = u .lent-floats .long in omega arith))
 
 pub ruleset uses = (part-words, part-floats, part-ready, part-used)
@@ -159,7 +159,7 @@ clear-done words words₀ slots b inv le ge = rw (le-antisymm le ge) at inv
 pub ruleset clears = (clear-turn, clear-room, clear-done)
 
 -- no bucket has a face
-pub cleared : (words₀ words : List ℕ) (s : Sizes) → LentWords s words₀ → words ≡ sets words₀ (12 * s .slots) (zeros (s .slots)) → Chained (sized s 0) words
+pub cleared : (words₀ words : List ℕ) (s : Sizes) → LentWords s words₀ → words ≡ sets words₀ (12 * s .slots) (zeros (s .slots)) → Chained (withFaces s 0) words
 unfolding meshWords headIn last
 cleared words₀ words s lent e =
     let g = lent .long in
@@ -200,9 +200,9 @@ module _ (s : Sizes) (words words′ : List ℕ) (lent : LentWords s words) (lon
   unfolding meshWords
   same-part = front words words′ (13 * s .slots) (16 * s .slots + 8 * s .cells) (omega arith) same-words
 
-  same-body : (j : ℕ) → j < s .faces → bodyIn (meshWords s words′) j ≡ bodyIn (meshWords s words) j
-  unfolding bodyIn
-  same-body j l = ap bodyOf (chunk-front (meshWords s words) (meshWords s words′) (13 * s .slots) j same-part (let f = ch .few in omega arith))
+  same-body : (j : ℕ) → j < s .faces → faceWordsIn (meshWords s words′) j ≡ faceWordsIn (meshWords s words) j
+  unfolding faceWordsIn
+  same-body j l = ap faceWordsOf (chunk-front (meshWords s words) (meshWords s words′) (13 * s .slots) j same-part (let f = ch .few in omega arith))
 
   part-room : 13 * s .slots ≤ length (meshWords s words′)
   unfolding meshWords

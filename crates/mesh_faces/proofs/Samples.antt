@@ -8,11 +8,11 @@ use Rattle.arith.specs.Lists.{fold, insertBefore, sort, sorted, same, firstFrom
 use Rattle.mesh_area.specs.Tables.{Face, faceAt}
 use Rattle.reading.specs.Result.{refused}
 use Rattle.mesh_geometry.specs.declared.FaceGeometry.{FaceGeometry}
-use Rattle.mesh_faces.specs.Table.{hasKey, faceWithKey, newFace, withNeighbour, joining, settled, adding, placed, addFace}
+use Rattle.mesh_faces.specs.Table.{hasKey, faceWithKey, newFace, withNeighbour, joining, settled, useFace, numberedFace, addFace}
 use Rattle.mesh_faces.specs.declared.Added.the-variants.{New, Second}
 
 computing : ℕ
-unfolding fold insertBefore sort sorted same firstFrom faceAt hasKey faceWithKey newFace withNeighbour joining settled adding placed addFace
+unfolding fold insertBefore sort sorted same firstFrom faceAt hasKey faceWithKey newFace withNeighbour joining settled useFace numberedFace addFace
 computing = 0
 
 flat : FaceGeometry
@@ -32,11 +32,11 @@ unfolding computing
 repeats = refl
 
 -- the same numbers in another order are the same face; other numbers are a new one; a third cell is refused
-joins : adding 7 (1 ∷ 2 ∷ 3 ∷ []) flat one ≡ record { faces = two; answer = Second 0 }
+joins : useFace 7 (1 ∷ 2 ∷ 3 ∷ []) flat one ≡ record { faces = two; answer = Second 0 }
 unfolding computing one two
 joins = refl
 
-adds : adding 7 (1 ∷ 2 ∷ 2 ∷ []) flat one .answer ≡ New 1
+adds : useFace 7 (1 ∷ 2 ∷ 2 ∷ []) flat one .answer ≡ New 1
 unfolding computing one
 adds = refl
 

@@ -1,9 +1,9 @@
 -- What the use of a face by a cell needs and leaves.
--- `Ready`, `Extended`: what `add` needs and leaves.
--- `wordsAfter`, `floatsAfter`, `after`, `storedAt`: the area after an answer.
--- `Settled`: what `settle` leaves.
--- `sized`: the sizes with another number of faces.
--- `Usable`, `Used`: what `use_face` needs and leaves.
+-- `AddEntry`, `AddExit`: what `add` needs and leaves.
+-- `wordsAfter`, `floatsAfter`, `facesAfter`, `storedAt`: the area after an answer.
+-- `SettleExit`: what `settle` leaves.
+-- `withFaces`: the sizes with another number of faces.
+-- `UseFaceEntry`, `UseFaceExit`: what `use_face` needs and leaves.
 use Prim.Native.Nat.{ℕ, _+_, _*_, _<_, _≤_}
 use mathlib.Core.Path.{_≡_}
 use mathlib.Core.List.{List, [], _∷_, _++_}
@@ -14,14 +14,14 @@ use Rattle.arith.specs.Lists.{sorted}
 use Rattle.mesh_area.specs.Layout.{facesIn, LentWords, LentFloats}
 use Rattle.mesh_area.specs.declared.Sizes.{Sizes}
 use Rattle.mesh_geometry.specs.declared.FaceGeometry.{FaceGeometry}
-use Rattle.mesh_face_table.specs.Records.{bodyIn, tableIn, headIn, freshAt, floatsOf}
+use Rattle.mesh_face_table.specs.Records.{faceWordsIn, tableIn, headIn, newFaceAt, floatsOf}
 use Rattle.mesh_face_table.specs.Chains.{last, bucketOf, keyAt, Chains, Chained}
-use Rattle.mesh_faces.specs.Table.{newFace, adding}
+use Rattle.mesh_faces.specs.Table.{newFace, useFace}
 use Rattle.mesh_faces.specs.declared.Added.{Added}
 use Rattle.mesh_faces.specs.declared.Added.the-variants.{New, Second, Third}
 
 -- what adding a face needs
-pub record Ready (w : List ℕ) (fl : List Float) (slots n : ℕ) (vertices : List ℕ) (cell : ℕ) : Type 0 where
+pub record AddEntry (w : List ℕ) (fl : List Float) (slots n : ℕ) (vertices : List ℕ) (cell : ℕ) : Type 0 where
   pub chains : Chains w slots n
   pub floats : 12 * slots ≤ length fl
   pub space : n < slots
@@ -33,7 +33,7 @@ pub record Ready (w : List ℕ) (fl : List Float) (slots n : ℕ) (vertices : Li
 unfoldable pub wordsAfter : Added → ℕ → List ℕ → ℕ → List ℕ → List ℕ
 wordsAfter (New f) slots vertices cell w =
     let b = bucketOf slots vertices in
-    set (freshAt w (12 * f) vertices cell (headIn w slots b)) (12 * slots + b) (f + 1)
+    set (newFaceAt w (12 * f) vertices cell (headIn w slots b)) (12 * slots + b) (f + 1)
 wordsAfter (Second f) slots vertices cell w = set w (12 * f + 10) (cell + 1)
 wordsAfter Third slots vertices cell w = w
 
@@ -44,17 +44,17 @@ floatsAfter (Second f) m fl = fl
 floatsAfter Third m fl = fl
 
 -- one face more
-pub record Extended (w w′ : List ℕ) (fl fl′ : List Float) (slots n : ℕ) (vertices : List ℕ) (m : FaceGeometry) (cell : ℕ) : Type 0 where
+pub record AddExit (w w′ : List ℕ) (fl fl′ : List Float) (slots n : ℕ) (vertices : List ℕ) (m : FaceGeometry) (cell : ℕ) : Type 0 where
   pub faces : tableIn w′ fl′ (n + 1) ≡ tableIn w fl n ++ newFace cell vertices m ∷ []
-  pub chains : last (keyAt (bodyIn w) (sorted vertices)) n ≡ 0 → Chains w′ slots (n + 1)
+  pub chains : last (keyAt (faceWordsIn w) (sorted vertices)) n ≡ 0 → Chains w′ slots (n + 1)
   pub words-left : w′ ≡ wordsAfter (New n) slots vertices cell w
   pub floats-left : fl′ ≡ floatsAfter (New n) m fl
 
 -- how many faces there are after the answer
-abbrev pub after : Added → ℕ → ℕ
-after (New f) n = n + 1
-after (Second f) n = n
-after Third n = n
+abbrev pub facesAfter : Added → ℕ → ℕ
+facesAfter (New f) n = n + 1
+facesAfter (Second f) n = n
+facesAfter Third n = n
 
 -- the number of the face that was stored to
 abbrev pub storedAt : Added → ℕ
@@ -63,10 +63,10 @@ storedAt (Second f) = f
 storedAt Third = 0
 
 -- what the use of a face leaves
-pub record Settled (w w′ : List ℕ) (fl fl′ : List Float) (slots n : ℕ) (vertices : List ℕ) (m : FaceGeometry) (cell : ℕ) (r : Added) : Type 0 where
-  pub answer : r ≡ adding cell vertices m (tableIn w fl n) .answer
-  pub faces : tableIn w′ fl′ (after r n) ≡ adding cell vertices m (tableIn w fl n) .faces
-  pub chains : Chains w′ slots (after r n)
+pub record SettleExit (w w′ : List ℕ) (fl fl′ : List Float) (slots n : ℕ) (vertices : List ℕ) (m : FaceGeometry) (cell : ℕ) (r : Added) : Type 0 where
+  pub answer : r ≡ useFace cell vertices m (tableIn w fl n) .answer
+  pub faces : tableIn w′ fl′ (facesAfter r n) ≡ useFace cell vertices m (tableIn w fl n) .faces
+  pub chains : Chains w′ slots (facesAfter r n)
   pub words-left : w′ ≡ wordsAfter r slots vertices cell w
   pub floats-left : fl′ ≡ floatsAfter r m fl
   pub low : storedAt r < slots
@@ -74,11 +74,11 @@ pub record Settled (w w′ : List ℕ) (fl fl′ : List Float) (slots n : ℕ) (
 -- ---- the public contracts
 
 -- the sizes with another number of faces
-abbrev pub sized : Sizes → ℕ → Sizes
-sized s n = record { slots = s .slots; faces = n; cells = s .cells }
+abbrev pub withFaces : Sizes → ℕ → Sizes
+withFaces s n = record { slots = s .slots; faces = n; cells = s .cells }
 
 -- a face with these numbers can be used by a cell
-pub record Usable (s : Sizes) (words : List ℕ) (floats : List Float) (vertices : List ℕ) (cell : ℕ) : Type 0 where
+pub record UseFaceEntry (s : Sizes) (words : List ℕ) (floats : List Float) (vertices : List ℕ) (cell : ℕ) : Type 0 where
   pub lent-words : LentWords s words
   pub lent-floats : LentFloats s floats
   pub chained : Chained s words
@@ -87,10 +87,10 @@ pub record Usable (s : Sizes) (words : List ℕ) (floats : List Float) (vertices
   pub cells-few : cell < 16384
 
 -- the answer, the table by its definition, and every word and float of the area: those from 13 F and 12 F on are as they were
-pub record Used (s : Sizes) (words words′ : List ℕ) (floats floats′ : List Float) (vertices : List ℕ) (m : FaceGeometry) (cell : ℕ) (r : Added) : Type 0 where
-  pub answer : r ≡ adding cell vertices m (facesIn s words floats) .answer
-  pub faces : facesIn (sized s (after r (s .faces))) words′ floats′ ≡ adding cell vertices m (facesIn s words floats) .faces
-  pub chained : Chained (sized s (after r (s .faces))) words′
+pub record UseFaceExit (s : Sizes) (words words′ : List ℕ) (floats floats′ : List Float) (vertices : List ℕ) (m : FaceGeometry) (cell : ℕ) (r : Added) : Type 0 where
+  pub answer : r ≡ useFace cell vertices m (facesIn s words floats) .answer
+  pub faces : facesIn (withFaces s (facesAfter r (s .faces))) words′ floats′ ≡ useFace cell vertices m (facesIn s words floats) .faces
+  pub chained : Chained (withFaces s (facesAfter r (s .faces))) words′
   pub words-left : words′ ≡ wordsAfter r (s .slots) vertices cell words
   pub floats-left : floats′ ≡ floatsAfter r m floats
   pub words-kept : drop (13 * s .slots) words′ ≡ drop (13 * s .slots) words

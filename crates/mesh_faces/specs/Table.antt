@@ -1,8 +1,8 @@
 -- The face table of `from_cells` as a list, and what the use of a face by a cell does to it.
 -- `hasKey`, `faceWithKey`: the face that has these numbers.
 -- `newFace`, `withNeighbour`: a face of one cell, and of two.
--- `Grown`, `joining`, `settled`, `adding`: the table after the use of a face, and the answer.
--- `Placed`, `placed`, `addFace`: the same, or refusal 14.
+-- `AfterUse`, `joining`, `settled`, `useFace`: the table after the use of a face, and the answer.
+-- `NumberedFace`, `numberedFace`, `addFace`: the same, or refusal 14.
 use Prim.Native.Nat.{ℕ}
 use mathlib.Core.Bool.{Bool}
 use mathlib.Core.List.{List, [], _∷_, _++_}
@@ -51,37 +51,37 @@ withNeighbour cell f =
     }
 
 -- the table after a face was used, and the answer
-pub record Grown : Type 0 where
+pub record AfterUse : Type 0 where
   pub faces : List Face
   pub answer : Added
 
 -- face i, which is there, by its neighbour: it gets its second cell, or has two already
-unfoldable pub joining : Found → ℕ → List Face → ℕ → Grown
+unfoldable pub joining : Found → ℕ → List Face → ℕ → AfterUse
 joining Nothing cell fs i = record { faces = set fs i (withNeighbour cell (faceAt fs i)); answer = Second i }
 joining (At n) cell fs i = record { faces = fs; answer = Third }
 
 -- by what the lookup found: a new face, or one that is there
-unfoldable pub settled : Found → ℕ → List ℕ → FaceGeometry → List Face → Grown
+unfoldable pub settled : Found → ℕ → List ℕ → FaceGeometry → List Face → AfterUse
 settled Nothing cell vertices m fs = record { faces = fs ++ newFace cell vertices m ∷ []; answer = New (length fs) }
 settled (At i) cell vertices m fs = joining (faceAt fs i .neighbour) cell fs i
 
 -- a cell uses a face: its vertices, turned outward, and what was measured of it
-unfoldable pub adding : ℕ → List ℕ → FaceGeometry → List Face → Grown
-adding cell vertices m fs = settled (faceWithKey (sorted vertices) fs) cell vertices m fs
+unfoldable pub useFace : ℕ → List ℕ → FaceGeometry → List Face → AfterUse
+useFace cell vertices m fs = settled (faceWithKey (sorted vertices) fs) cell vertices m fs
 
 -- ---- the answer's cases, with 01's number
 
 -- the table, and the number of the face in it
-pub record Placed : Type 0 where
+pub record NumberedFace : Type 0 where
   pub faces : List Face
   pub number : ℕ
 
 -- refusal 14, "third user of a face"
-unfoldable pub placed : Added → List Face → Result Placed
-placed (New i) fs = fine (record { faces = fs; number = i })
-placed (Second i) fs = fine (record { faces = fs; number = i })
-placed Third fs = refused 14
+unfoldable pub numberedFace : Added → List Face → Result NumberedFace
+numberedFace (New i) fs = fine (record { faces = fs; number = i })
+numberedFace (Second i) fs = fine (record { faces = fs; number = i })
+numberedFace Third fs = refused 14
 
 -- the table after a cell has used a face
-unfoldable pub addFace : ℕ → List ℕ → FaceGeometry → List Face → Result Placed
-addFace cell vertices m fs = let g = adding cell vertices m fs in placed (g .answer) (g .faces)
+unfoldable pub addFace : ℕ → List ℕ → FaceGeometry → List Face → Result NumberedFace
+addFace cell vertices m fs = let g = useFace cell vertices m fs in numberedFace (g .answer) (g .faces)

@@ -7,7 +7,7 @@ ghost use Prim.Native.Nat.{_*_};
 ghost use lib.ListN.{replicate};
 ghost use lib.Seq.{sets};
 ghost use Rattle.mesh_area.specs.Layout.{LentWords};
-ghost use Rattle.mesh_faces.specs.Contracts.{Ready, Extended, Settled, Usable, Used};
+ghost use Rattle.mesh_faces.specs.Contracts.{AddEntry, AddExit, SettleExit, UseFaceEntry, UseFaceExit};
 
 pub enum Added {
     // the face is new, and has this number
@@ -28,8 +28,8 @@ fn add(
     m: FaceGeometry,
     cell: u32,
 )
-    requires { ⌜ Ready (now words) (now floats) slots n (now vertices) cell ⌝ }
-    ensures { λ _. ⌜ Extended (now (words .entry)) (now (words .exit)) (now (floats .entry)) (now (floats .exit)) slots
+    requires { ⌜ AddEntry (now words) (now floats) slots n (now vertices) cell ⌝ }
+    ensures { λ _. ⌜ AddExit (now (words .entry)) (now (words .exit)) (now (floats .entry)) (now (floats .exit)) slots
         n (now (vertices .entry)) m cell ⌝ }
 {
     let b = mesh_keys::sum(vertices) % slots;
@@ -49,8 +49,8 @@ fn settle(
     m: FaceGeometry,
     cell: u32,
 ) -> Added
-    requires { ⌜ Ready (now words) (now floats) slots n (now vertices) cell ⌝ }
-    ensures { λ r. ⌜ Settled (now (words .entry)) (now (words .exit)) (now (floats .entry)) (now (floats .exit)) slots n
+    requires { ⌜ AddEntry (now words) (now floats) slots n (now vertices) cell ⌝ }
+    ensures { λ r. ⌜ SettleExit (now (words .entry)) (now (words .exit)) (now (floats .entry)) (now (floats .exit)) slots n
         (now (vertices .entry)) m cell r ⌝ }
 {
     let at = mesh_face_table::find(words, slots, n, vertices);
@@ -59,8 +59,8 @@ fn settle(
         return Added::New(n);
     }
     let f = at - 1;
-    if mesh_face_table::other_of(words, f) == 0 {
-        mesh_face_table::store_other(words, f, cell + 1);
+    if mesh_face_table::neighbour_word(words, f) == 0 {
+        mesh_face_table::store_neighbour(words, f, cell + 1);
         return Added::Second(f);
     }
     Added::Third
@@ -77,8 +77,8 @@ pub fn use_face(
     vertices: &[u32],
     m: FaceGeometry,
 ) -> Added
-    requires { ⌜ Usable s (now words) (now floats) (now vertices) cell ⌝ }
-    ensures { λ r. ⌜ Used s (now (words .entry)) (now (words .exit)) (now (floats .entry)) (now (floats .exit))
+    requires { ⌜ UseFaceEntry s (now words) (now floats) (now vertices) cell ⌝ }
+    ensures { λ r. ⌜ UseFaceExit s (now (words .entry)) (now (words .exit)) (now (floats .entry)) (now (floats .exit))
         (now (vertices .entry)) m cell r ⌝ }
 {
     let words_end = 16 * s.slots + 8 * s.cells;

@@ -15,7 +15,7 @@ use Rattle.mesh_geometry.specs.declared.TurnedFace.{TurnedFace}
 use Rattle.mesh_geometry.specs.declared.TurnedFace.the-variants as Turned
 use Rattle.mesh_averages.specs.Averages.{average}
 use Rattle.mesh_geometry.specs.Faces.{faceAreaVector, faceWith, measured, inward, turnedIf, orientedFace, leftOrder}
-use Rattle.mesh_geometry.specs.Contracts.{vectorOf, faceOf, Turning}
+use Rattle.mesh_geometry.specs.Contracts.{vectorOf, faceOf, OrientedFaceExit}
 
 -- what `face_of` answers
 abbrev geometryOf : Vec3 → Vec3 → FaceGeometry
@@ -30,7 +30,7 @@ module _ (d : ℕ) (ps : List Vec3) (l : List ℕ) (r : FaceVector) (h : vectorO
   unfolding faceOf measured _>>=_
   measured-none e = rw (none e)
 
-  pub turn-none : (reference : Vec3) → r ≡ Of.Degenerate → Turning d ps reference l l Turned.Degenerate
+  pub turn-none : (reference : Vec3) → r ≡ Of.Degenerate → OrientedFaceExit d ps reference l l Turned.Degenerate
   unfolding faceOf orientedFace leftOrder measured _>>=_
   turn-none reference e = record { face = rw (none e); order = rw (none e) }
 
@@ -53,10 +53,10 @@ module _ (d : ℕ) (ps : List Vec3) (l : List ℕ) (r : FaceVector) (h : vectorO
       unfolding inward faceWith
       test = rw (et, ea, ec)
 
-      pub turn-kept : (t ≺ 0·0) ≡ false → (g : FaceGeometry) → g ≡ geometryOf centre v → Turning d ps reference l l (Turned.Face g)
+      pub turn-kept : (t ≺ 0·0) ≡ false → (g : FaceGeometry) → g ≡ geometryOf centre v → OrientedFaceExit d ps reference l l (Turned.Face g)
       unfolding orientedFace leftOrder _>>=_ turnedIf
       turn-kept k g eg = record { face = with g eg ∙ rw (is, test, k, turnedIf); order = rw (is, test, k) }
 
-      pub turn-made : (t ≺ 0·0) ≡ true → (l′ : List ℕ) (r′ : TurnedFace) → l′ ≡ reverse l → faceOf l′ r′ ≡ measured d ps l′ → Turning d ps reference l l′ r′
+      pub turn-made : (t ≺ 0·0) ≡ true → (l′ : List ℕ) (r′ : TurnedFace) → l′ ≡ reverse l → faceOf l′ r′ ≡ measured d ps l′ → OrientedFaceExit d ps reference l l′ r′
       unfolding orientedFace leftOrder _>>=_ turnedIf faceWith
       turn-made k l′ r′ el h′ = record { face = rw (is, test, k, turnedIf, ← el) h′; order = rw (is, test, k) el }

@@ -22,6 +22,6 @@ faceOf l (Turned.Face g) =
 faceOf l Turned.Degenerate = refused 13
 
 -- `oriented_face`: a slice before and after, and the answer
-pub record Turning (d : ℕ) (ps : List Vec3) (reference : Vec3) (before after : List ℕ) (r : TurnedFace) : Type 0 where
+pub record OrientedFaceExit (d : ℕ) (ps : List Vec3) (reference : Vec3) (before after : List ℕ) (r : TurnedFace) : Type 0 where
   pub face : faceOf after r ≡ orientedFace d ps reference before
   pub order : after ≡ leftOrder reference before (measured d ps before)

@@ -11,16 +11,16 @@ use Rattle.arith.proofs.ListLaws.{foldl-next, length-sides}
 use Rattle.reading.specs.Result.{Result, refused, fine, _>>=_, steps}
 use Rattle.reading.proofs.ResultLaws.{steps-next, steps-refused}
 use Rattle.case_definitions.specs.Faces.{Definition, polygon, solid, polyhedron, facesOf, faceCount}
-use Rattle.case_definitions.specs.Contracts.{definitionAt, readOf, faceAt, Headed, headOf}
+use Rattle.case_definitions.specs.Contracts.{definitionAt, readOf, faceAt, HeadAt, headOf}
 use Rattle.case_definitions.specs.declared.Head.{Head}
 use Rattle.case_faces.specs.declared.FaceCursor.{FaceCursor}
 use Rattle.case_definitions.proofs.RecordLaws.{steps-to}
 use Rattle.mesh_volumes.specs.declared.Weight.{Weight}
-use Rattle.mesh_volumes.specs.Geometry.{addTriangle, addFace3D, weightless, centre2D, centre3D, geometryIn, cellGeometry}
+use Rattle.mesh_volumes.specs.Geometry.{addTriangle, addFace3D, noWeight, centre2D, centre3D, geometryIn, cellGeometry}
 use Rattle.mesh_measure.specs.declared.Weighed.{Weighed}
-use Rattle.mesh_measure.specs.declared.Fanned.{Fanned}
-use Rattle.mesh_measure.specs.declared.Fanned.the-variants as Fan
-use Rattle.mesh_measure.specs.Contracts.{facesAt, NextFace, FanAdded, added, degenerate}
+use Rattle.mesh_measure.specs.declared.FaceWeight.{FaceWeight}
+use Rattle.mesh_measure.specs.declared.FaceWeight.the-variants as Fan
+use Rattle.mesh_measure.specs.Contracts.{facesAt, NextFace, AddFaceExit, added, degenerate}
 
 -- ---- faces of a record
 
@@ -30,13 +30,13 @@ length-facesOf (polygon l) = length-map (sides l) _ ∙ length-sides l
 length-facesOf (solid places l) = length-map places _
 length-facesOf (polyhedron faces) = refl
 
-pub length-facesAt : (ws : List ℕ) (h : Head) → Headed ws h → length (facesAt ws h) ≡ h .faces
+pub length-facesAt : (ws : List ℕ) (h : Head) → HeadAt ws h → length (facesAt ws h) ≡ h .faces
 unfolding facesAt definitionAt readOf headOf
 length-facesAt ws h g =
     let t = steps-to ws (h .at) h (g .next) (sym (g .step)) in
     rw (t .read, readOf) (length-facesOf (t .d) ∙ sym (ap (λ (x : Head). x .faces) (t .head)))
 
-module _ (ws : List ℕ) (h : Head) (g : Headed ws h) (k : ℕ) (more : k < h .faces) where
+module _ (ws : List ℕ) (h : Head) (g : HeadAt ws h) (k : ℕ) (more : k < h .faces) where
   in-range : k < length (facesAt ws h)
   in-range = rw (length-facesAt ws h g) more
 
@@ -55,7 +55,7 @@ module _ (ws : List ℕ) (h : Head) (g : Headed ws h) (k : ℕ) (more : k < h .f
   steps-stop f w n e = steps-refused (facesAt ws h) k [] in-range f w n e
 
 -- no face is left
-pub facesAt-end : (ws : List ℕ) (h : Head) (k : ℕ) → Headed ws h → h .faces ≤ k → drop k (facesAt ws h) ≡ []
+pub facesAt-end : (ws : List ℕ) (h : Head) (k : ℕ) → HeadAt ws h → h .faces ≤ k → drop k (facesAt ws h) ≡ []
 facesAt-end ws h k g e = drop-of-length-le (facesAt ws h) {i = k} (rw (length-facesAt ws h g) e)
 
 -- a triangle looks only at the first two numbers
@@ -66,30 +66,30 @@ first-two ps reference w l a b e g = rw (e, g)
 -- ---- what the answers in 3D stand for
 
 module _ {ps : List Vec3} {ws : List ℕ} {h : Head} {c : FaceCursor} {reference : Vec3} {w : Weight} where
-  pub fan-degenerate : {r : Fanned} → FanAdded ps ws h c reference w r → r ≡ Fan.Degenerate → addFace3D ps reference w (faceAt ws (h .at) (c .face)) ≡ refused 15
+  pub fan-degenerate : {r : FaceWeight} → AddFaceExit ps ws h c reference w r → r ≡ Fan.Degenerate → addFace3D ps reference w (faceAt ws (h .at) (c .face)) ≡ refused 15
   fan-degenerate (degenerate e) g = e
   fan-degenerate (added e n) g = absurd (let z : _≡_ {A = ℕ} 0 1 = cc in omega arith)
 
-  pub fan-sum : {r : Fanned} (t : Weighed) → FanAdded ps ws h c reference w r → r ≡ Fan.Added t → addFace3D ps reference w (faceAt ws (h .at) (c .face)) ≡ fine (t .weight)
+  pub fan-sum : {r : FaceWeight} (t : Weighed) → AddFaceExit ps ws h c reference w r → r ≡ Fan.Added t → addFace3D ps reference w (faceAt ws (h .at) (c .face)) ≡ fine (t .weight)
   fan-sum t (added {t = u} e n) g = let k : u ≡ t = cc in e ∙ ap (λ (x : Weighed). fine (x .weight)) k
   fan-sum t (degenerate e) g = absurd (let z : _≡_ {A = ℕ} 0 1 = cc in omega arith)
 
-  pub fan-next : {r : Fanned} (t : Weighed) → FanAdded ps ws h c reference w r → r ≡ Fan.Added t → NextFace ws h c (t .next)
+  pub fan-next : {r : FaceWeight} (t : Weighed) → AddFaceExit ps ws h c reference w r → r ≡ Fan.Added t → NextFace ws h c (t .next)
   fan-next t (added {t = u} e n) g = let k : u ≡ t = cc in subst (λ (x : Weighed). NextFace ws h c (x .next)) k n
   fan-next t (degenerate e) g = absurd (let z : _≡_ {A = ℕ} 0 1 = cc in omega arith)
 
 -- ---- by dimension
 
 module _ (d : ℕ) (ps : List Vec3) (reference : Vec3) (faces : List (List ℕ)) where
-  pub flat-cell : d ≡ 2 → centre2D reference (fold (addTriangle ps reference) weightless faces) ≡ cellGeometry d ps reference faces
+  pub flat-cell : d ≡ 2 → centre2D reference (fold (addTriangle ps reference) noWeight faces) ≡ cellGeometry d ps reference faces
   unfolding cellGeometry geometryIn
   flat-cell e = rw (eq-eqb d 2 e, geometryIn)
 
   module _ (e : d ≡ 2 → ⊥) where
-    pub solid-cell : (w : Weight) → steps (addFace3D ps reference) weightless faces ≡ fine w → centre3D w ≡ cellGeometry d ps reference faces
+    pub solid-cell : (w : Weight) → steps (addFace3D ps reference) noWeight faces ≡ fine w → centre3D w ≡ cellGeometry d ps reference faces
     unfolding cellGeometry geometryIn _>>=_
     solid-cell w g = rw (ne-eqb d 2 e, geometryIn, g, _>>=_)
 
-    pub no-cell : steps (addFace3D ps reference) weightless faces ≡ refused 15 → refused 15 ≡ cellGeometry d ps reference faces
+    pub no-cell : steps (addFace3D ps reference) noWeight faces ≡ refused 15 → refused 15 ≡ cellGeometry d ps reference faces
     unfolding cellGeometry geometryIn _>>=_
     no-cell g = rw (ne-eqb d 2 e, geometryIn, g, _>>=_)

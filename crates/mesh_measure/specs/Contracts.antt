@@ -1,7 +1,7 @@
 -- The words of the contracts.
 -- `facesAt`: the faces of a record.
--- `FaceTaken`, `NextFace`: a face, and the next one.
--- `EdgeAdded`, `FanAdded`, `fansOf`: what an edge or a face adds.
+-- `FaceEntry`, `NextFace`: a face, and the next one.
+-- `AddEdgeExit`, `AddFaceExit`, `weightOf`: what an edge or a face adds.
 use Prim.Native.Nat.{ℕ, _+_, _<_}
 use mathlib.Core.Path.{_≡_}
 use mathlib.Core.List.{List}
@@ -15,17 +15,17 @@ use Rattle.case_faces.specs.declared.FaceCursor.{FaceCursor}
 use Rattle.mesh_volumes.specs.declared.Weight.{Weight}
 use Rattle.mesh_volumes.specs.Geometry.{addTriangle, addFace3D}
 use Rattle.mesh_measure.specs.declared.Weighed.{Weighed}
-use Rattle.mesh_measure.specs.declared.Fanned.{Fanned}
-use Rattle.mesh_measure.specs.declared.Fans.{Fans}
-use Rattle.mesh_measure.specs.declared.Fanned.the-variants as Fan
-use Rattle.mesh_measure.specs.declared.Fans.the-variants as All
+use Rattle.mesh_measure.specs.declared.FaceWeight.{FaceWeight}
+use Rattle.mesh_measure.specs.declared.CellWeight.{CellWeight}
+use Rattle.mesh_measure.specs.declared.FaceWeight.the-variants as Fan
+use Rattle.mesh_measure.specs.declared.CellWeight.the-variants as All
 
 -- the faces of the record h
 unfoldable pub facesAt : List ℕ → Head → List (List ℕ)
 facesAt ws h = facesOf (definitionAt ws (h .at))
 
 -- c is at a face of h
-pub record FaceTaken (ws : List ℕ) (h : Head) (c : FaceCursor) : Type 0 where
+pub record FaceEntry (ws : List ℕ) (h : Head) (c : FaceCursor) : Type 0 where
   pub at-face : AtFace ws h c
   pub more : c .face < h .faces
 
@@ -35,16 +35,16 @@ pub record NextFace (ws : List ℕ) (h : Head) (c next : FaceCursor) : Type 0 wh
   pub at-face : AtFace ws h next
 
 -- an edge added to the sums, and the next face
-pub record EdgeAdded (ps : List Vec3) (ws : List ℕ) (h : Head) (c : FaceCursor) (reference : Vec3) (w : Weight) (r : Weighed) : Type 0 where
+pub record AddEdgeExit (ps : List Vec3) (ws : List ℕ) (h : Head) (c : FaceCursor) (reference : Vec3) (w : Weight) (r : Weighed) : Type 0 where
   pub sum : r .weight ≡ addTriangle ps reference w (faceAt ws (h .at) (c .face))
   pub next : NextFace ws h c (r .next)
 
 -- what each answer in 3D stands for
-pub data FanAdded (ps : List Vec3) (ws : List ℕ) (h : Head) (c : FaceCursor) (reference : Vec3) (w : Weight) : Fanned → Type 0 where
-  added : {t : Weighed} → addFace3D ps reference w (faceAt ws (h .at) (c .face)) ≡ fine (t .weight) → NextFace ws h c (t .next) → FanAdded ps ws h c reference w (Fan.Added t)
-  degenerate : addFace3D ps reference w (faceAt ws (h .at) (c .face)) ≡ refused 15 → FanAdded ps ws h c reference w Fan.Degenerate
+pub data AddFaceExit (ps : List Vec3) (ws : List ℕ) (h : Head) (c : FaceCursor) (reference : Vec3) (w : Weight) : FaceWeight → Type 0 where
+  added : {t : Weighed} → addFace3D ps reference w (faceAt ws (h .at) (c .face)) ≡ fine (t .weight) → NextFace ws h c (t .next) → AddFaceExit ps ws h c reference w (Fan.Added t)
+  degenerate : addFace3D ps reference w (faceAt ws (h .at) (c .face)) ≡ refused 15 → AddFaceExit ps ws h c reference w Fan.Degenerate
 
 -- 15 "zero volume"
-unfoldable pub fansOf : Fans → Result Weight
-fansOf (All.Sum w) = fine w
-fansOf All.Degenerate = refused 15
+unfoldable pub weightOf : CellWeight → Result Weight
+weightOf (All.Sum w) = fine w
+weightOf All.Degenerate = refused 15

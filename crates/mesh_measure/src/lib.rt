@@ -11,11 +11,11 @@ ghost use lib.ListN.{length, getD};
 ghost use Rattle.arith.specs.Lists.{fold};
 ghost use Rattle.reading.specs.Result.{steps};
 ghost use Rattle.case_file.specs.Trailer.{wordsIn};
-ghost use Rattle.case_definitions.specs.Contracts.{Headed};
+ghost use Rattle.case_definitions.specs.Contracts.{HeadAt};
 ghost use Rattle.mesh_area.specs.Layout.{pointsIn};
-ghost use Rattle.mesh_volumes.specs.Geometry.{weightless, addTriangle, addFace3D, cellGeometry, cellOf};
-ghost use Rattle.mesh_coordinates.specs.Coordinates.{Points};
-ghost use Rattle.mesh_measure.specs.Contracts.{facesAt, FaceTaken, EdgeAdded, FanAdded, fansOf};
+ghost use Rattle.mesh_volumes.specs.Geometry.{noWeight, addTriangle, addFace3D, cellGeometry, cellOf};
+ghost use Rattle.mesh_coordinates.specs.Coordinates.{PointBytes};
+ghost use Rattle.mesh_measure.specs.Contracts.{facesAt, FaceEntry, AddEdgeExit, AddFaceExit, weightOf};
 
 // A sum with a face more, and the next face.
 struct Weighed {
@@ -24,13 +24,13 @@ struct Weighed {
 }
 
 // The same in 3D, or that the face is degenerate.
-enum Fanned {
+enum FaceWeight {
     Added(Weighed),
     Degenerate,
 }
 
 // The sum over all faces in 3D, or that one is degenerate.
-enum Fans {
+enum CellWeight {
     Sum(Weight),
     Degenerate,
 }
@@ -52,9 +52,9 @@ fn add_edge(
     reference: Vec3,
     weight: Weight,
 ) -> Weighed
-    requires { ⌜ Points (now case) points ⌝ }
-    requires { ⌜ FaceTaken (wordsIn (now words)) h c ⌝ }
-    ensures { λ r. ⌜ EdgeAdded (pointsIn (now (case .entry)) points) (wordsIn (now (words .entry))) h c reference weight
+    requires { ⌜ PointBytes (now case) points ⌝ }
+    requires { ⌜ FaceEntry (wordsIn (now words)) h c ⌝ }
+    ensures { λ r. ⌜ AddEdgeExit (pointsIn (now (case .entry)) points) (wordsIn (now (words .entry))) h c reference weight
         r ⌝ }
 {
     let mut face = [0u32; 8];
@@ -69,12 +69,12 @@ fn add_edge(
 
 // All edges of a cell in 2D.
 fn add_edges(case: &[u8], points: usize, words: &[u8], h: Head, reference: Vec3) -> Weight
-    requires { ⌜ Points (now case) points ⌝ }
-    requires { ⌜ Headed (wordsIn (now words)) h ⌝ }
-    ensures { λ r. ⌜ r ≡ fold (addTriangle (pointsIn (now (case .entry)) points) reference) weightless
+    requires { ⌜ PointBytes (now case) points ⌝ }
+    requires { ⌜ HeadAt (wordsIn (now words)) h ⌝ }
+    ensures { λ r. ⌜ r ≡ fold (addTriangle (pointsIn (now (case .entry)) points) reference) noWeight
         (facesAt (wordsIn (now (words .entry))) h) ⌝ }
 {
-    let mut sum = mesh_volumes::weightless();
+    let mut sum = mesh_volumes::no_weight();
     let mut c = case_faces::first_face(h);
     while c.face < h.faces {
         let t = add_edge(case, points, words, h, c, reference, sum);
@@ -91,15 +91,15 @@ fn add_turned(
     vertices: &mut [u32],
     reference: Vec3,
     weight: Weight,
-) -> Fans
-    requires { ⌜ Points (now case) points ⌝ }
+) -> CellWeight
+    requires { ⌜ PointBytes (now case) points ⌝ }
     requires { ⌜ length (now vertices) ≤ 8 ⌝ }
-    ensures { λ r. ⌜ fansOf r ≡ addFace3D (pointsIn (now (case .entry)) points) reference weight
+    ensures { λ r. ⌜ weightOf r ≡ addFace3D (pointsIn (now (case .entry)) points) reference weight
         (now (vertices .entry)) ⌝ }
 {
     match mesh_geometry::oriented_face(3, case, points, vertices, reference) {
-        TurnedFace::Degenerate => Fans::Degenerate,
-        TurnedFace::Face(_) => Fans::Sum(mesh_volumes::add_fan(
+        TurnedFace::Degenerate => CellWeight::Degenerate,
+        TurnedFace::Face(_) => CellWeight::Sum(mesh_volumes::add_tetrahedra(
             case,
             points,
             reference,
@@ -118,10 +118,10 @@ fn add_face_3d(
     c: FaceCursor,
     reference: Vec3,
     weight: Weight,
-) -> Fanned
-    requires { ⌜ Points (now case) points ⌝ }
-    requires { ⌜ FaceTaken (wordsIn (now words)) h c ⌝ }
-    ensures { λ r. ⌜ FanAdded (pointsIn (now (case .entry)) points) (wordsIn (now (words .entry))) h c reference weight
+) -> FaceWeight
+    requires { ⌜ PointBytes (now case) points ⌝ }
+    requires { ⌜ FaceEntry (wordsIn (now words)) h c ⌝ }
+    ensures { λ r. ⌜ AddFaceExit (pointsIn (now (case .entry)) points) (wordsIn (now (words .entry))) h c reference weight
         r ⌝ }
 {
     let mut face = [0u32; 8];
@@ -129,28 +129,28 @@ fn add_face_3d(
     let count = copied.count;
     let next = copied.next;
     match add_turned(case, points, &mut face[..count], reference, weight) {
-        Fans::Degenerate => Fanned::Degenerate,
-        Fans::Sum(sum) => Fanned::Added(Weighed { weight: sum, next }),
+        CellWeight::Degenerate => FaceWeight::Degenerate,
+        CellWeight::Sum(sum) => FaceWeight::Added(Weighed { weight: sum, next }),
     }
 }
 
 // All faces of a cell in 3D.
-fn add_faces_3d(case: &[u8], points: usize, words: &[u8], h: Head, reference: Vec3) -> Fans
-    requires { ⌜ Points (now case) points ⌝ }
-    requires { ⌜ Headed (wordsIn (now words)) h ⌝ }
-    ensures { λ r. ⌜ fansOf r ≡ steps (addFace3D (pointsIn (now (case .entry)) points) reference) weightless
+fn add_faces_3d(case: &[u8], points: usize, words: &[u8], h: Head, reference: Vec3) -> CellWeight
+    requires { ⌜ PointBytes (now case) points ⌝ }
+    requires { ⌜ HeadAt (wordsIn (now words)) h ⌝ }
+    ensures { λ r. ⌜ weightOf r ≡ steps (addFace3D (pointsIn (now (case .entry)) points) reference) noWeight
         (facesAt (wordsIn (now (words .entry))) h) ⌝ }
 {
-    let mut sum = mesh_volumes::weightless();
+    let mut sum = mesh_volumes::no_weight();
     let mut c = case_faces::first_face(h);
     while c.face < h.faces {
-        let Fanned::Added(t) = add_face_3d(case, points, words, h, c, reference, sum) else {
-            return Fans::Degenerate;
+        let FaceWeight::Added(t) = add_face_3d(case, points, words, h, c, reference, sum) else {
+            return CellWeight::Degenerate;
         };
         sum = t.weight;
         c = t.next;
     }
-    Fans::Sum(sum)
+    CellWeight::Sum(sum)
 }
 
 // The centre and the area or volume of the cell of a record.
@@ -162,8 +162,8 @@ pub fn cell_geometry(
     h: Head,
     reference: Vec3,
 ) -> CellMeasure
-    requires { ⌜ Points (now case) points ⌝ }
-    requires { ⌜ Headed (wordsIn (now words)) h ⌝ }
+    requires { ⌜ PointBytes (now case) points ⌝ }
+    requires { ⌜ HeadAt (wordsIn (now words)) h ⌝ }
     ensures { λ r. ⌜ cellOf r ≡ cellGeometry dimension (pointsIn (now (case .entry)) points) reference
         (facesAt (wordsIn (now (words .entry))) h) ⌝ }
 {
@@ -171,7 +171,7 @@ pub fn cell_geometry(
         return mesh_volumes::centre_2d(reference, add_edges(case, points, words, h, reference));
     }
     match add_faces_3d(case, points, words, h, reference) {
-        Fans::Sum(w) => mesh_volumes::centre_3d(w),
-        Fans::Degenerate => CellMeasure::ZeroVolume,
+        CellWeight::Sum(w) => mesh_volumes::centre_3d(w),
+        CellWeight::Degenerate => CellMeasure::ZeroVolume,
     }
 }

@@ -24,8 +24,8 @@ use Rattle.mesh_area.specs.declared.Sizes.{Sizes}
 use Rattle.mesh_area.specs.Tables.{Face, Cell, faceAt, cellAt}
 use Rattle.mesh_area.specs.Layout.{listAt, found, faceIn, cellIn, facesIn, cellsIn, meshWords, meshFloats, wordsEnd, LentWords}
 use Rattle.mesh_area.proofs.LayoutLaws.{face-in, face-out, cell-in, length-cellsIn, length-listAt, listAt-in}
-use Rattle.mesh_neighbours.specs.Neighbours.{otherOf, beyond, addFound, addNeighbour, neighboursOf, linkedAt, linked, firstIn, countIn}
-use Rattle.mesh_neighbours.specs.Contracts.{Laid, Outside, Linked, Beyond, Added, Crossed, neighboursIn, Written, Listed}
+use Rattle.mesh_neighbours.specs.Neighbours.{otherCell, beyond, addFound, addNeighbour, neighboursOf, linkedAt, linked, firstIn, countIn}
+use Rattle.mesh_neighbours.specs.Contracts.{CellLists, OutsideList, FillNeighboursExit, BeyondExit, AddNewExit, AddBeyondExit, neighboursIn, ListAtExit, FillCellExit}
 
 -- ---- is it listed
 
@@ -60,12 +60,12 @@ pub same-list : (w w′ : List ℕ) (at n : ℕ) → ((k : ℕ) → k < n → ge
 unfolding listAt
 same-list w w′ at n h = tab-same _ _ n h
 
-pub added-was : (w : List ℕ) (at n d : ℕ) (t : Bool) → t ≡ anyOf (eqb d) (listAt w at n) → t ≡ true → Added w w at n d n
+pub added-was : (w : List ℕ) (at n d : ℕ) (t : Bool) → t ≡ anyOf (eqb d) (listAt w at n) → t ≡ true → AddNewExit w w at n d n
 unfolding addNew
 added-was w at n d t et e = record { list = rw (sym et ∙ e); more = omega arith; grows = omega arith; kept = λ j h. refl }
 
 pub added-new : (w : List ℕ) (at n d x : ℕ) (t : Bool) → t ≡ anyOf (eqb d) (listAt w at n) → t ≡ false → x ≡ d → at + n < length w
-    → Added w (set w (at + n) x) at n d (n + 1)
+    → AddNewExit w (set w (at + n) x) at n d (n + 1)
 unfolding addNew listAt
 added-new w at n d x t et e ex room =
     let w′ = set w (at + n) x in
@@ -110,32 +110,32 @@ neighbour-small s w f n lent fit e = by (lt-or-ge f (s .faces))
     by (inr h) = let g = e ∙ ap (λ (g : Face). g .neighbour) (face-out s w [] f h) in let z : _≡_ {A = ℕ} 0 1 = cc in absurd (omega arith)
 
 module _ (s : Sizes) (w : List ℕ) (cell f : ℕ) (x : Found) (ex : (floats : List Float) → x ≡ faceAt (facesIn s w floats) f .neighbour) where
-  pub beyond-none : x ≡ Nothing → Beyond s w cell f Nothing
-  unfolding beyond otherOf
+  pub beyond-none : x ≡ Nothing → BeyondExit s w cell f Nothing
+  unfolding beyond otherCell
   beyond-none e = record { found = λ floats. rw (← ex floats, e); small = λ d q. let z : _≡_ {A = ℕ} 0 1 = cc in absurd (omega arith) }
 
   module _ (n : ℕ) (e : x ≡ At n) (o : ℕ) (eo : (floats : List Float) → o ≡ faceAt (facesIn s w floats) f .owner) where
-    pub beyond-owner : LentWords s w → ((j : ℕ) → Fits w32 (getD w j 0)) → o ≡ cell → Beyond s w cell f (At n)
-    unfolding beyond otherOf
+    pub beyond-owner : LentWords s w → ((j : ℕ) → Fits w32 (getD w j 0)) → o ≡ cell → BeyondExit s w cell f (At n)
+    unfolding beyond otherCell
     beyond-owner lent fit q =
         let b = neighbour-small s w f n lent fit (sym e ∙ ex []) in
-        record { found = λ floats. rw (← ex floats, ← eo floats, e, otherOf, eq-eqb o cell q); small = λ d r. let z : n ≡ d = cc in omega arith }
+        record { found = λ floats. rw (← ex floats, ← eo floats, e, otherCell, eq-eqb o cell q); small = λ d r. let z : n ≡ d = cc in omega arith }
 
-    pub beyond-other : o < 4294967296 → (o ≡ cell → ⊥) → Beyond s w cell f (At o)
-    unfolding beyond otherOf
+    pub beyond-other : o < 4294967296 → (o ≡ cell → ⊥) → BeyondExit s w cell f (At o)
+    unfolding beyond otherCell
     beyond-other b ne =
-        record { found = λ floats. rw (← ex floats, ← eo floats, e, otherOf, ne-eqb o cell ne); small = λ d r. let z : o ≡ d = cc in omega arith }
+        record { found = λ floats. rw (← ex floats, ← eo floats, e, otherCell, ne-eqb o cell ne); small = λ d r. let z : o ≡ d = cc in omega arith }
 
 pub ruleset looking = (beyond-none, beyond-owner, beyond-other)
 
 -- ---- a face's cell added
 
-module _ (s : Sizes) (w : List ℕ) (cell f at n : ℕ) (x : Found) (b : Beyond s w cell f x) where
-  pub crossed-none : x ≡ Nothing → Crossed s w w cell f at n n
+module _ (s : Sizes) (w : List ℕ) (cell f at n : ℕ) (x : Found) (b : BeyondExit s w cell f x) where
+  pub crossed-none : x ≡ Nothing → AddBeyondExit s w w cell f at n n
   unfolding addNeighbour addFound
   crossed-none e = record { list = λ floats. rw (← b .found floats, e); more = omega arith; grows = omega arith; kept = λ j h. refl }
 
-  pub crossed-one : (w′ : List ℕ) (d r : ℕ) → x ≡ At d → Added w w′ at n d r → Crossed s w w′ cell f at n r
+  pub crossed-one : (w′ : List ℕ) (d r : ℕ) → x ≡ At d → AddNewExit w w′ at n d r → AddBeyondExit s w w′ cell f at n r
   unfolding addNeighbour addFound
   crossed-one w′ d r e a = record { list = λ floats. rw (← b .found floats, e) (a .list); more = a .more; grows = a .grows; kept = a .kept }
 
@@ -146,7 +146,7 @@ pub ruleset crossing = (crossed-none, crossed-one, crossed-small)
 
 -- ---- the lists of two cells do not overlap
 
-module _ (s : Sizes) (w : List ℕ) (laid : Laid s w) where
+module _ (s : Sizes) (w : List ℕ) (laid : CellLists s w) where
   apart-by : (i d : ℕ) → i + 1 + d < s .cells → firstIn s w i + countIn s w i ≤ firstIn s w (i + 1 + d)
   apart-by i zero h = let e : i + 1 + 0 ≡ i + 1 = omega arith in rw e (laid .next i (omega arith))
   apart-by i (suc d) h =
@@ -174,11 +174,11 @@ pub record Same (s : Sizes) (w w′ : List ℕ) : Type 0 where
   pub low : (j : ℕ) → j < 14 * s .slots → getD w′ j 0 ≡ getD w j 0
   pub cells : (i k : ℕ) → i < s .cells → k < 3 → getD w′ (16 * s .slots + 8 * i + k) 0 ≡ getD w (16 * s .slots + 8 * i + k) 0
 
-module _ (s : Sizes) (w w′ : List ℕ) (lent : LentWords s w) (laid : Laid s w) (same : Same s w w′) where
-  pub same-laid : Laid s w′
+module _ (s : Sizes) (w w′ : List ℕ) (lent : LentWords s w) (laid : CellLists s w) (same : Same s w w′) where
+  pub same-laid : CellLists s w′
   same-laid =
       record {
-        corners = λ f h. rw (same .low (12 * f + 0) (let o = lent .few-faces in omega arith)) (laid .corners f h);
+        vertices = λ f h. rw (same .low (12 * f + 0) (let o = lent .few-faces in omega arith)) (laid .vertices f h);
         next = λ i h. rw (same .cells i 1 (omega arith) (omega arith), same .cells i 2 (omega arith) (omega arith), same .cells (i + 1) 1 h (omega arith)) (laid .next i h);
         last = λ i h. rw (same .cells i 1 (omega arith) (omega arith), same .cells i 2 (omega arith) (omega arith)) (laid .last i h);
       }
@@ -190,7 +190,7 @@ module _ (s : Sizes) (w w′ : List ℕ) (lent : LentWords s w) (laid : Laid s w
       let few = lent .few-faces in
       let r : (k : ℕ) → k < 12 → getD (meshWords s w′) (12 * f + k) 0 ≡ getD (meshWords s w) (12 * f + k) 0 =
       λ k l. mesh-word s w′ (12 * f + k) (omega arith) ∙ same .low (12 * f + k) (omega arith) ∙ sym (mesh-word s w (12 * f + k) (omega arith)) in
-      let c : getD (meshWords s w) (12 * f + 0) 0 ≤ 8 = rw (mesh-word s w (12 * f + 0) (omega arith)) (laid .corners f h) in
+      let c : getD (meshWords s w) (12 * f + 0) 0 ≤ 8 = rw (mesh-word s w (12 * f + 0) (omega arith)) (laid .vertices f h) in
       let v : listAt (meshWords s w′) (12 * f + 1) (getD (meshWords s w) (12 * f + 0) 0) ≡ listAt (meshWords s w) (12 * f + 1) (getD (meshWords s w) (12 * f + 0) 0) =
       same-list (meshWords s w) (meshWords s w′) (12 * f + 1) (getD (meshWords s w) (12 * f + 0) 0)
       (λ k l. let e : 12 * f + 1 + k ≡ 12 * f + (1 + k) = omega arith in rw e (r (1 + k) (omega arith))) in
@@ -205,7 +205,7 @@ module _ (s : Sizes) (w w′ : List ℕ) (lent : LentWords s w) (laid : Laid s w
     abbrev facesOf : List ℕ → List ℕ
     facesOf v = listAt (meshWords s v) (13 * s .slots + getD (meshWords s v) (16 * s .slots + 8 * i + 1) 0) (getD (meshWords s v) (16 * s .slots + 8 * i + 2) 0)
 
-    plain : (v : List ℕ) → Laid s v → facesOf v ≡ listAt v (13 * s .slots + firstIn s v i) (countIn s v i)
+    plain : (v : List ℕ) → CellLists s v → facesOf v ≡ listAt v (13 * s .slots + firstIn s v i) (countIn s v i)
     plain v l =
         let e = list-end s v l i h in
         rw (mesh-word s v (16 * s .slots + 8 * i + 1) (omega arith), mesh-word s v (16 * s .slots + 8 * i + 2) (omega arith))
@@ -246,7 +246,7 @@ count-of s w i h floats =
     ∙ length-listAt (meshWords s w) _ (getD (meshWords s w) (16 * s .slots + 8 * i + 2) 0)
     ∙ mesh-word s w (16 * s .slots + 8 * i + 2) (omega arith)
 
-pub listing-start : (s : Sizes) (w : List ℕ) (i at end : ℕ) → Laid s w → i < s .cells → at ≡ 14 * s .slots + firstIn s w i
+pub listing-start : (s : Sizes) (w : List ℕ) (i at end : ℕ) → CellLists s w → i < s .cells → at ≡ 14 * s .slots + firstIn s w i
     → ((floats : List Float) → end ≡ length (cellAt (cellsIn s w floats) i .faces)) → Listing s w w i at end 0 0
 unfolding listAt tab neighboursOf
 listing-start s w i at end laid h ea ee =
@@ -272,8 +272,8 @@ module _ (s : Sizes) (w₀ w : List ℕ) (i at end n k : ℕ) (t : Listing s w�
   pub listing-room : k < end → LentWords s w → at + n < length w
   listing-room h lent = let a = t .within in let b = t .few in let l = lent .long in omega arith
 
-  pub listing-turn : (w′ : List ℕ) (f r : ℕ) → LentWords s w₀ → Laid s w₀ → i < s .cells → k < end
-      → ((floats : List Float) → f ≡ getD (cellAt (cellsIn s w floats) i .faces) k 0) → Crossed s w w′ i f at n r → Listing s w₀ w′ i at end r (k + 1)
+  pub listing-turn : (w′ : List ℕ) (f r : ℕ) → LentWords s w₀ → CellLists s w₀ → i < s .cells → k < end
+      → ((floats : List Float) → f ≡ getD (cellAt (cellsIn s w floats) i .faces) k 0) → AddBeyondExit s w w′ i f at n r → Listing s w₀ w′ i at end r (k + 1)
   listing-turn w′ f r lent laid h more ef cr =
       record {
         left = left;
@@ -303,7 +303,7 @@ module _ (s : Sizes) (w₀ w : List ℕ) (i at end n k : ℕ) (t : Listing s w�
           let l : k < length fl = rw (← t .all floats) more in
           rw c (sym (foldl-next fl k 0 l (addNeighbour (facesIn s w₀ floats) i) (listAt w at n)) ∙ t .left floats)
 
-  pub listing-done : k ≤ end → end ≤ k → Written s w₀ w i at n
+  pub listing-done : k ≤ end → end ≤ k → ListAtExit s w₀ w i at n
   unfolding fold
   listing-done le ge =
       record {
@@ -316,8 +316,8 @@ pub ruleset listings = (listing-start, listing-room, listing-turn, listing-done)
 
 -- ---- the list with its count
 
-pub cell-listed : (s : Sizes) (w w′ : List ℕ) (i first n x : ℕ) → LentWords s w → Laid s w → i < s .cells → first ≡ getD w (16 * s .slots + 8 * i + 1) 0
-    → Written s w w′ i (14 * s .slots + first) n → x ≡ n → length w′ ≡ length w → Listed s w (set w′ (16 * s .slots + 8 * i + 3) x) i
+pub cell-listed : (s : Sizes) (w w′ : List ℕ) (i first n x : ℕ) → LentWords s w → CellLists s w → i < s .cells → first ≡ getD w (16 * s .slots + 8 * i + 1) 0
+    → ListAtExit s w w′ i (14 * s .slots + first) n → x ≡ n → length w′ ≡ length w → FillCellExit s w (set w′ (16 * s .slots + 8 * i + 3) x) i
 cell-listed s w w′ i first n x lent laid h ef wr ex long =
     let e = list-end s w laid i h in
     let l = lent .long in
@@ -331,7 +331,7 @@ cell-listed s w w′ i first n x lent laid h ef wr ex long =
       kept = λ j o. getD-set-other w′ at j x 0 (o .count) ∙ wr .kept j (rw (ef, ← c) (o .list));
     }
 
-pub count-small : (s : Sizes) (w w′ : List ℕ) (i at n : ℕ) → LentWords s w → Laid s w → i < s .cells → Written s w w′ i at n → n < 4294967296
+pub count-small : (s : Sizes) (w w′ : List ℕ) (i at n : ℕ) → LentWords s w → CellLists s w → i < s .cells → ListAtExit s w w′ i at n → n < 4294967296
 count-small s w w′ i at n lent laid h wr = let e = list-end s w laid i h in let f = wr .few in let g = lent .few-slots in omega arith
 
 pub ruleset counting = (cell-listed, count-small)
@@ -342,7 +342,7 @@ pub record Filled (s : Sizes) (w₀ w : List ℕ) (i : ℕ) : Type 0 where
   pub lists : (c : ℕ) → c < i → (floats : List Float) → listAt w (14 * s .slots + firstIn s w₀ c) (getD w (16 * s .slots + 8 * c + 3) 0) ≡ neighboursIn s w₀ floats c
   pub few : (c : ℕ) → c < i → getD w (16 * s .slots + 8 * c + 3) 0 ≤ countIn s w₀ c
   pub same : Same s w₀ w
-  pub rest : (j : ℕ) → ((c : ℕ) → c < i → Outside s w₀ w c j) → getD w j 0 ≡ getD w₀ j 0
+  pub rest : (j : ℕ) → ((c : ℕ) → c < i → OutsideList s w₀ w c j) → getD w j 0 ≡ getD w₀ j 0
 
 pub fill-start : (s : Sizes) (w : List ℕ) → Filled s w w 0
 fill-start s w =
@@ -353,10 +353,10 @@ fill-start s w =
       rest = λ j o. refl;
     }
 
-pub fill-laid : (s : Sizes) (w₀ w : List ℕ) (i : ℕ) → LentWords s w₀ → Laid s w₀ → Filled s w₀ w i → Laid s w
+pub fill-laid : (s : Sizes) (w₀ w : List ℕ) (i : ℕ) → LentWords s w₀ → CellLists s w₀ → Filled s w₀ w i → CellLists s w
 fill-laid s w₀ w i lent laid f = same-laid s w₀ w lent laid (f .same)
 
-pub fill-turn : (s : Sizes) (w₀ w w′ : List ℕ) (i : ℕ) → LentWords s w₀ → Laid s w₀ → i < s .cells → Filled s w₀ w i → Listed s w w′ i → Filled s w₀ w′ (i + 1)
+pub fill-turn : (s : Sizes) (w₀ w w′ : List ℕ) (i : ℕ) → LentWords s w₀ → CellLists s w₀ → i < s .cells → Filled s w₀ w i → FillCellExit s w w′ i → Filled s w₀ w′ (i + 1)
 fill-turn s w₀ w w′ i lent laid h f l =
     record {
       lists = λ c b. lists c (eq-or-lt-of-le (le-of-suc-le-suc (rw (add-one i) at b)));
@@ -368,7 +368,7 @@ fill-turn s w₀ w w′ i lent laid h f l =
     end : firstIn s w₀ i + countIn s w₀ i ≤ s .slots
     end = list-end s w₀ laid i h
 
-    at-rest : (j : ℕ) → Outside s w₀ w′ i j → getD w′ j 0 ≡ getD w j 0
+    at-rest : (j : ℕ) → OutsideList s w₀ w′ i j → getD w′ j 0 ≡ getD w j 0
     at-rest j o = l .kept j (record { list = rw (f .same .cells i 1 h (omega arith)) (o .list); count = o .count })
 
     kept : (j : ℕ) → (j < 14 * s .slots + firstIn s w₀ i) ⊎ (15 * s .slots ≤ j) → j ≢ 16 * s .slots + 8 * i + 3 → getD w′ j 0 ≡ getD w j 0
@@ -398,7 +398,7 @@ fill-turn s w₀ w w′ i lent laid h f l =
         (same-list w w′ (14 * s .slots + firstIn s w₀ c) (getD w (16 * s .slots + 8 * c + 3) 0) (λ k q. kept (14 * s .slots + firstIn s w₀ c + k) (inl (omega arith)) (omega arith))
         ∙ f .lists c b floats)
 
-module _ (s : Sizes) (w₀ w : List ℕ) (lent : LentWords s w₀) (laid : Laid s w₀) (f : Filled s w₀ w (s .cells)) where
+module _ (s : Sizes) (w₀ w : List ℕ) (lent : LentWords s w₀) (laid : CellLists s w₀) (f : Filled s w₀ w (s .cells)) where
   cell-linked : (floats : List Float) (i : ℕ) → i < s .cells
       → cellIn (meshWords s w) (meshFloats s floats) (s .slots) i ≡ linkedAt (facesIn s w₀ floats) (cellsIn s w₀ floats) i
   unfolding cellIn linkedAt
@@ -417,14 +417,14 @@ module _ (s : Sizes) (w₀ w : List ℕ) (lent : LentWords s w₀) (laid : Laid 
   unfolding cellsIn
   listed-cells floats = tab-same _ _ (s .cells) (λ i h. cell-linked floats i h)
 
-  all-linked : Linked s w₀ w
+  all-linked : FillNeighboursExit s w₀ w
   unfolding linked
   all-linked = record { cells = cells; faces = same-faces s w₀ w lent laid (f .same); rest = f .rest }
     where
       cells : (floats : List Float) → cellsIn s w floats ≡ tab (linkedAt (facesIn s w₀ floats) (cellsIn s w₀ floats)) (length (cellsIn s w₀ floats))
       cells floats = rw (length-cellsIn s w₀ floats) (listed-cells floats)
 
-pub fill-done : (s : Sizes) (w₀ w : List ℕ) (i : ℕ) → LentWords s w₀ → Laid s w₀ → Filled s w₀ w i → i ≤ s .cells → s .cells ≤ i → Linked s w₀ w
+pub fill-done : (s : Sizes) (w₀ w : List ℕ) (i : ℕ) → LentWords s w₀ → CellLists s w₀ → Filled s w₀ w i → i ≤ s .cells → s .cells ≤ i → FillNeighboursExit s w₀ w
 fill-done s w₀ w i lent laid f le ge = let e : i ≡ s .cells = omega arith in all-linked s w₀ w lent laid (rw e at f)
 
 pub ruleset filling = (fill-start, fill-laid, fill-turn, fill-done)

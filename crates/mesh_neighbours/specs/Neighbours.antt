@@ -1,5 +1,5 @@
 -- A cell's neighbours: the cells on the other side of its faces, "in face order".
--- `otherOf`, `beyond`: the cell on the other side of a face.
+-- `otherCell`, `beyond`: the cell on the other side of a face.
 -- `addFound`, `addNeighbour`, `neighboursOf`: the neighbours of a cell.
 -- `linkedAt`, `linked`: the cells with their neighbours.
 -- `firstIn`, `countIn`, `Laid`: the cells' lists in the area.
@@ -19,13 +19,13 @@ use Rattle.mesh_area.specs.Tables.{Face, Cell, faceAt, cellAt}
 -- ---- the definition
 
 -- the other one of a face's two cells, where there are two
-unfoldable pub otherOf : ℕ → ℕ → Found → Found
-otherOf cell owner Nothing = Nothing
-otherOf cell owner (At n) = At (cond (eqb owner cell) n owner)
+unfoldable pub otherCell : ℕ → ℕ → Found → Found
+otherCell cell owner Nothing = Nothing
+otherCell cell owner (At n) = At (cond (eqb owner cell) n owner)
 
 -- the same of a face
 unfoldable pub beyond : ℕ → Face → Found
-beyond cell f = otherOf cell (f .owner) (f .neighbour)
+beyond cell f = otherCell cell (f .owner) (f .neighbour)
 
 -- first of each kept
 unfoldable pub addFound : List ℕ → Found → List ℕ

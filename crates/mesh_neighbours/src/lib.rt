@@ -10,12 +10,12 @@ ghost use lib.ListN.{length};
 ghost use Rattle.arith.specs.Lists.{anyOf};
 ghost use Rattle.mesh_area.specs.Layout.{listAt, LentWords};
 ghost use Rattle.mesh_neighbours.specs.Neighbours.{firstIn};
-ghost use Rattle.mesh_neighbours.specs.Contracts.{Laid, Linked, Beyond, Added, Crossed, Written, Listed};
+ghost use Rattle.mesh_neighbours.specs.Contracts.{CellLists, FillNeighboursExit, BeyondExit, AddNewExit, AddBeyondExit, ListAtExit, FillCellExit};
 
 // The cell on the other side of face f, seen from one of its cells.
 fn beyond(words: &[u32], s: Sizes, cell: usize, f: usize) -> Found
     requires { ⌜ LentWords s (now words) ⌝ }
-    ensures { λ r. ⌜ Beyond s (now (words .entry)) cell f r ⌝ }
+    ensures { λ r. ⌜ BeyondExit s (now (words .entry)) cell f r ⌝ }
 {
     let Found::At(n) = mesh_area::neighbour_of(words, s, f) else {
         return Found::Nothing;
@@ -45,7 +45,7 @@ fn listed(words: &[u32], at: usize, n: usize, d: usize) -> bool
 // Adds d to the list of n words at a place, unless it is there; how many words it has then.
 fn add_new(words: &mut [u32], at: usize, n: usize, d: usize) -> usize
     requires { ⌜ (at + n < length (now words)) × (n < 4294967296) × (d < 4294967296) ⌝ }
-    ensures { λ r. ⌜ Added (now (words .entry)) (now (words .exit)) at n d r ⌝ }
+    ensures { λ r. ⌜ AddNewExit (now (words .entry)) (now (words .exit)) at n d r ⌝ }
 {
     if listed(words, at, n, d) {
         return n;
@@ -57,7 +57,7 @@ fn add_new(words: &mut [u32], at: usize, n: usize, d: usize) -> usize
 // Adds the cell beyond face f.
 fn add_beyond(words: &mut [u32], s: Sizes, cell: usize, f: usize, at: usize, n: usize) -> usize
     requires { ⌜ LentWords s (now words) × (at + n < length (now words)) × (n < 4294967296) ⌝ }
-    ensures { λ r. ⌜ Crossed s (now (words .entry)) (now (words .exit)) cell f at n r ⌝ }
+    ensures { λ r. ⌜ AddBeyondExit s (now (words .entry)) (now (words .exit)) cell f at n r ⌝ }
 {
     let Found::At(d) = beyond(words, s, cell, f) else {
         return n;
@@ -67,9 +67,9 @@ fn add_beyond(words: &mut [u32], s: Sizes, cell: usize, f: usize, at: usize, n: 
 
 // Writes the list of cell i at a place, over its faces; how many words it has.
 fn list_at(words: &mut [u32], s: Sizes, i: usize, at: usize) -> usize
-    requires { ⌜ LentWords s (now words) × Laid s (now words) × (i < s .cells)
+    requires { ⌜ LentWords s (now words) × CellLists s (now words) × (i < s .cells)
         × (at ≡ 14 * s .slots + firstIn s (now words) i) ⌝ }
-    ensures { λ r. ⌜ Written s (now (words .entry)) (now (words .exit)) i at r ⌝ }
+    ensures { λ r. ⌜ ListAtExit s (now (words .entry)) (now (words .exit)) i at r ⌝ }
 {
     let end = mesh_area::face_count(words, s, i);
     let mut n = 0;
@@ -84,8 +84,8 @@ fn list_at(words: &mut [u32], s: Sizes, i: usize, at: usize) -> usize
 
 // Writes the list of cell i, and its count.
 fn fill_cell(words: &mut [u32], s: Sizes, i: usize)
-    requires { ⌜ LentWords s (now words) × Laid s (now words) × (i < s .cells) ⌝ }
-    ensures { λ _. ⌜ Listed s (now (words .entry)) (now (words .exit)) i ⌝ }
+    requires { ⌜ LentWords s (now words) × CellLists s (now words) × (i < s .cells) ⌝ }
+    ensures { λ _. ⌜ FillCellExit s (now (words .entry)) (now (words .exit)) i ⌝ }
 {
     let at = 16 * s.slots + 8 * i;
     let first = wide(words[at + 1]);
@@ -96,8 +96,8 @@ fn fill_cell(words: &mut [u32], s: Sizes, i: usize)
 // Writes each cell's neighbours, in face order.
 pub fn fill_neighbours(words: &mut [u32], s: Sizes)
     requires { ⌜ LentWords s (now words) ⌝ }
-    requires { ⌜ Laid s (now words) ⌝ }
-    ensures { λ _. ⌜ Linked s (now (words .entry)) (now (words .exit)) ⌝ }
+    requires { ⌜ CellLists s (now words) ⌝ }
+    ensures { λ _. ⌜ FillNeighboursExit s (now (words .entry)) (now (words .exit)) ⌝ }
 {
     let mut i = 0;
     while i < s.cells {

@@ -13,15 +13,15 @@ use Rattle.arith.specs.declared.Vec3.{Vec3}
 use Rattle.arith.proofs.ListLaws.{left-at}
 use Rattle.reading.specs.Result.{Result, refused, fine, _>>=_, refuse, steps}
 use Rattle.case_definitions.specs.Faces.{Definition, facesOf}
-use Rattle.case_definitions.specs.Contracts.{definitionAt, faceAt, Headed}
-use Rattle.case_faces.specs.Contracts.{AtFace, nextFace, FaceCopied}
+use Rattle.case_definitions.specs.Contracts.{definitionAt, faceAt, HeadAt}
+use Rattle.case_faces.specs.Contracts.{AtFace, nextFace, CopyFaceExit}
 use Rattle.case_definitions.specs.declared.Head.{Head}
 use Rattle.case_faces.specs.declared.FaceCursor.{FaceCursor}
 use Rattle.case_faces.proofs.FaceLaws.{PolygonHead, HeadCase, polygon-head, solid-head, polyhedron-head, head-case, at-first}
 use Rattle.case_definitions.proofs.Walking.{head-faces}
 use Rattle.mesh_averages.specs.Averages.{average}
 use Rattle.mesh_numbers.specs.Numbers.{insertNew, rising, insertBelow, numbersIn}
-use Rattle.mesh_numbers.specs.Contracts.{Collecting}
+use Rattle.mesh_numbers.specs.Contracts.{CollectFaceExit}
 use Rattle.mesh_numbers.specs.declared.Collected.{Collected}
 use Rattle.mesh_numbers.specs.declared.Collected.the-variants.{Numbers, Missing}
 use Rattle.mesh_points.specs.Collect.{wrongKind, missing, referenceOf, checked, referenceCase}
@@ -29,7 +29,7 @@ use Rattle.mesh_points.specs.declared.Reference.the-variants.{Point, Ref
 
 -- ---- refusal 11
 
-module _ (d : ℕ) (ws : List ℕ) (h : Head) (g : Headed ws h) where
+module _ (d : ℕ) (ws : List ℕ) (h : Head) (g : HeadAt ws h) where
   polygon-long : PolygonHead ws h → length (take (h .faces) (drop (h .first) ws)) ≡ h .faces
   polygon-long p = length-take-le (h .faces) (drop (h .first) ws) (omega (arith, p .room, length-drop (h .first) ws))
 
@@ -93,7 +93,7 @@ steps-append {A} {B} f s (a ∷ l) k = by (f s a) (λ t. steps-append f t l k)
     by (fine t) next = next t
 
 -- the numbers that were copied are all lent, and the next face follows
-module _ (ws : List ℕ) (h : Head) (c : FaceCursor) (vs₀ vs : List ℕ) (count : ℕ) (next : FaceCursor) (f : FaceCopied ws h c vs₀ vs count next) where
+module _ (ws : List ℕ) (h : Head) (c : FaceCursor) (vs₀ vs : List ℕ) (count : ℕ) (next : FaceCursor) (f : CopyFaceExit ws h c vs₀ vs count next) where
   pub copied-count : count ≡ length (take count vs)
   copied-count = f .counted ∙ sym (ap length (f .front))
 
@@ -113,7 +113,7 @@ pub record Uniting (ws : List ℕ) (h : Head) (points : ℕ) (out₀ out : List 
   pub rest : steps (insertBelow points) (take n out) (flatten (drop (c .face) (facesOf (definitionAt ws (h .at)))))
       ≡ steps (insertBelow points) [] (flatten (facesOf (definitionAt ws (h .at))))
 
-pub unite-start : (ws : List ℕ) (h : Head) (points : ℕ) (out : List ℕ) (c : FaceCursor) → Headed ws h → (c .face ≡ 0) × (c .at ≡ h .first) → Uniting ws h points out out 0 c
+pub unite-start : (ws : List ℕ) (h : Head) (points : ℕ) (out : List ℕ) (c : FaceCursor) → HeadAt ws h → (c .face ≡ 0) × (c .at ≡ h .first) → Uniting ws h points out out 0 c
 unite-start ws h points out c g e =
     record {
       at-face = at-first ws h c g (e .0) (e .1);
@@ -130,13 +130,13 @@ module _ (ws : List ℕ) (h : Head) (points : ℕ) (out₀ out : List ℕ) (n : 
   there : c .face < length faces
   there = omega (arith, head-faces ws h (u .at-face .headed) .all)
 
-  pub unite-room : (vs₀ vs : List ℕ) (count : ℕ) (next : FaceCursor) → 192 ≤ length out₀ → FaceCopied ws h c vs₀ vs count next → n + length (take count vs) ≤ length out
+  pub unite-room : (vs₀ vs : List ℕ) (count : ℕ) (next : FaceCursor) → 192 ≤ length out₀ → CopyFaceExit ws h c vs₀ vs count next → n + length (take count vs) ≤ length out
   unite-room vs₀ vs count next room f =
       let l : length (take count vs) ≡ count = ap length (f .front) ∙ sym (f .counted) in
       omega (arith, u .long, u .few, f .small, head-faces ws h (u .at-face .headed) .few)
 
-  module _ (vs₀ vs : List ℕ) (count : ℕ) (next : FaceCursor) (f : FaceCopied ws h c vs₀ vs count next) (out′ : List ℕ) (r : Collected)
-      (got : Collecting points (take n out) (take count vs) out′ (n + length (take count vs)) r) where
+  module _ (vs₀ vs : List ℕ) (count : ℕ) (next : FaceCursor) (f : CopyFaceExit ws h c vs₀ vs count next) (out′ : List ℕ) (r : Collected)
+      (got : CollectFaceExit points (take n out) (take count vs) out′ (n + length (take count vs)) r) where
     one-face : steps (insertBelow points) (take n out) (flatten (drop (c .face) faces)) ≡ (numbersIn out′ r >>= λ t. steps (insertBelow points) t (flatten (drop (c .face + 1) faces)))
     unfolding flatten faceAt
     one-face =
@@ -158,12 +158,12 @@ module _ (ws : List ℕ) (h : Head) (points : ℕ) (out₀ out : List ℕ) (n : 
           rest = rw goes (sym (rw e at one-face) ∙ u .rest);
         }
 
-    pub unite-missing : (out″ : List ℕ) → r ≡ Missing → Collecting points [] (flatten faces) out″ 192 Missing
+    pub unite-missing : (out″ : List ℕ) → r ≡ Missing → CollectFaceExit points [] (flatten faces) out″ 192 Missing
     unfolding numbersIn _>>=_
     unite-missing out″ e = record { same = sym (rw e at one-face) ∙ u .rest; few = omega arith }
 
 pub unite-done : (ws : List ℕ) (h : Head) (points : ℕ) (out₀ out : List ℕ) (n : ℕ) (c : FaceCursor) → Uniting ws h points out₀ out n c → h .faces ≤ c .face
-    → Collecting points [] (flatten (facesOf (definitionAt ws (h .at)))) out 192 (Numbers n)
+    → CollectFaceExit points [] (flatten (facesOf (definitionAt ws (h .at)))) out 192 (Numbers n)
 unfolding numbersIn steps flatten
 unite-done ws h points out₀ out n c u end =
     let f = head-faces ws h (u .at-face .headed) in
@@ -190,7 +190,7 @@ module _ (d : ℕ) (ps : List Vec3) (def : Definition) (t : Bool) (et : t ≡ wr
   checked-kind e = rw (← et, e)
 
   module _ (right : t ≡ false) (points : ℕ) (out : List ℕ) (r : Collected) (long : length ps ≡ points)
-      (got : Collecting points [] (flatten (facesOf def)) out 192 r) where
+      (got : CollectFaceExit points [] (flatten (facesOf def)) out 192 r) where
     all-of : numbersIn out r ≡ (refuse 12 (missing ps def) >>= λ _. fine (rising (flatten (facesOf def))))
     unfolding missing rising
     all-of = got .same ∙ below-all points [] (flatten (facesOf def)) ∙ rw long

@@ -1,1 +1,1 @@
-pub mod FanLaws
+pub mod TetrahedronLaws

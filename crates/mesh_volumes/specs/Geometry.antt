@@ -1,7 +1,7 @@
 -- mesh.rs's `cell_geometry`: a cell's centre and its area or volume, from the triangles or tetrahedra about its average.
--- `weightless`, `addPart`: the sums.
--- `doubled`, `addTriangle`, `centre2D`: a cell in 2D.
--- `sixth`, `addVolume`, `addTetrahedron`, `addFan`, `fanOf`, `addFace3D`, `centre3D`: a cell in 3D.
+-- `noWeight`, `addPart`: the sums.
+-- `twiceArea`, `addTriangle`, `centre2D`: a cell in 2D.
+-- `tetrahedronVolume`, `addVolume`, `addTetrahedron`, `addTetrahedra`, `tetrahedraOf`, `addFace3D`, `centre3D`: a cell in 3D.
 -- `geometryIn`, `cellGeometry`: a cell, by dimension.
 -- `cellOf`: what an answer means.
 use Prim.Native.Nat.{ℕ}
@@ -25,8 +25,8 @@ use Rattle.mesh_volumes.specs.declared.CellMeasure.the-variants as Measu
 -- ---- sums of measures, and of centres weighted with them
 
 -- nothing summed yet
-unfoldable pub weightless : Weight
-weightless = record { measure = 0·0; moment = origin }
+unfoldable pub noWeight : Weight
+noWeight = record { measure = 0·0; moment = origin }
 
 -- one more part with its centre, or a multiple of it
 unfoldable pub addPart : Weight → Float → Vec3 → Weight
@@ -35,15 +35,15 @@ addPart w m centre = record { measure = w .measure ⊕ m; moment = plus (w .mome
 -- ---- in 2D, where every face is an edge
 
 -- twice the signed area of the triangle of the average and an edge's ends a and b, both from the average
-unfoldable pub doubled : Vec3 → Vec3 → Float
-doubled a b = a .x ⊗ b .y ⊖ b .x ⊗ a .y
+unfoldable pub twiceArea : Vec3 → Vec3 → Float
+twiceArea a b = a .x ⊗ b .y ⊖ b .x ⊗ a .y
 
 -- an edge's triangle added
 unfoldable pub addTriangle : List Vec3 → Vec3 → Weight → List ℕ → Weight
 addTriangle ps reference w edge =
     let a = minus (pointAt ps (getD edge 0 0)) reference in
     let b = minus (pointAt ps (getD edge 1 0)) reference in
-    addPart w (doubled a b) (times (plus a b) (doubled a b))
+    addPart w (twiceArea a b) (times (plus a b) (twiceArea a b))
 
 -- the area is half the sum, the centre lies at a third of the moment; refusal 15, "zero volume"
 unfoldable pub centre2D : Vec3 → Weight → Result CellGeometry
@@ -54,13 +54,13 @@ centre2D reference w =
 -- ---- in 3D
 
 -- the volume of the tetrahedron of the average and three points
-unfoldable pub sixth : Vec3 → Vec3 → Vec3 → Vec3 → Float
-sixth reference a b c = dot (minus a reference) (cross (minus b reference) (minus c reference)) ⊘ 6·0
+unfoldable pub tetrahedronVolume : Vec3 → Vec3 → Vec3 → Vec3 → Float
+tetrahedronVolume reference a b c = dot (minus a reference) (cross (minus b reference) (minus c reference)) ⊘ 6·0
 
--- one tetrahedron more: its centre is a quarter of its corners' sum
+-- one tetrahedron more: its centre is a quarter of its vertices' sum
 unfoldable pub addVolume : Vec3 → Weight → Vec3 → Vec3 → Vec3 → Weight
 addVolume reference w a b c =
-    let v = sixth reference a b c in
+    let v = tetrahedronVolume reference a b c in
     addPart w v (times (plus (plus (plus reference a) b) c) (v ⊘ 4·0))
 
 -- the tetrahedron of the average, a face's first point a and two more in a row
@@ -68,18 +68,18 @@ unfoldable pub addTetrahedron : List Vec3 → Vec3 → Vec3 → Weight → Side 
 addTetrahedron ps reference a w side = addVolume reference w a (pointAt ps (side .from)) (pointAt ps (side .to))
 
 -- all tetrahedra of one face
-unfoldable pub addFan : List Vec3 → Vec3 → Weight → List ℕ → Weight
-addFan ps reference w [] = w
-addFan ps reference w (i ∷ l) = fold (addTetrahedron ps reference (pointAt ps i)) w (windows l)
+unfoldable pub addTetrahedra : List Vec3 → Vec3 → Weight → List ℕ → Weight
+addTetrahedra ps reference w [] = w
+addTetrahedra ps reference w (i ∷ l) = fold (addTetrahedron ps reference (pointAt ps i)) w (windows l)
 
 -- the face, "turned outward"; it was found not degenerate before, so that it is not refused here
-unfoldable pub fanOf : List Vec3 → Vec3 → Weight → Result Oriented → Result Weight
-fanOf ps reference w (refused n) = refused 15
-fanOf ps reference w (fine f) = fine (addFan ps reference w (f .vertices))
+unfoldable pub tetrahedraOf : List Vec3 → Vec3 → Weight → Result Oriented → Result Weight
+tetrahedraOf ps reference w (refused n) = refused 15
+tetrahedraOf ps reference w (fine f) = fine (addTetrahedra ps reference w (f .vertices))
 
 -- a face's tetrahedra added
 unfoldable pub addFace3D : List Vec3 → Vec3 → Weight → List ℕ → Result Weight
-addFace3D ps reference w l = fanOf ps reference w (orientedFace 3 ps reference l)
+addFace3D ps reference w l = tetrahedraOf ps reference w (orientedFace 3 ps reference l)
 
 -- the moment over the volume; refusal 15
 unfoldable pub centre3D : Weight → Result CellGeometry
@@ -89,8 +89,8 @@ centre3D w = cond (1e-12 ≺ w .measure) (fine (record { centre = over (w .momen
 
 -- the centre and volume of a cell, in 2D or in 3D
 unfoldable pub geometryIn : Bool → List Vec3 → Vec3 → List (List ℕ) → Result CellGeometry
-geometryIn true ps reference faces = centre2D reference (fold (addTriangle ps reference) weightless faces)
-geometryIn false ps reference faces = steps (addFace3D ps reference) weightless faces >>= centre3D
+geometryIn true ps reference faces = centre2D reference (fold (addTriangle ps reference) noWeight faces)
+geometryIn false ps reference faces = steps (addFace3D ps reference) noWeight faces >>= centre3D
 
 -- the same, by the number of the dimension
 unfoldable pub cellGeometry : ℕ → List Vec3 → Vec3 → List (List ℕ) → Result CellGeometry

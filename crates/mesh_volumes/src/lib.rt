@@ -29,8 +29,8 @@ pub enum CellMeasure {
 }
 
 // Nothing summed yet.
-pub fn weightless() -> Weight
-    ensures { λ r. ⌜ r ≡ Geometry.weightless ⌝ }
+pub fn no_weight() -> Weight
+    ensures { λ r. ⌜ r ≡ Geometry.noWeight ⌝ }
 {
     Weight {
         measure: 0.0,
@@ -84,8 +84,8 @@ pub fn centre_2d(reference: Vec3, weight: Weight) -> CellMeasure
 }
 
 // The volume of the tetrahedron of `reference` and three points.
-fn sixth(reference: Vec3, a: Vec3, b: Vec3, c: Vec3) -> f64
-    ensures { λ r. ⌜ r ≡ Geometry.sixth reference a b c ⌝ }
+fn tetrahedron_volume(reference: Vec3, a: Vec3, b: Vec3, c: Vec3) -> f64
+    ensures { λ r. ⌜ r ≡ Geometry.tetrahedronVolume reference a b c ⌝ }
 {
     a.sub(reference)
         .dot(b.sub(reference).cross(c.sub(reference)))
@@ -96,7 +96,7 @@ fn sixth(reference: Vec3, a: Vec3, b: Vec3, c: Vec3) -> f64
 fn add_volume(reference: Vec3, weight: Weight, a: Vec3, b: Vec3, c: Vec3) -> Weight
     ensures { λ r. ⌜ r ≡ Geometry.addVolume reference weight a b c ⌝ }
 {
-    let v = sixth(reference, a, b, c);
+    let v = tetrahedron_volume(reference, a, b, c);
     add_part(weight, v, reference.add(a).add(b).add(c).scale(v / 4.0))
 }
 
@@ -121,7 +121,7 @@ fn add_tetrahedron(
 }
 
 // The tetrahedra of `reference` and a face added: a face in 3D, turned outward.
-pub fn add_fan(
+pub fn add_tetrahedra(
     case: &[u8],
     points: usize,
     reference: Vec3,
@@ -129,7 +129,7 @@ pub fn add_fan(
     vertices: &[u32],
 ) -> Weight
     requires { ⌜ (points ≤ 65536) × (24 * points ≤ length (now case)) ⌝ }
-    ensures { λ r. ⌜ r ≡ Geometry.addFan (pointsIn (now (case .entry)) points) reference weight
+    ensures { λ r. ⌜ r ≡ Geometry.addTetrahedra (pointsIn (now (case .entry)) points) reference weight
         (now (vertices .entry)) ⌝ }
 {
     let mut sum = weight;

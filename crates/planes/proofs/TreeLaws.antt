@@ -22,22 +22,22 @@ use Rattle.planes_cut.specs.Cut.{cutOf}
 use Rattle.planes_sections.specs.Intersect.{PlaneCell, intersect}
 use Rattle.planes_cut.specs.Plane.{normalOf}
 use Rattle.answers.specs.declared.Answered.{Answered}
-use Rattle.answers.specs.Contracts.{lengthOf, wordsOf, replied, Replied}
+use Rattle.answers.specs.Contracts.{lengthOf, wordsOf, replied, Reply}
 use Rattle.planes_sums.specs.declared.Sums.{Sums}
 use Rattle.planes_sums.specs.declared.Integral.{Integral}
 use Rattle.planes_sums.specs.declared.Probed.{Probed}
 use Rattle.planes_sums.specs.declared.Probed.the-variants.{Hit, Missed}
-use Rattle.planes_samples.specs.declared.Tallied.{Tallied}
+use Rattle.planes_samples.specs.declared.Accumulated.{Accumulated}
 use Rattle.planes_sums.specs.Sample.{Sample}
 use Rattle.planes_samples.specs.Sampling.{Taken, taken, complete, sample}
 use Rattle.planes_sums.specs.Statistics.{noSums, addSample, statistics}
 use Rattle.planes_sums.specs.Integrals.{addIntegral, noIntegral, integrals}
 use Rattle.planes.specs.Answers.{sampled, integralsOf, statisticsOf, probeOf, probeWords}
 use Rattle.answers.specs.Words.{valuesWords, vecWords}
-use Rattle.planes_samples.specs.Contracts.{talliedOf, writtenAll, stream, Streamed}
-use Rattle.planes_sums.specs.Kept.{Kept, ofSection, ofStatistics, ofIntegrals, ofProbe, addTo, written, addProbed}
-use Rattle.planes.specs.Contracts.{missing, statisticsEnd, integralsEnd, ended, lastWords, Closed}
-use Rattle.planes_sums.specs.Probe.{project, covers, firstOver, off, probe}
+use Rattle.planes_samples.specs.Contracts.{accumulatedOf, writtenAll, stream, SampleAllExit}
+use Rattle.planes_sums.specs.Kept.{SampleSums, ofSection, ofStatistics, ofIntegrals, ofProbe, addTo, written, addProbed}
+use Rattle.planes.specs.Contracts.{missing, statisticsEnd, integralsEnd, ended, lastWords, FinishExit}
+use Rattle.planes_sums.specs.Probe.{project, covers, firstOver, offPlane, probe}
 use Rattle.planes_samples.proofs.StreamLaws.{stream-marks}
 
 -- ---- the outcome: a bad sample, or all samples kept
@@ -55,11 +55,11 @@ unfolding complete refuse result._>>=_
 complete-good k h = rw h
 
 module _ (c : Cut) (f : ℕ → Values) where
-  pub record BadRun (l : List PlaneCell) (t : Kept) (o m : List ℕ) : Type 0 where
+  pub record BadRun (l : List PlaneCell) (t : SampleSums) (o m : List ℕ) : Type 0 where
     pub outcome : stream c f l t o m .outcome ≡ refused 39
     pub tree : run (sample l) f ≡ refused 39
 
-  pub record GoodRun (l : List PlaneCell) (t : Kept) (o m : List ℕ) : Type 0 where
+  pub record GoodRun (l : List PlaneCell) (t : SampleSums) (o m : List ℕ) : Type 0 where
     pub outcome : stream c f l t o m .outcome ≡ fine (fold (addTo c) t (goods f l))
     pub tree : run (sample l) f ≡ fine (goods f l)
 
@@ -67,7 +67,7 @@ module _ (c : Cut) (f : ℕ → Values) where
   unfolding sample
   run-sample l = run-bind (taken l) (λ t. give (complete t)) f
 
-  pub stream-run : (l : List PlaneCell) (t : Kept) (o m : List ℕ) → BadRun l t o m ⊎ GoodRun l t o m
+  pub stream-run : (l : List PlaneCell) (t : SampleSums) (o m : List ℕ) → BadRun l t o m ⊎ GoodRun l t o m
   unfolding stream result._>>=_
   stream-run l t o m = by (run (taken l) f .bad) refl
     where
@@ -81,32 +81,32 @@ module _ (c : Cut) (f : ℕ → Values) where
 
 -- ---- codes 6 to 8 write nothing while they read
 
-abbrev pub Quiet : Kept → Type 0
+abbrev pub Quiet : SampleSums → Type 0
 Quiet (ofSection p at) = ⊥
 Quiet (ofStatistics field r) = Unit
 Quiet (ofIntegrals r) = Unit
 Quiet (ofProbe q r) = Unit
 
-quiet-added : (c : Cut) (t : Kept) (s : Sample) → Quiet t → Quiet (addTo c t s)
+quiet-added : (c : Cut) (t : SampleSums) (s : Sample) → Quiet t → Quiet (addTo c t s)
 unfolding addTo
 quiet-added c (ofSection p at) s q = absurd q
 quiet-added c (ofStatistics field r) s q = tt
 quiet-added c (ofIntegrals r) s q = tt
 quiet-added c (ofProbe q r) s w = tt
 
-quiet-written : (t : Kept) (o : List ℕ) (s : Sample) → Quiet t → written t o s ≡ o
+quiet-written : (t : SampleSums) (o : List ℕ) (s : Sample) → Quiet t → written t o s ≡ o
 unfolding written
 quiet-written (ofSection p at) o s q = absurd q
 quiet-written (ofStatistics field r) o s q = refl
 quiet-written (ofIntegrals r) o s q = refl
 quiet-written (ofProbe q r) o s w = refl
 
-quiet-all : (c : Cut) (t : Kept) (o : List ℕ) (ss : List Sample) → Quiet t → writtenAll c t o ss ≡ o
+quiet-all : (c : Cut) (t : SampleSums) (o : List ℕ) (ss : List Sample) → Quiet t → writtenAll c t o ss ≡ o
 unfolding writtenAll
 quiet-all c t o [] q = refl
 quiet-all c t o (s ∷ ss) q = quiet-all c (addTo c t s) (written t o s) ss (quiet-added c t s q) ∙ quiet-written t o s q
 
-pub stream-quiet : (c : Cut) (f : ℕ → Values) (l : List PlaneCell) (t : Kept) (o m : List ℕ) → Quiet t → stream c f l t o m .answers ≡ o
+pub stream-quiet : (c : Cut) (f : ℕ → Values) (l : List PlaneCell) (t : SampleSums) (o m : List ℕ) → Quiet t → stream c f l t o m .answers ≡ o
 unfolding stream
 stream-quiet c f l t o m q = quiet-all c t o (goods f l) q
 
@@ -122,7 +122,7 @@ module _ (mesh : Mesh) (plane : Plane) (answer : List Sample → Result (List �
   reads-sampled = reads-bind (sample (intersect mesh plane)) (λ r. give (result._>>=_ r answer)) f ∙ append-nil _
 
   -- what is kept of the samples gives the answer
-  pub record Gives (r : Result Kept) (ss : List Sample) : Type 0 where
+  pub record Gives (r : Result SampleSums) (ss : List Sample) : Type 0 where
     pub result : ended r ≡ lengthOf (answer ss)
     pub words : lastWords r ≡ wordsOf (answer ss)
 
@@ -131,9 +131,9 @@ module _ (mesh : Mesh) (plane : Plane) (answer : List Sample → Result (List �
   replied-words o (refused n) = refl
   replied-words o (fine ws) = refl
 
-  pub reply : (c : Cut) (t : Kept) (o o₁ o₂ m m₁ : List ℕ) (r : Tallied) (a : Answered) (keep : Result Kept → Result Kept) → Quiet t → keep (refused 39) ≡ refused 39 →
+  pub reply : (c : Cut) (t : SampleSums) (o o₁ o₂ m m₁ : List ℕ) (r : Accumulated) (a : Answered) (keep : Result SampleSums → Result SampleSums) → Quiet t → keep (refused 39) ≡ refused 39 →
       ((ss : List Sample) → Gives (keep (fine (fold (addTo c) t ss))) ss) →
-      Streamed (stream c f (intersect mesh plane) t o m) r o₁ m₁ → Closed (keep (talliedOf r)) a o₁ o₂ → Replied (sampled mesh plane answer) f o a o o₂ m m₁
+      SampleAllExit (stream c f (intersect mesh plane) t o m) r o₁ m₁ → FinishExit (keep (accumulatedOf r)) a o₁ o₂ → Reply (sampled mesh plane answer) f o a o o₂ m m₁
   reply c t o o₁ o₂ m m₁ r a keep q kb gives s d = by (stream-run c f l t o m)
     where
       l : List PlaneCell
@@ -145,10 +145,10 @@ module _ (mesh : Mesh) (plane : Plane) (answer : List Sample → Result (List �
       marked : m₁ ≡ markAll m (reads (sampled mesh plane answer) f)
       marked = s .marks ∙ stream-marks c f l t o m ∙ ap (markAll m) (sym reads-sampled)
 
-      by : BadRun c f l t o m ⊎ GoodRun c f l t o m → Replied (sampled mesh plane answer) f o a o o₂ m m₁
+      by : BadRun c f l t o m ⊎ GoodRun c f l t o m → Reply (sampled mesh plane answer) f o a o o₂ m m₁
       by (inl b) =
           let e : run (sampled mesh plane answer) f ≡ refused 39 = run-sampled ∙ rw (b .tree) (unfold result._>>=_ in refl) in
-          let k : keep (talliedOf r) ≡ refused 39 = ap keep (s .outcome ∙ b .outcome) ∙ kb in
+          let k : keep (accumulatedOf r) ≡ refused 39 = ap keep (s .outcome ∙ b .outcome) ∙ kb in
           record {
             result = d .result ∙ rw (k, e) (unfold ended lengthOf in refl);
             answers = d .answers ∙ rw (k, e, still) (unfold lastWords replied in refl);
@@ -156,7 +156,7 @@ module _ (mesh : Mesh) (plane : Plane) (answer : List Sample → Result (List �
           }
       by (inr g) =
           let e : run (sampled mesh plane answer) f ≡ answer (goods f l) = run-sampled ∙ rw (g .tree) (unfold result._>>=_ in refl) in
-          let k : keep (talliedOf r) ≡ keep (fine (fold (addTo c) t (goods f l))) = ap keep (s .outcome ∙ g .outcome) in
+          let k : keep (accumulatedOf r) ≡ keep (fine (fold (addTo c) t (goods f l))) = ap keep (s .outcome ∙ g .outcome) in
           let w = gives (goods f l) in
           record {
             result = d .result ∙ rw (k, e) (w .result);
@@ -188,8 +188,8 @@ module _ (c : Cut) where
   unfolding ended lastWords integralsEnd integrals result._>>=_
   integrals-give mesh plane f ss =
       record {
-        result = ap (λ (t : Kept). ended (fine t)) (fold-integrals (fine noIntegral) ss);
-        words = ap (λ (t : Kept). lastWords (fine t)) (fold-integrals (fine noIntegral) ss);
+        result = ap (λ (t : SampleSums). ended (fine t)) (fold-integrals (fine noIntegral) ss);
+        words = ap (λ (t : SampleSums). lastWords (fine t)) (fold-integrals (fine noIntegral) ss);
       }
 
   pub statistics-give : (field : ℕ) (mesh : Mesh) (plane : Plane) (f : ℕ → Values) (ss : List Sample) →
@@ -197,18 +197,18 @@ module _ (c : Cut) where
   unfolding ended lastWords statisticsEnd statistics result._>>=_
   statistics-give field mesh plane f ss =
       record {
-        result = ap (λ (t : Kept). ended (fine t)) (fold-statistics field (fine noSums) ss);
-        words = ap (λ (t : Kept). lastWords (fine t)) (fold-statistics field (fine noSums) ss);
+        result = ap (λ (t : SampleSums). ended (fine t)) (fold-statistics field (fine noSums) ss);
+        words = ap (λ (t : SampleSums). lastWords (fine t)) (fold-statistics field (fine noSums) ss);
       }
 
-pub integrals-reply : (mesh : Mesh) (plane : Plane) (f : ℕ → Values) (ps : List Vec3) (o o₁ o₂ m m₁ : List ℕ) (r : Tallied) (a : Answered) →
-    Streamed (stream (cutOf ps plane) f (intersect mesh plane) (ofIntegrals (fine noIntegral)) o m) r o₁ m₁ → Closed (talliedOf r) a o₁ o₂ → Replied (integralsOf mesh plane) f o a o o₂ m m₁
+pub integrals-reply : (mesh : Mesh) (plane : Plane) (f : ℕ → Values) (ps : List Vec3) (o o₁ o₂ m m₁ : List ℕ) (r : Accumulated) (a : Answered) →
+    SampleAllExit (stream (cutOf ps plane) f (intersect mesh plane) (ofIntegrals (fine noIntegral)) o m) r o₁ m₁ → FinishExit (accumulatedOf r) a o₁ o₂ → Reply (integralsOf mesh plane) f o a o o₂ m m₁
 unfolding integralsOf cutOf
 integrals-reply mesh plane f ps o o₁ o₂ m m₁ r a s d =
     reply mesh plane (integrals (normalOf plane)) f (cutOf ps plane) (ofIntegrals (fine noIntegral)) o o₁ o₂ m m₁ r a (λ x. x) tt refl (integrals-give (cutOf ps plane) mesh plane f) s d
 
-pub statistics-reply : (field : ℕ) (mesh : Mesh) (plane : Plane) (f : ℕ → Values) (ps : List Vec3) (o o₁ o₂ m m₁ : List ℕ) (r : Tallied) (a : Answered) →
-    Streamed (stream (cutOf ps plane) f (intersect mesh plane) (ofStatistics field (fine noSums)) o m) r o₁ m₁ → Closed (talliedOf r) a o₁ o₂ → Replied (statisticsOf mesh plane field) f o a o o₂ m m₁
+pub statistics-reply : (field : ℕ) (mesh : Mesh) (plane : Plane) (f : ℕ → Values) (ps : List Vec3) (o o₁ o₂ m m₁ : List ℕ) (r : Accumulated) (a : Answered) →
+    SampleAllExit (stream (cutOf ps plane) f (intersect mesh plane) (ofStatistics field (fine noSums)) o m) r o₁ m₁ → FinishExit (accumulatedOf r) a o₁ o₂ → Reply (statisticsOf mesh plane field) f o a o o₂ m m₁
 unfolding statisticsOf cutOf
 statistics-reply field mesh plane f ps o o₁ o₂ m m₁ r a s d =
     reply mesh plane (statistics (normalOf plane) field) f (cutOf ps plane) (ofStatistics field (fine noSums)) o o₁ o₂ m m₁ r a (λ x. x) tt refl (statistics-give (cutOf ps plane) field mesh plane f) s d
@@ -251,7 +251,7 @@ unfolding missing
 kept true c q ss = refl
 kept false c q ss = ap fine (fold-probe c q Missed ss ∙ ap (ofProbe q) (first-over c q ss))
 
-probe-gives : (mesh : Mesh) (plane : Plane) (f : ℕ → Values) (answer : List Sample → Result (List ℕ)) (q : Vec2) (k : Result Kept) (r : Probed) (ss : List Sample) →
+probe-gives : (mesh : Mesh) (plane : Plane) (f : ℕ → Values) (answer : List Sample → Result (List ℕ)) (q : Vec2) (k : Result SampleSums) (r : Probed) (ss : List Sample) →
     k ≡ fine (ofProbe q r) → answer ss ≡ fine (probeWords r) → Gives mesh plane answer f k ss
 unfolding ended lastWords lengthOf wordsOf
 probe-gives mesh plane f answer q k r ss e w =
@@ -260,10 +260,10 @@ probe-gives mesh plane f answer q k r ss e w =
       words = ap lastWords e ∙ sym (ap wordsOf w);
     }
 
-pub probe-reply : (p : Vec3) (b : Bool) (q : Vec2) (mesh : Mesh) (plane : Plane) (f : ℕ → Values) (ps : List Vec3) (o o₁ o₂ m m₁ : List ℕ) (r k : Tallied) (a : Answered) →
-    b ≡ off plane p → q ≡ project plane p →
-    Streamed (stream (cutOf ps plane) f (intersect mesh plane) (ofProbe q Missed) o m) r o₁ m₁ → talliedOf k ≡ missing b q (talliedOf r) → Closed (talliedOf k) a o₁ o₂ → Replied (probeOf mesh plane p) f o a o o₂ m m₁
+pub probe-reply : (p : Vec3) (b : Bool) (q : Vec2) (mesh : Mesh) (plane : Plane) (f : ℕ → Values) (ps : List Vec3) (o o₁ o₂ m m₁ : List ℕ) (r k : Accumulated) (a : Answered) →
+    b ≡ offPlane plane p → q ≡ project plane p →
+    SampleAllExit (stream (cutOf ps plane) f (intersect mesh plane) (ofProbe q Missed) o m) r o₁ m₁ → accumulatedOf k ≡ missing b q (accumulatedOf r) → FinishExit (accumulatedOf k) a o₁ o₂ → Reply (probeOf mesh plane p) f o a o o₂ m m₁
 unfolding probeOf cutOf probe
 probe-reply p b q mesh plane f ps o o₁ o₂ m m₁ r k a eb eq s ek d =
-    reply mesh plane (λ l. fine (probeWords (cond (off plane p) Missed (firstOver plane (project plane p) l)))) f (cutOf ps plane) (ofProbe q Missed) o o₁ o₂ m m₁ r a (missing b q) tt (missing-bad b q)
+    reply mesh plane (λ l. fine (probeWords (cond (offPlane plane p) Missed (firstOver plane (project plane p) l)))) f (cutOf ps plane) (ofProbe q Missed) o o₁ o₂ m m₁ r a (missing b q) tt (missing-bad b q)
     (λ ss. probe-gives mesh plane f _ q _ _ ss (kept b (cutOf ps plane) q ss) (rw (eb, eq))) s (rw (← ek) d)

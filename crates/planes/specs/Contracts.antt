@@ -18,7 +18,7 @@ use Rattle.planes_sums.specs.declared.Probed.the-variants.{Missed}
 use Rattle.planes_samples.specs.Sampling.{taken}
 use Rattle.planes_sums.specs.Statistics.{statisticsFrom}
 use Rattle.planes_sums.specs.Integrals.{integralsFrom}
-use Rattle.planes_sums.specs.Kept.{Kept, ofSection, ofStatistics, ofIntegrals, ofProbe}
+use Rattle.planes_sums.specs.Kept.{SampleSums, ofSection, ofStatistics, ofIntegrals, ofProbe}
 use Rattle.planes_sums.specs.Words.{sampleWords}
 use Rattle.planes.specs.Answers.{probeWords}
 
@@ -37,7 +37,7 @@ unfoldable pub integralsEnd : Result Integral → Result (List ℕ)
 integralsEnd r = r >>= integralsFrom
 
 -- a section's polygons stand already
-unfoldable pub ended : Result Kept → Result ℕ
+unfoldable pub ended : Result SampleSums → Result ℕ
 ended (refused n) = refused n
 ended (fine (ofSection polygons at)) = fine at
 ended (fine (ofStatistics field r)) = lengthOf (statisticsEnd r)
@@ -45,7 +45,7 @@ ended (fine (ofIntegrals r)) = lengthOf (integralsEnd r)
 ended (fine (ofProbe q r)) = fine 5
 
 -- the words that are written at the end
-unfoldable pub lastWords : Result Kept → List ℕ
+unfoldable pub lastWords : Result SampleSums → List ℕ
 lastWords (refused n) = []
 lastWords (fine (ofSection polygons at)) = polygons ∷ []
 lastWords (fine (ofStatistics field r)) = wordsOf (statisticsEnd r)
@@ -53,17 +53,17 @@ lastWords (fine (ofIntegrals r)) = wordsOf (integralsEnd r)
 lastWords (fine (ofProbe q r)) = probeWords r
 
 -- the answer is that of e, and its words stand from 0 on
-pub record Ended (e : Result (List ℕ)) (r : Answered) (o o′ : List ℕ) : Type 0 where
+pub record EndExit (e : Result (List ℕ)) (r : Answered) (o o′ : List ℕ) : Type 0 where
   pub result : answerOf r ≡ lengthOf e
   pub answers : o′ ≡ sets o 0 (wordsOf e)
 
 -- the same of what was kept
-pub record Closed (t : Result Kept) (r : Answered) (o o′ : List ℕ) : Type 0 where
+pub record FinishExit (t : Result SampleSums) (r : Answered) (o o′ : List ℕ) : Type 0 where
   pub result : answerOf r ≡ ended t
   pub answers : o′ ≡ sets o 0 (lastWords t)
 
 -- a point off the plane is over no sample
-unfoldable pub missing : Bool → Vec2 → Result Kept → Result Kept
+unfoldable pub missing : Bool → Vec2 → Result SampleSums → Result SampleSums
 missing false q t = t
 missing true q (fine t) = fine (ofProbe q Missed)
 missing true q (refused n) = refused n

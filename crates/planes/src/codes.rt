@@ -7,13 +7,13 @@ use arith::float;
 use case_file::Counts;
 use mesh_area::Sizes;
 use planes_cut::Plane;
-use planes_samples::Tallied;
+use planes_samples::Accumulated;
 use planes_samples::walk;
+use planes_sums::Accumulator;
 use planes_sums::Integral;
 use planes_sums::Probed;
 use planes_sums::Summed;
 use planes_sums::Sums;
-use planes_sums::Tally;
 use planes_sums::Weighed;
 use planes_sums::measures;
 use reading::Values;
@@ -32,9 +32,9 @@ ghost use Rattle.planes_sums.specs.Integrals as Integrals;
 ghost use Rattle.planes_sums.specs.Probe as Probe;
 ghost use Rattle.planes.specs.Answers.{probeWords, sectionOf, statisticsOf, integralsOf, probeOf};
 ghost use Rattle.planes_sums.specs.Kept.{sumsOf, integralOf};
-ghost use Rattle.planes_samples.specs.Contracts.{talliedOf, Ready};
-ghost use Rattle.answers.specs.Contracts.{Replied};
-ghost use Rattle.planes.specs.Contracts.{statisticsEnd, integralsEnd, missing, leftBy, Ended, Closed};
+ghost use Rattle.planes_samples.specs.Contracts.{accumulatedOf, SampleEntry};
+ghost use Rattle.answers.specs.Contracts.{Reply};
+ghost use Rattle.planes.specs.Contracts.{statisticsEnd, integralsEnd, missing, leftBy, EndExit, FinishExit};
 
 fn both(a: bool, b: bool) -> bool
     ensures { λ r. ⌜ r ≡ (a && b) ⌝ }
@@ -58,8 +58,8 @@ fn finite_integral(t: Integral) -> bool
 }
 
 // There is no area, or an integral is not finite.
-fn is_vacant(t: Integral) -> bool
-    ensures { λ r. ⌜ r ≡ Integrals.vacant t ⌝ }
+fn lacks_integrals(t: Integral) -> bool
+    ensures { λ r. ⌜ r ≡ Integrals.noIntegrals t ⌝ }
 {
     if t.area <= 0.0 {
         return true;
@@ -82,11 +82,11 @@ fn put_integrals(answers: &mut [u64], t: Integral)
 
 // The answer by the integrals.
 fn end_integrals(r: Weighed, answers: &mut [u64]) -> Answered
-    ensures { λ a. ⌜ Ended (integralsEnd (integralOf r)) a (now (answers .entry)) (now (answers .exit)) ⌝ }
+    ensures { λ a. ⌜ EndExit (integralsEnd (integralOf r)) a (now (answers .entry)) (now (answers .exit)) ⌝ }
 {
     match r {
         Weighed::Whole(t) => {
-            if is_vacant(t) {
+            if lacks_integrals(t) {
                 Answered::Refused(43)
             } else {
                 put_integrals(answers, t);
@@ -162,7 +162,7 @@ fn put_statistics(answers: &mut [u64], t: Sums)
 
 // The answer by the sums.
 fn end_statistics(r: Summed, answers: &mut [u64]) -> Answered
-    ensures { λ a. ⌜ Ended (statisticsEnd (sumsOf r)) a (now (answers .entry)) (now (answers .exit)) ⌝ }
+    ensures { λ a. ⌜ EndExit (statisticsEnd (sumsOf r)) a (now (answers .entry)) (now (answers .exit)) ⌝ }
 {
     match r {
         Summed::Total(t) => {
@@ -206,23 +206,23 @@ fn put_probed(r: Probed, answers: &mut [u64])
 }
 
 // The answer by what was kept.
-fn finish(r: Tallied, answers: &mut [u64]) -> Answered
-    ensures { λ a. ⌜ Closed (talliedOf r) a (now (answers .entry)) (now (answers .exit)) ⌝ }
+fn finish(r: Accumulated, answers: &mut [u64]) -> Answered
+    ensures { λ a. ⌜ FinishExit (accumulatedOf r) a (now (answers .entry)) (now (answers .exit)) ⌝ }
 {
     match r {
-        Tallied::Done(t) => match t {
-            Tally::Section(polygons, at) => {
+        Accumulated::Done(t) => match t {
+            Accumulator::Section(polygons, at) => {
                 answers::put(answers, 0, polygons as u64);
                 Answered::Words(at)
             }
-            Tally::Statistics(_, sums) => end_statistics(sums, answers),
-            Tally::Integrals(sums) => end_integrals(sums, answers),
-            Tally::Probe(_, found) => {
+            Accumulator::Statistics(_, sums) => end_statistics(sums, answers),
+            Accumulator::Integrals(sums) => end_integrals(sums, answers),
+            Accumulator::Probe(_, found) => {
                 put_probed(found, answers);
                 Answered::Words(5)
             }
         },
-        Tallied::Bad => Answered::Refused(39),
+        Accumulated::Bad => Answered::Refused(39),
     }
 }
 
@@ -237,15 +237,15 @@ pub fn section(
     answers: &mut [u64],
     marks: &mut [u8],
 ) -> Answered
-    requires { ⌜ Ready (now case) n s (now words) (now marks) ⌝ }
-    ensures { λ r. ⌜ ((floats : List Float) → Replied
+    requires { ⌜ SampleEntry (now case) n s (now words) (now marks) ⌝ }
+    ensures { λ r. ⌜ ((floats : List Float) → Reply
         (sectionOf (meshIn (pointsIn (now (case .entry)) (n .points)) s (now (words .entry)) floats) plane)
         (valuesOf (now (case .entry))) (leftBy (valuesOf (now (case .entry)))
         (intersect (meshIn (pointsIn (now (case .entry)) (n .points)) s (now (words .entry)) floats) plane)
         (now (answers .entry))) r (now (answers .entry)) (now (answers .exit)) (now (marks .entry))
         (now (marks .exit))) ⌝ }
 {
-    let t = Tally::Section(0, 1);
+    let t = Accumulator::Section(0, 1);
     let r = walk::sample_all(case, n, words, s, plane, t, answers, marks);
     finish(r, answers)
 }
@@ -260,8 +260,8 @@ pub fn integrals(
     answers: &mut [u64],
     marks: &mut [u8],
 ) -> Answered
-    requires { ⌜ Ready (now case) n s (now words) (now marks) ⌝ }
-    ensures { λ r. ⌜ ((floats : List Float) → Replied
+    requires { ⌜ SampleEntry (now case) n s (now words) (now marks) ⌝ }
+    ensures { λ r. ⌜ ((floats : List Float) → Reply
         (integralsOf (meshIn (pointsIn (now (case .entry)) (n .points)) s (now (words .entry)) floats) plane)
         (valuesOf (now (case .entry))) (now (answers .entry)) r (now (answers .entry)) (now (answers .exit))
         (now (marks .entry)) (now (marks .exit))) ⌝ }
@@ -272,19 +272,19 @@ pub fn integrals(
         speed: 0.0,
         flux: 0.0,
     };
-    let t = Tally::Integrals(Weighed::Whole(none));
+    let t = Accumulator::Integrals(Weighed::Whole(none));
     let r = walk::sample_all(case, n, words, s, plane, t, answers, marks);
     finish(r, answers)
 }
 
 // What was kept; nothing was found where the point is off the plane.
-fn unless_off(away: bool, q: Vec2, r: Tallied) -> Tallied
-    ensures { λ k. ⌜ talliedOf k ≡ missing away q (talliedOf r) ⌝ }
+fn unless_off(away: bool, q: Vec2, r: Accumulated) -> Accumulated
+    ensures { λ k. ⌜ accumulatedOf k ≡ missing away q (accumulatedOf r) ⌝ }
 {
     if away {
         match r {
-            Tallied::Done(_) => Tallied::Done(Tally::Probe(q, Probed::Missed)),
-            Tallied::Bad => Tallied::Bad,
+            Accumulated::Done(_) => Accumulated::Done(Accumulator::Probe(q, Probed::Missed)),
+            Accumulated::Bad => Accumulated::Bad,
         }
     } else {
         r
@@ -302,15 +302,15 @@ pub fn probe(
     answers: &mut [u64],
     marks: &mut [u8],
 ) -> Answered
-    requires { ⌜ Ready (now case) n s (now words) (now marks) ⌝ }
-    ensures { λ r. ⌜ ((floats : List Float) → Replied
+    requires { ⌜ SampleEntry (now case) n s (now words) (now marks) ⌝ }
+    ensures { λ r. ⌜ ((floats : List Float) → Reply
         (probeOf (meshIn (pointsIn (now (case .entry)) (n .points)) s (now (words .entry)) floats) plane p)
         (valuesOf (now (case .entry))) (now (answers .entry)) r (now (answers .entry)) (now (answers .exit))
         (now (marks .entry)) (now (marks .exit))) ⌝ }
 {
     let away = measures::off(plane, p);
     let q = measures::project(plane, p);
-    let t = Tally::Probe(q, Probed::Missed);
+    let t = Accumulator::Probe(q, Probed::Missed);
     let r = walk::sample_all(case, n, words, s, plane, t, answers, marks);
     finish(unless_off(away, q, r), answers)
 }
@@ -326,8 +326,8 @@ pub fn statistics(
     answers: &mut [u64],
     marks: &mut [u8],
 ) -> Answered
-    requires { ⌜ Ready (now case) n s (now words) (now marks) ⌝ }
-    ensures { λ r. ⌜ ((floats : List Float) → Replied
+    requires { ⌜ SampleEntry (now case) n s (now words) (now marks) ⌝ }
+    ensures { λ r. ⌜ ((floats : List Float) → Reply
         (statisticsOf (meshIn (pointsIn (now (case .entry)) (n .points)) s (now (words .entry)) floats) plane field)
         (valuesOf (now (case .entry))) (now (answers .entry)) r (now (answers .entry)) (now (answers .exit))
         (now (marks .entry)) (now (marks .exit))) ⌝ }
@@ -344,7 +344,7 @@ pub fn statistics(
         negative: 0.0,
         weighted: 0.0,
     };
-    let t = Tally::Statistics(field, Summed::Total(none));
+    let t = Accumulator::Statistics(field, Summed::Total(none));
     let r = walk::sample_all(case, n, words, s, plane, t, answers, marks);
     finish(r, answers)
 }

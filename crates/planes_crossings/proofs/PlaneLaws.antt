@@ -11,10 +11,10 @@ use Rattle.arith.specs.F64.{abs}
 use Rattle.arith.specs.Lists.{addNew}
 use Rattle.arith.specs.declared.Vec3.{Vec3}
 use Rattle.planes_cut.specs.declared.Cut.{Cut}
-use Rattle.planes_crossings.specs.declared.Meeting.the-variants.{Point, None}
+use Rattle.planes_crossings.specs.declared.Crossing.the-variants.{Point, None}
 use Rattle.planes_cut.specs.Cut.{height, near, below, above}
-use Rattle.planes_crossings.specs.Crossings.{rises, parted, close, between, addEnd, addBetween, addMeeting}
-use Rattle.planes_crossings.specs.Contracts.{meetingOf}
+use Rattle.planes_crossings.specs.Crossings.{rises, parted, close, between, addEnd, addBetween, addCrossing}
+use Rattle.planes_crossings.specs.Contracts.{crossingOf}
 
 or-cases : (a b : Bool) → (a || b) ≡ true → a ≡ false → b ≡ true
 or-cases true b e f = absurd (true≢false f)
@@ -79,8 +79,8 @@ module _ (c : Cut) (a b : Vec3) where
       last false = refl
 
   module _ (l : List Vec3) where
-    pub meeting-point : (p : Vec3) → meetingOf c a b ≡ Point p → addNew (close c) l p ≡ addMeeting c l a b
-    unfolding meetingOf addMeeting addEnd addBetween
+    pub meeting-point : (p : Vec3) → crossingOf c a b ≡ Point p → addNew (close c) l p ≡ addCrossing c l a b
+    unfolding crossingOf addCrossing addEnd addBetween
     meeting-point p e = by (near c a) refl (parted c a b) refl e
       where
         by : (t : Bool) → near c a ≡ t → (u : Bool) → parted c a b ≡ u → cond t (Point a) (cond u (Point (between c a b)) None) ≡ Point p →
@@ -89,8 +89,8 @@ module _ (c : Cut) (a b : Vec3) where
         by false g true k e = let w : between c a b ≡ p = cc in rw (k, g, w)
         by false g false k e = absurd (let z : _≡_ {A = ℕ} 0 1 = cc in omega arith)
 
-    pub meeting-none : meetingOf c a b ≡ None → l ≡ addMeeting c l a b
-    unfolding meetingOf addMeeting addEnd addBetween
+    pub meeting-none : crossingOf c a b ≡ None → l ≡ addCrossing c l a b
+    unfolding crossingOf addCrossing addEnd addBetween
     meeting-none e = by (near c a) refl (parted c a b) refl e
       where
         by : (t : Bool) → near c a ≡ t → (u : Bool) → parted c a b ≡ u → cond t (Point a) (cond u (Point (between c a b)) None) ≡ None →

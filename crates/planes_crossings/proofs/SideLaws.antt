@@ -14,10 +14,10 @@ use Rattle.mesh_area.specs.declared.Sizes.{Sizes}
 use Rattle.mesh_area.specs.Tables.{Mesh, faceAt, cellAt}
 use Rattle.mesh_area.specs.Layout.{facesIn, cellsIn, meshIn}
 use Rattle.planes_cut.specs.declared.Cut.{Cut}
-use Rattle.planes_cut.specs.Contracts.{bare, cornerOf}
+use Rattle.planes_cut.specs.Contracts.{bare, faceVertex}
 use Rattle.planes_cut.proofs.Turns.{Here, Past, fold-turn}
-use Rattle.planes_crossings.specs.Crossings.{shared, foreign, onPlane, addMeeting, addSide}
-use Rattle.planes_crossings.specs.Contracts.{sideAt, heldIn, Bounded, Listed}
+use Rattle.planes_crossings.specs.Crossings.{shared, foreign, onPlane, addCrossing, addSide}
+use Rattle.planes_crossings.specs.Contracts.{sideAt, slicePoints, MeshLimits, PointList}
 
 -- ---- the sides of a face
 
@@ -45,7 +45,7 @@ module _ (case : List ℕ) (points : ℕ) (s : Sizes) (words : List ℕ) where
   pub few-vertices : (f n : ℕ) → n ≡ length (faceAt (facesIn s words []) f .vertices) → length (faceAt (bare case points s words .faces) f .vertices) ≤ 8 → n ≤ 8
   few-vertices f n e h = rw (count-vertices f n e) h
 
-  pub few-faces : (i n : ℕ) → n ≡ length (cellAt (cellsIn s words []) i .faces) → Bounded (bare case points s words) → n ≤ 24
+  pub few-faces : (i n : ℕ) → n ≡ length (cellAt (cellsIn s words []) i .faces) → MeshLimits (bare case points s words) → n ≤ 24
   unfolding bare meshIn
   few-faces i n e b = rw e (b .few-faces i)
 
@@ -69,22 +69,22 @@ module _ (m : Mesh) (c : Cut) (cell f : ℕ) where
   unfolding foreign
   foreign-other e n = rw (e, ne-eqb _ _ n)
 
--- ---- a side by its corners
+-- ---- a side by its vertices
 
 pub after-within : (n k : ℕ) → k + 1 < n → after n k ≡ k + 1
 after-within n k h = rw (ne-eqb (k + 1) n (λ e. omega arith))
 
-pub side-added : (m : Mesh) (c : Cut) (l : List Vec3) (f k j n : ℕ) (a b : Vec3) → a ≡ cornerOf m f k → b ≡ cornerOf m f j → j ≡ after n k →
-    n ≡ length (faceAt (m .faces) f .vertices) → addMeeting c l a b ≡ addSide m c l (sideAt (faceAt (m .faces) f .vertices) k)
-unfolding addSide sideAt cornerOf
+pub side-added : (m : Mesh) (c : Cut) (l : List Vec3) (f k j n : ℕ) (a b : Vec3) → a ≡ faceVertex m f k → b ≡ faceVertex m f j → j ≡ after n k →
+    n ≡ length (faceAt (m .faces) f .vertices) → addCrossing c l a b ≡ addSide m c l (sideAt (faceAt (m .faces) f .vertices) k)
+unfolding addSide sideAt faceVertex
 side-added m c l f k j n a b ea eb ej en = rw (ea, eb, ej, en)
 
 -- ---- lists in slices
 
-pub listed-as : {l k : List Vec3} {x y z x′ y′ z′ : List Float} {from n most : ℕ} → l ≡ k → Listed l x y z x′ y′ z′ from n most → Listed k x y z x′ y′ z′ from n most
+pub listed-as : {l k : List Vec3} {x y z x′ y′ z′ : List Float} {from n most : ℕ} → l ≡ k → PointList l x y z x′ y′ z′ from n most → PointList k x y z x′ y′ z′ from n most
 listed-as e h = record { list = h .list ∙ e; more = h .more; few = h .few; rest = h .rest }
 
 -- one turn: a list that is extended, while the rest waits
 pub listed-turn : {A : Type 0} {l : List A} {i : ℕ} {a : A} (g : Here l i a) (f : List Vec3 → A → List Vec3) (k : List Vec3) {w : List Vec3} {x y z x′ y′ z′ : List Float} {from : ℕ} (n : ℕ) {most : ℕ} →
-    fold f k (drop i l) ≡ w → Listed (f k a) x y z x′ y′ z′ from n most → fold f (heldIn x′ y′ z′ n) (drop (i + 1) l) ≡ w
+    fold f k (drop i l) ≡ w → PointList (f k a) x y z x′ y′ z′ from n most → fold f (slicePoints x′ y′ z′ n) (drop (i + 1) l) ≡ w
 listed-turn g f k n inv h = fold-turn g f k inv (h .list)

@@ -13,8 +13,8 @@ use Rattle.mesh_area.specs.Tables.{Mesh, faceAt, cellAt}
 use Rattle.planes_cut.specs.declared.Cut.{Cut}
 use Rattle.planes_cut.specs.Cut.{height, near}
 use Rattle.planes_crossings.specs.declared.End.{End}
-use Rattle.planes_crossings.specs.declared.Meeting.{Meeting}
-use Rattle.planes_crossings.specs.declared.Meeting.the-variants.{Point, None}
+use Rattle.planes_crossings.specs.declared.Crossing.{Crossing}
+use Rattle.planes_crossings.specs.declared.Crossing.the-variants.{Point, None}
 use Rattle.planes_crossings.specs.Crossings.{parted, between}
 
 -- ---- points held in three slices
@@ -24,38 +24,38 @@ unfoldable pub pointIn : List Float → List Float → List Float → ℕ → Ve
 pointIn x y z i = vec (getD x i nan) (getD y i nan) (getD z i nan)
 
 -- the first n of them
-unfoldable pub heldIn : List Float → List Float → List Float → ℕ → List Vec3
-heldIn x y z n = tab (pointIn x y z) n
+unfoldable pub slicePoints : List Float → List Float → List Float → ℕ → List Vec3
+slicePoints x y z n = tab (pointIn x y z) n
 
 -- there are n of them
-pub record Holds (x y z : List Float) (n : ℕ) : Type 0 where
+pub record SliceLengths (x y z : List Float) (n : ℕ) : Type 0 where
   pub in-x : n ≤ length x
   pub in-y : n ≤ length y
   pub in-z : n ≤ length z
 
 -- point i is stored, and nothing else changes
-pub record Stored (x y z x′ y′ z′ : List Float) (i : ℕ) (p : Vec3) : Type 0 where
+pub record StoreExit (x y z x′ y′ z′ : List Float) (i : ℕ) (p : Vec3) : Type 0 where
   pub of-x : x′ ≡ set x i (p .x)
   pub of-y : y′ ≡ set y i (p .y)
   pub of-z : z′ ≡ set z i (p .z)
 
 -- from n on the slices are as they were
-pub record Rest (x y z x′ y′ z′ : List Float) (n : ℕ) : Type 0 where
+pub record SlicesKept (x y z x′ y′ z′ : List Float) (n : ℕ) : Type 0 where
   pub of-x : drop n x′ ≡ drop n x
   pub of-y : drop n y′ ≡ drop n y
   pub of-z : drop n z′ ≡ drop n z
 
 -- the list `l` stands in the slices, n of it where there were `from`, at most `most`; behind it they are as they were
-pub record Listed (l : List Vec3) (x y z x′ y′ z′ : List Float) (from n most : ℕ) : Type 0 where
-  pub list : heldIn x′ y′ z′ n ≡ l
+pub record PointList (l : List Vec3) (x y z x′ y′ z′ : List Float) (from n most : ℕ) : Type 0 where
+  pub list : slicePoints x′ y′ z′ n ≡ l
   pub more : from ≤ n
   pub few : n ≤ most
-  pub rest : Rest x y z x′ y′ z′ n
+  pub rest : SlicesKept x y z x′ y′ z′ n
 
 -- ---- a mesh
 
 -- "a face count (at most 24), then per face a count (at most 8)": what the mesh layer promises of every cell and face
-pub record Bounded (m : Mesh) : Type 0 where
+pub record MeshLimits (m : Mesh) : Type 0 where
   pub few-faces : (i : ℕ) → length (cellAt (m .cells) i .faces) ≤ 24
   pub few-vertices : (f : ℕ) → length (faceAt (m .faces) f .vertices) ≤ 8
 
@@ -70,5 +70,5 @@ pub record TrueHeight (c : Cut) (a : End) : Type 0 where
   pub same : a .height ≡ height c (a .point)
 
 -- where a side from a to b meets the plane, or that it does not
-unfoldable pub meetingOf : Cut → Vec3 → Vec3 → Meeting
-meetingOf c a b = cond (near c a) (Point a) (cond (parted c a b) (Point (between c a b)) None)
+unfoldable pub crossingOf : Cut → Vec3 → Vec3 → Crossing
+crossingOf c a b = cond (near c a) (Point a) (cond (parted c a b) (Point (between c a b)) None)

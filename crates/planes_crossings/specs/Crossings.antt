@@ -39,8 +39,8 @@ module _ (c : Cut) where
   addBetween l a b = cond (parted a b) (addNew close l (between a b)) l
 
   -- both, in this order
-  unfoldable pub addMeeting : List Vec3 → Vec3 → Vec3 → List Vec3
-  addMeeting l a b = addBetween (addEnd l a) a b
+  unfoldable pub addCrossing : List Vec3 → Vec3 → Vec3 → List Vec3
+  addCrossing l a b = addBetween (addEnd l a) a b
 
 -- there is a cell on the other side
 unfoldable pub shared : Found → Bool
@@ -60,12 +60,12 @@ module _ (m : Mesh) (c : Cut) where
 
   -- a side of a face, by its points' numbers
   unfoldable pub addSide : List Vec3 → Side ℕ → List Vec3
-  addSide l side = addMeeting c l (pointAt (m .points) (side .from)) (pointAt (m .points) (side .to))
+  addSide l side = addCrossing c l (pointAt (m .points) (side .from)) (pointAt (m .points) (side .to))
 
   -- around one face
   unfoldable pub addFace : List Vec3 → ℕ → List Vec3
   addFace l f = fold addSide l (sides (faceAt (m .faces) f .vertices))
 
   -- all faces of a cell
-  unfoldable pub meetings : List ℕ → List Vec3
-  meetings fs = fold addFace [] fs
+  unfoldable pub crossings : List ℕ → List Vec3
+  crossings fs = fold addFace [] fs

@@ -1,8 +1,8 @@
 // Where a plane meets the sides of one cell.
 use arith::Vec3;
 
-pub mod held;
-pub mod meetings;
+pub mod crossings;
+pub mod slices;
 
 // An end of a side with its height over the plane.
 struct End {
@@ -11,7 +11,7 @@ struct End {
 }
 
 // Where a side meets the plane.
-enum Meeting {
+enum Crossing {
     Point(Vec3),
     None,
 }

@@ -18,17 +18,17 @@ wider from r p = fmax r (normSquared (minus p from))
 unfoldable pub farther : Float → Vec3 → Float
 farther r p = fmax r (normSquared p)
 
-root-nought : root 0·0 ≡ 0·0
+root-zero : root 0·0 ≡ 0·0
 unfolding root ofBits
-root-nought = refl
+root-zero = refl
 
-nought-fits : T (fits binary64 0·0)
+zero-fits : T (fits binary64 0·0)
 unfolding fits ofBits
-nought-fits = tt
+zero-fits = tt
 
 pub widest-root : (from : Vec3) (l : List Vec3) → root (fold (wider from) 0·0 l) ≡ fold (widest from) 0·0 l
 unfolding wider widest
-widest-root from l = sym (ap (λ (s : Float). fold (widest from) s l) (sym root-nought) ∙ largest-norm (λ p. minus p from) 0·0 l nought-fits)
+widest-root from l = sym (ap (λ (s : Float). fold (widest from) s l) (sym root-zero) ∙ largest-norm (λ p. minus p from) 0·0 l zero-fits)
 
 pub farthest-root : (from : Vec3) (l : List Vec3) → root (fold farther (normSquared from) l) ≡ fold farthest (norm from) l
 unfolding farther farthest norm

@@ -19,14 +19,14 @@ unfoldable pub bare : List ℕ → ℕ → Sizes → List ℕ → Mesh
 bare case points s words = meshIn (pointsIn case points) s words []
 
 -- what is lent, as the area's functions want it
-pub record Lent (case : List ℕ) (points : ℕ) (s : Sizes) (words : List ℕ) : Type 0 where
+pub record MeshLent (case : List ℕ) (points : ℕ) (s : Sizes) (words : List ℕ) : Type 0 where
   pub few-points : points ≤ 65536
   pub long-case : 24 * points ≤ length case
   pub long-words : LentWords s words
 
--- corner k of face f
-unfoldable pub cornerOf : Mesh → ℕ → ℕ → Vec3
-cornerOf m f k = pointAt (m .points) (getD (faceAt (m .faces) f .vertices) k 0)
+-- vertex k of face f
+unfoldable pub faceVertex : Mesh → ℕ → ℕ → Vec3
+faceVertex m f k = pointAt (m .points) (getD (faceAt (m .faces) f .vertices) k 0)
 
 -- ---- what the points of a cell show at a glance: whether one lies in the plane, one below, one above
 

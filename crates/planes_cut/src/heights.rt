@@ -6,7 +6,7 @@ use arith::Vec3;
 use mesh_area::Sizes;
 ghost use mathlib.Core.Path.{_≡_};
 ghost use Rattle.planes_cut.specs.Cut as Cuts;
-ghost use Rattle.planes_cut.specs.Contracts.{bare, Lent, cornerOf, faceSigns, signWith, signsOf, mayMeet};
+ghost use Rattle.planes_cut.specs.Contracts.{bare, MeshLent, faceVertex, faceSigns, signWith, signsOf, mayMeet};
 
 // How far p lies from the plane.
 pub fn height(cut: Cut, p: Vec3) -> f64
@@ -38,10 +38,10 @@ fn add_sign(cut: Cut, p: Vec3, g: Signs) -> Signs
     }
 }
 
-// Corner k of face f.
-pub fn corner(case: &[u8], points: usize, words: &[u32], s: Sizes, f: usize, k: usize) -> Vec3
-    requires { ⌜ Lent (now case) points s (now words) ⌝ }
-    ensures { λ r. ⌜ r ≡ cornerOf (bare (now (case .entry)) points s (now (words .entry))) f k ⌝ }
+// Vertex k of face f.
+pub fn face_vertex(case: &[u8], points: usize, words: &[u32], s: Sizes, f: usize, k: usize) -> Vec3
+    requires { ⌜ MeshLent (now case) points s (now words) ⌝ }
+    ensures { λ r. ⌜ r ≡ faceVertex (bare (now (case .entry)) points s (now (words .entry))) f k ⌝ }
 {
     let i = mesh_area::vertex(words, s, f, k);
     mesh_area::point_at(case, points, i)
@@ -57,14 +57,14 @@ fn add_face(
     f: usize,
     signs: Signs,
 ) -> Signs
-    requires { ⌜ Lent (now case) points s (now words) ⌝ }
+    requires { ⌜ MeshLent (now case) points s (now words) ⌝ }
     ensures { λ r. ⌜ r ≡ faceSigns (bare (now (case .entry)) points s (now (words .entry))) cut signs f ⌝ }
 {
     let mut g = signs;
     let n = mesh_area::vertex_count(words, s, f);
     let mut k = 0;
     while k < n {
-        g = add_sign(cut, corner(case, points, words, s, f, k), g);
+        g = add_sign(cut, face_vertex(case, points, words, s, f, k), g);
         k += 1;
     }
     g
@@ -79,7 +79,7 @@ fn meets(g: Signs) -> bool
 
 // The plane may meet the cell: the faces are read up to the one that tells.
 pub fn may_meet(case: &[u8], points: usize, words: &[u32], s: Sizes, cut: Cut, cell: usize) -> bool
-    requires { ⌜ Lent (now case) points s (now words) ⌝ }
+    requires { ⌜ MeshLent (now case) points s (now words) ⌝ }
     ensures { λ r. ⌜ r ≡ mayMeet (signsOf (bare (now (case .entry)) points s (now (words .entry))) cut cell) ⌝ }
 {
     let mut g = Signs {

@@ -7,7 +7,7 @@ ghost use mathlib.Core.Path.{_≡_};
 ghost use Prim.Native.Nat.{_≤_};
 ghost use lib.ListN.{length};
 ghost use Rattle.arith.specs.Lists as Lists;
-ghost use Rattle.planes_crossings.specs.Contracts.{heldIn, Holds, Rest};
+ghost use Rattle.planes_crossings.specs.Contracts.{slicePoints, SliceLengths, SlicesKept};
 ghost use Rattle.planes_sections.specs.Intersect.{earlierOn};
 
 // The points of three slices, sorted by angle into three others, by means of three more.
@@ -24,13 +24,13 @@ fn arrange_by(
     slopes: &mut [f64],
     places: &mut [usize],
 )
-    requires { ⌜ Holds (now px) (now py) (now pz) (length (now quarters))
-        × Holds (now x) (now y) (now z) (length (now quarters)) ⌝ }
+    requires { ⌜ SliceLengths (now px) (now py) (now pz) (length (now quarters))
+        × SliceLengths (now x) (now y) (now z) (length (now quarters)) ⌝ }
     requires { ⌜ (length (now slopes) ≡ length (now quarters)) × (length (now places) ≡ length (now quarters)) ⌝ }
-    ensures { λ _. ⌜ (heldIn (now (x .exit)) (now (y .exit)) (now (z .exit)) (length (now (quarters .entry)))
+    ensures { λ _. ⌜ (slicePoints (now (x .exit)) (now (y .exit)) (now (z .exit)) (length (now (quarters .entry)))
         ≡ Lists.sort (earlierOn plane centre)
-        (heldIn (now (px .entry)) (now (py .entry)) (now (pz .entry)) (length (now (quarters .entry)))))
-        × Rest (now (x .entry)) (now (y .entry)) (now (z .entry)) (now (x .exit)) (now (y .exit)) (now (z .exit))
+        (slicePoints (now (px .entry)) (now (py .entry)) (now (pz .entry)) (length (now (quarters .entry)))))
+        × SlicesKept (now (x .entry)) (now (y .entry)) (now (z .entry)) (now (x .exit)) (now (y .exit)) (now (z .exit))
         (length (now (quarters .entry))) ⌝ }
 {
     angles::angles_of(plane, centre, px, py, pz, quarters, slopes);
@@ -53,11 +53,11 @@ fn arrange_first(
     slopes: &mut [f64],
     places: &mut [usize],
 )
-    requires { ⌜ Holds (now px) (now py) (now pz) n × Holds (now x) (now y) (now z) n ⌝ }
+    requires { ⌜ SliceLengths (now px) (now py) (now pz) n × SliceLengths (now x) (now y) (now z) n ⌝ }
     requires { ⌜ (n ≤ length (now quarters)) × (n ≤ length (now slopes)) × (n ≤ length (now places)) ⌝ }
-    ensures { λ _. ⌜ (heldIn (now (x .exit)) (now (y .exit)) (now (z .exit)) n
-        ≡ Lists.sort (earlierOn plane centre) (heldIn (now (px .entry)) (now (py .entry)) (now (pz .entry)) n))
-        × Rest (now (x .entry)) (now (y .entry)) (now (z .entry)) (now (x .exit)) (now (y .exit)) (now (z .exit)) n ⌝ }
+    ensures { λ _. ⌜ (slicePoints (now (x .exit)) (now (y .exit)) (now (z .exit)) n
+        ≡ Lists.sort (earlierOn plane centre) (slicePoints (now (px .entry)) (now (py .entry)) (now (pz .entry)) n))
+        × SlicesKept (now (x .entry)) (now (y .entry)) (now (z .entry)) (now (x .exit)) (now (y .exit)) (now (z .exit)) n ⌝ }
 {
     arrange_by(
         plane,
@@ -86,10 +86,10 @@ pub(crate) fn arrange(
     y: &mut [f64],
     z: &mut [f64],
 )
-    requires { ⌜ Holds (now px) (now py) (now pz) n × Holds (now x) (now y) (now z) n × (n ≤ 192) ⌝ }
-    ensures { λ _. ⌜ (heldIn (now (x .exit)) (now (y .exit)) (now (z .exit)) n
-        ≡ Lists.sort (earlierOn plane centre) (heldIn (now (px .entry)) (now (py .entry)) (now (pz .entry)) n))
-        × Rest (now (x .entry)) (now (y .entry)) (now (z .entry)) (now (x .exit)) (now (y .exit)) (now (z .exit)) n ⌝ }
+    requires { ⌜ SliceLengths (now px) (now py) (now pz) n × SliceLengths (now x) (now y) (now z) n × (n ≤ 192) ⌝ }
+    ensures { λ _. ⌜ (slicePoints (now (x .exit)) (now (y .exit)) (now (z .exit)) n
+        ≡ Lists.sort (earlierOn plane centre) (slicePoints (now (px .entry)) (now (py .entry)) (now (pz .entry)) n))
+        × SlicesKept (now (x .entry)) (now (y .entry)) (now (z .entry)) (now (x .exit)) (now (y .exit)) (now (z .exit)) n ⌝ }
 {
     let mut quarters = [0u64; 192];
     let mut slopes = [0.0; 192];

@@ -1,27 +1,27 @@
 // The piece that the plane cuts from one cell.
 use crate::arrange;
 use mesh_area::Sizes;
-use planes_crossings::meetings;
+use planes_crossings::crossings;
 use planes_cut::Cut;
 use planes_cut::heights;
 use planes_sections::Piece;
-use planes_sections::middle;
+use planes_sections::measures;
 ghost use mathlib.Core.Path.{_≡_};
 ghost use mathlib.Core.List.{List};
 ghost use Prim.Native.Nat.{_≤_};
 ghost use lib.Ieee.{Float};
 ghost use Rattle.mesh_area.specs.Layout.{pointsIn, meshIn};
 ghost use Rattle.planes_sections.specs.Intersect.{wide};
-ghost use Rattle.planes_crossings.specs.Contracts.{heldIn, Holds, Bounded};
-ghost use Rattle.planes_cut.specs.Contracts.{Lent, bare};
-ghost use Rattle.planes_sections.specs.Contracts.{PiecedAbout, Pieced};
+ghost use Rattle.planes_crossings.specs.Contracts.{slicePoints, SliceLengths, MeshLimits};
+ghost use Rattle.planes_cut.specs.Contracts.{MeshLent, bare};
+ghost use Rattle.planes_sections.specs.Contracts.{PieceAboutExit, PieceOfExit};
 
 // The polygon's area is above the square of the tolerance.
 fn is_wide(cut: Cut, x: &[f64], y: &[f64], z: &[f64], n: usize) -> bool
-    requires { ⌜ Holds (now x) (now y) (now z) n × (1 ≤ n) ⌝ }
-    ensures { λ r. ⌜ r ≡ wide cut (heldIn (now (x .entry)) (now (y .entry)) (now (z .entry)) n) ⌝ }
+    requires { ⌜ SliceLengths (now x) (now y) (now z) n × (1 ≤ n) ⌝ }
+    ensures { λ r. ⌜ r ≡ wide cut (slicePoints (now (x .entry)) (now (y .entry)) (now (z .entry)) n) ⌝ }
 {
-    let area = middle::area(x, y, z, n);
+    let area = measures::area(x, y, z, n);
     cut.tolerance * cut.tolerance < area
 }
 
@@ -36,14 +36,14 @@ fn piece_about(
     y: &mut [f64],
     z: &mut [f64],
 ) -> Piece
-    requires { ⌜ Holds (now px) (now py) (now pz) n × Holds (now x) (now y) (now z) n × (n ≤ 192) ⌝ }
-    ensures { λ r. ⌜ PiecedAbout cut (heldIn (now (px .entry)) (now (py .entry)) (now (pz .entry)) n) r
+    requires { ⌜ SliceLengths (now px) (now py) (now pz) n × SliceLengths (now x) (now y) (now z) n × (n ≤ 192) ⌝ }
+    ensures { λ r. ⌜ PieceAboutExit cut (slicePoints (now (px .entry)) (now (py .entry)) (now (pz .entry)) n) r
         (now (x .entry)) (now (y .entry)) (now (z .entry)) (now (x .exit)) (now (y .exit)) (now (z .exit)) ⌝ }
 {
     if n < 3 {
         return Piece::Empty;
     }
-    let centre = middle::average(px, py, pz, n);
+    let centre = measures::section_centre(px, py, pz, n);
     arrange::arrange(cut.plane, centre, px, py, pz, n, x, y, z);
     if is_wide(cut, x, y, z, n) {
         Piece::Of(centre, n)
@@ -64,18 +64,18 @@ fn cut_cell(
     y: &mut [f64],
     z: &mut [f64],
 ) -> Piece
-    requires { ⌜ Lent (now case) points s (now words) × Holds (now x) (now y) (now z) 192 ⌝ }
-    requires { ⌜ Bounded (bare (now case) points s (now words)) ⌝ }
-    ensures { λ r. ⌜ Pieced (bare (now (case .entry)) points s (now (words .entry))) cut cell r
+    requires { ⌜ MeshLent (now case) points s (now words) × SliceLengths (now x) (now y) (now z) 192 ⌝ }
+    requires { ⌜ MeshLimits (bare (now case) points s (now words)) ⌝ }
+    ensures { λ r. ⌜ PieceOfExit (bare (now (case .entry)) points s (now (words .entry))) cut cell r
         (now (x .entry)) (now (y .entry)) (now (z .entry)) (now (x .exit)) (now (y .exit)) (now (z .exit)) ⌝ }
 {
-    if meetings::has_foreign(case, points, words, s, cut, cell) {
+    if crossings::has_foreign(case, points, words, s, cut, cell) {
         return Piece::Empty;
     }
     let mut px = [0.0; 192];
     let mut py = [0.0; 192];
     let mut pz = [0.0; 192];
-    let n = meetings::meetings(case, points, words, s, cut, cell, &mut px, &mut py, &mut pz);
+    let n = crossings::crossings(case, points, words, s, cut, cell, &mut px, &mut py, &mut pz);
     piece_about(cut, &px, &py, &pz, n, x, y, z)
 }
 
@@ -91,9 +91,9 @@ pub fn piece_of(
     y: &mut [f64],
     z: &mut [f64],
 ) -> Piece
-    requires { ⌜ Lent (now case) points s (now words) × Holds (now x) (now y) (now z) 192 ⌝ }
-    requires { ⌜ Bounded (bare (now case) points s (now words)) ⌝ }
-    ensures { λ r. ⌜ ((floats : List Float) → Pieced
+    requires { ⌜ MeshLent (now case) points s (now words) × SliceLengths (now x) (now y) (now z) 192 ⌝ }
+    requires { ⌜ MeshLimits (bare (now case) points s (now words)) ⌝ }
+    ensures { λ r. ⌜ ((floats : List Float) → PieceOfExit
         (meshIn (pointsIn (now (case .entry)) points) s (now (words .entry)) floats) cut cell r
         (now (x .entry)) (now (y .entry)) (now (z .entry)) (now (x .exit)) (now (y .exit)) (now (z .exit))) ⌝ }
 {

@@ -21,24 +21,24 @@ use Rattle.planes_sections.specs.declared.Piece.{Piece}
 use Rattle.planes_sections.specs.declared.Piece.the-variants.{Of, Empty}
 use Rattle.planes_cut.specs.Cut.{cutOf}
 use Rattle.planes_sections.specs.Intersect.{PlaneCell, pieceOf, piecesFrom, intersect}
-use Rattle.planes_crossings.specs.Contracts.{Holds}
+use Rattle.planes_crossings.specs.Contracts.{SliceLengths}
 use Rattle.planes_cut.specs.Contracts.{bare}
-use Rattle.planes_sections.specs.Contracts.{pieceIn, verticesOf, Pieced}
+use Rattle.planes_sections.specs.Contracts.{pieceIn, verticesOf, PieceOfExit}
 use Rattle.planes_crossings.proofs.HeldLaws.{length-held}
 use Rattle.planes_sections.proofs.PieceLaws.{same-piece}
-use Rattle.planes_sums.specs.declared.Tally.{Tally}
-use Rattle.planes_samples.specs.declared.Tallied.{Tallied}
-use Rattle.planes_samples.specs.declared.Tallied.the-variants.{Done, Bad}
-use Rattle.planes_sums.specs.Sample.{sound}
-use Rattle.planes_samples.specs.Contracts.{talliedOf, Stream, stream, Streamed, Stepped, Ready}
-use Rattle.planes_sums.specs.Kept.{Kept, keptOf, addTo, written, cellIn, sampleIn, sizeOf, Added}
+use Rattle.planes_sums.specs.declared.Accumulator.{Accumulator}
+use Rattle.planes_samples.specs.declared.Accumulated.{Accumulated}
+use Rattle.planes_samples.specs.declared.Accumulated.the-variants.{Done, Bad}
+use Rattle.planes_sums.specs.Sample.{hasFiniteValues}
+use Rattle.planes_samples.specs.Contracts.{accumulatedOf, Stream, stream, SampleAllExit, StepExit, SampleEntry}
+use Rattle.planes_sums.specs.Kept.{SampleSums, sampleSumsOf, addTo, written, cellIn, sampleIn, sizeOf, AddExit}
 use Rattle.planes_samples.proofs.StreamLaws.{stream-nil, stream-sound, stream-bad, stream-then, stream-stop}
-use Rattle.planes_sums.proofs.TallyLaws.{added-grows}
+use Rattle.planes_sums.proofs.AccumulatorLaws.{added-grows}
 
-pub as-record : (s : Stream) (r : Tallied) (o m : List ℕ) → Streamed s r o m → s ≡ record { outcome = talliedOf r; answers = o; marks = m }
+pub as-record : (s : Stream) (r : Accumulated) (o m : List ℕ) → SampleAllExit s r o m → s ≡ record { outcome = accumulatedOf r; answers = o; marks = m }
 as-record s r o m h = rw (h .outcome, h .answers, h .marks)
 
-pub of-record : (s : Stream) (r : Tallied) (o m : List ℕ) → s ≡ record { outcome = talliedOf r; answers = o; marks = m } → Streamed s r o m
+pub of-record : (s : Stream) (r : Accumulated) (o m : List ℕ) → s ≡ record { outcome = accumulatedOf r; answers = o; marks = m } → SampleAllExit s r o m
 of-record s r o m e =
     record {
       outcome = sym (ap (λ (s : Stream). s .outcome) e);
@@ -48,46 +48,46 @@ of-record s r o m e =
 
 -- ---- one sample
 
-module _ (c : Cut) (f : ℕ → Values) (t : Tally) (cell : ℕ) (centre : Vec3) (n : ℕ) (x y z : List Float) (o m m′ : List ℕ) (v : Values) (b : Bool)
-    (ev : v ≡ f cell) (em : m′ ≡ set m cell 1) (eb : b ≡ sound v) where
-  pub sample-taken : (t′ : Tally) (o′ : List ℕ) → b ≡ true → n ≤ 192 → Added c t (sampleIn cell centre n v x y z) t′ o o′ →
-      Stepped (stream c f (cellIn cell centre n x y z ∷ []) (keptOf t) o m) t (Done t′) o′ m′
-  unfolding talliedOf
+module _ (c : Cut) (f : ℕ → Values) (t : Accumulator) (cell : ℕ) (centre : Vec3) (n : ℕ) (x y z : List Float) (o m m′ : List ℕ) (v : Values) (b : Bool)
+    (ev : v ≡ f cell) (em : m′ ≡ set m cell 1) (eb : b ≡ hasFiniteValues v) where
+  pub sample-taken : (t′ : Accumulator) (o′ : List ℕ) → b ≡ true → n ≤ 192 → AddExit c t (sampleIn cell centre n v x y z) t′ o o′ →
+      StepExit (stream c f (cellIn cell centre n x y z ∷ []) (sampleSumsOf t) o m) t (Done t′) o′ m′
+  unfolding accumulatedOf
   sample-taken t′ o′ h few a₀ =
-      let a : Added c t (sampleIn cell centre n (f cell) x y z) t′ o o′ = subst (λ (u : Values). Added c t (sampleIn cell centre n u x y z) t′ o o′) ev a₀ in
+      let a : AddExit c t (sampleIn cell centre n (f cell) x y z) t′ o o′ = subst (λ (u : Values). AddExit c t (sampleIn cell centre n u x y z) t′ o o′) ev a₀ in
       let s = sampleIn cell centre n (f cell) x y z in
-      let ok : sound (f cell) ≡ true = ap sound (sym ev) ∙ sym eb ∙ h in
-      let e : stream c f (cellIn cell centre n x y z ∷ []) (keptOf t) o m ≡ record { outcome = talliedOf (Done t′); answers = o′; marks = m′ } =
-      rw (a .tally, a .answers, em) (stream-sound c f (cellIn cell centre n x y z) [] (keptOf t) o m ok ∙ stream-nil c f (addTo c (keptOf t) s) (written (keptOf t) o s) (set m cell 1)) in
+      let ok : hasFiniteValues (f cell) ≡ true = ap hasFiniteValues (sym ev) ∙ sym eb ∙ h in
+      let e : stream c f (cellIn cell centre n x y z ∷ []) (sampleSumsOf t) o m ≡ record { outcome = accumulatedOf (Done t′); answers = o′; marks = m′ } =
+      rw (a .tally, a .answers, em) (stream-sound c f (cellIn cell centre n x y z) [] (sampleSumsOf t) o m ok ∙ stream-nil c f (addTo c (sampleSumsOf t) s) (written (sampleSumsOf t) o s) (set m cell 1)) in
       record {
         streamed = of-record _ _ _ _ e;
-        grown = rw (a .tally) (added-grows c (keptOf t) s (rw (length-held x y z n) few));
+        grown = rw (a .tally) (added-grows c (sampleSumsOf t) s (rw (length-held x y z n) few));
       }
 
-  pub sample-bad : b ≡ false → Stepped (stream c f (cellIn cell centre n x y z ∷ []) (keptOf t) o m) t Bad o m′
-  unfolding talliedOf
+  pub sample-bad : b ≡ false → StepExit (stream c f (cellIn cell centre n x y z ∷ []) (sampleSumsOf t) o m) t Bad o m′
+  unfolding accumulatedOf
   sample-bad h =
-      let no : sound (f cell) ≡ false = ap sound (sym ev) ∙ sym eb ∙ h in
-      record { streamed = of-record _ _ _ _ (stream-bad c f (cellIn cell centre n x y z) [] (keptOf t) o m no ∙ rw em); grown = tt }
+      let no : hasFiniteValues (f cell) ≡ false = ap hasFiniteValues (sym ev) ∙ sym eb ∙ h in
+      record { streamed = of-record _ _ _ _ (stream-bad c f (cellIn cell centre n x y z) [] (sampleSumsOf t) o m no ∙ rw em); grown = tt }
 
 -- ---- one cell
 
-module _ (c : Cut) (f : ℕ → Values) (mesh : Mesh) (cell : ℕ) (piece : Piece) {x₀ y₀ z₀ : List Float} (x y z : List Float) (t : Tally) (o m : List ℕ) (p : Pieced mesh c cell piece x₀ y₀ z₀ x y z) where
-  pub step-of : (centre : Vec3) (k : ℕ) (r : Tallied) (o′ m′ : List ℕ) → piece ≡ Of centre k → Stepped (stream c f (cellIn cell centre k x y z ∷ []) (keptOf t) o m) t r o′ m′ →
-      Stepped (stream c f (pieceOf mesh c cell (cellAt (mesh .cells) cell)) (keptOf t) o m) t r o′ m′
+module _ (c : Cut) (f : ℕ → Values) (mesh : Mesh) (cell : ℕ) (piece : Piece) {x₀ y₀ z₀ : List Float} (x y z : List Float) (t : Accumulator) (o m : List ℕ) (p : PieceOfExit mesh c cell piece x₀ y₀ z₀ x y z) where
+  pub step-of : (centre : Vec3) (k : ℕ) (r : Accumulated) (o′ m′ : List ℕ) → piece ≡ Of centre k → StepExit (stream c f (cellIn cell centre k x y z ∷ []) (sampleSumsOf t) o m) t r o′ m′ →
+      StepExit (stream c f (pieceOf mesh c cell (cellAt (mesh .cells) cell)) (sampleSumsOf t) o m) t r o′ m′
   unfolding pieceIn
   step-of centre k r o′ m′ e h =
       let w : cellIn cell centre k x y z ∷ [] ≡ pieceOf mesh c cell (cellAt (mesh .cells) cell) = rw e at (p .piece) in
       rw (← w) h
 
-  pub step-empty : piece ≡ Empty → Stepped (stream c f (pieceOf mesh c cell (cellAt (mesh .cells) cell)) (keptOf t) o m) t (Done t) o m
-  unfolding pieceIn talliedOf
+  pub step-empty : piece ≡ Empty → StepExit (stream c f (pieceOf mesh c cell (cellAt (mesh .cells) cell)) (sampleSumsOf t) o m) t (Done t) o m
+  unfolding pieceIn accumulatedOf
   step-empty e =
       let w : [] ≡ pieceOf mesh c cell (cellAt (mesh .cells) cell) = rw e at (p .piece) in
-      rw (← w) (record { streamed = of-record _ _ _ _ (stream-nil c f (keptOf t) o m); grown = omega arith })
+      rw (← w) (record { streamed = of-record _ _ _ _ (stream-nil c f (sampleSumsOf t) o m); grown = omega arith })
 
 -- what is known of the piece
-module _ {mesh : Mesh} {c : Cut} {cell : ℕ} {piece : Piece} {x₀ y₀ z₀ x y z : List Float} (p : Pieced mesh c cell piece x₀ y₀ z₀ x y z) where
+module _ {mesh : Mesh} {c : Cut} {cell : ℕ} {piece : Piece} {x₀ y₀ z₀ x y z : List Float} (p : PieceOfExit mesh c cell piece x₀ y₀ z₀ x y z) where
   pub piece-few : (centre : Vec3) (k : ℕ) → piece ≡ Of centre k → k ≤ 192
   unfolding verticesOf
   piece-few centre k e = rw e at (p .few)
@@ -101,13 +101,13 @@ pub length-cells : (case : List ℕ) (n : ℕ) (s : Sizes) (words : List ℕ) �
 unfolding bare meshIn cellsIn
 length-cells case n s words = length-tab _ (s .cells)
 
-pub ready-same : {case : List ℕ} {n : Counts} {s : Sizes} {words m m′ : List ℕ} → Ready case n s words m → length m′ ≡ length m → Ready case n s words m′
+pub ready-same : {case : List ℕ} {n : Counts} {s : Sizes} {words m m′ : List ℕ} → SampleEntry case n s words m → length m′ ≡ length m → SampleEntry case n s words m′
 ready-same r e = record { is-open = r .is-open; lent = r .lent; bounded = r .bounded; room = rw e (r .room) }
 
-pub holds-first : {x y z : List Float} {n k : ℕ} → k ≤ n → Holds x y z n → Holds x y z k
+pub holds-first : {x y z : List Float} {n k : ℕ} → k ≤ n → SliceLengths x y z n → SliceLengths x y z k
 holds-first l h = record { in-x = omega (arith, h .in-x); in-y = omega (arith, h .in-y); in-z = omega (arith, h .in-z) }
 
-pub holds-same : {x y z x′ y′ z′ : List Float} {n : ℕ} → Holds x y z n → length x′ ≡ length x → length y′ ≡ length y → length z′ ≡ length z → Holds x′ y′ z′ n
+pub holds-same : {x y z x′ y′ z′ : List Float} {n : ℕ} → SliceLengths x y z n → length x′ ≡ length x → length y′ ≡ length y → length z′ ≡ length z → SliceLengths x′ y′ z′ n
 holds-same h a b c = record { in-x = rw a (h .in-x); in-y = rw b (h .in-y); in-z = rw c (h .in-z) }
 
 pieces-next : (mesh : Mesh) (c : Cut) (i : ℕ) → i < length (mesh .cells) →
@@ -117,30 +117,30 @@ pieces-next mesh c i h =
     ap (piecesFrom mesh c i) (drop-next (mesh .cells) i noCell h)
     ∙ ap (λ (k : ℕ). pieceOf mesh c i (cellAt (mesh .cells) i) ++ piecesFrom mesh c k (drop (i + 1) (mesh .cells))) (sym (add-one i))
 
-module _ (case : List ℕ) (points : ℕ) (s : Sizes) (words : List ℕ) (c : Cut) (f : ℕ → Values) (i : ℕ) (t : Tally) (o m : List ℕ) {w : Stream} where
-  module _ (inv : stream c f (piecesFrom (bare case points s words) c i (drop i (bare case points s words .cells))) (keptOf t) o m ≡ w) (more : i < s .cells)
-      (r : Tallied) (o′ m′ : List ℕ) (h : Stepped (stream c f (pieceOf (bare case points s words) c i (cellAt (bare case points s words .cells) i)) (keptOf t) o m) t r o′ m′) where
-    split : stream c f (pieceOf (bare case points s words) c i (cellAt (bare case points s words .cells) i) ++ piecesFrom (bare case points s words) c (i + 1) (drop (i + 1) (bare case points s words .cells))) (keptOf t) o m ≡ w
-    split = sym (ap (λ (l : List PlaneCell). stream c f l (keptOf t) o m) (pieces-next (bare case points s words) c i (rw (length-cells case points s words) more))) ∙ inv
+module _ (case : List ℕ) (points : ℕ) (s : Sizes) (words : List ℕ) (c : Cut) (f : ℕ → Values) (i : ℕ) (t : Accumulator) (o m : List ℕ) {w : Stream} where
+  module _ (inv : stream c f (piecesFrom (bare case points s words) c i (drop i (bare case points s words .cells))) (sampleSumsOf t) o m ≡ w) (more : i < s .cells)
+      (r : Accumulated) (o′ m′ : List ℕ) (h : StepExit (stream c f (pieceOf (bare case points s words) c i (cellAt (bare case points s words .cells) i)) (sampleSumsOf t) o m) t r o′ m′) where
+    split : stream c f (pieceOf (bare case points s words) c i (cellAt (bare case points s words .cells) i) ++ piecesFrom (bare case points s words) c (i + 1) (drop (i + 1) (bare case points s words .cells))) (sampleSumsOf t) o m ≡ w
+    split = sym (ap (λ (l : List PlaneCell). stream c f l (sampleSumsOf t) o m) (pieces-next (bare case points s words) c i (rw (length-cells case points s words) more))) ∙ inv
 
-    pub turn : (next : Tally) → r ≡ Done next → stream c f (piecesFrom (bare case points s words) c (i + 1) (drop (i + 1) (bare case points s words .cells))) (keptOf next) o′ m′ ≡ w
-    unfolding talliedOf
+    pub turn : (next : Accumulator) → r ≡ Done next → stream c f (piecesFrom (bare case points s words) c (i + 1) (drop (i + 1) (bare case points s words .cells))) (sampleSumsOf next) o′ m′ ≡ w
+    unfolding accumulatedOf
     turn next e =
-        sym (stream-then c f _ (piecesFrom (bare case points s words) c (i + 1) (drop (i + 1) (bare case points s words .cells))) (keptOf t) (keptOf next) o o′ m m′ (as-record _ _ _ _ (h .streamed) ∙ rw e)) ∙ split
+        sym (stream-then c f _ (piecesFrom (bare case points s words) c (i + 1) (drop (i + 1) (bare case points s words .cells))) (sampleSumsOf t) (sampleSumsOf next) o o′ m m′ (as-record _ _ _ _ (h .streamed) ∙ rw e)) ∙ split
 
-    pub turn-size : (next : Tally) → r ≡ Done next → sizeOf (keptOf t) ≤ 1 + 586 * i → sizeOf (keptOf next) ≤ 1 + 586 * (i + 1)
-    turn-size next e l = let g : sizeOf (keptOf next) ≤ sizeOf (keptOf t) + 586 = rw e at (h .grown) in omega arith
+    pub turn-size : (next : Accumulator) → r ≡ Done next → sizeOf (sampleSumsOf t) ≤ 1 + 586 * i → sizeOf (sampleSumsOf next) ≤ 1 + 586 * (i + 1)
+    turn-size next e l = let g : sizeOf (sampleSumsOf next) ≤ sizeOf (sampleSumsOf t) + 586 = rw e at (h .grown) in omega arith
 
-    pub stopped : r ≡ Bad → Streamed w Bad o′ m′
-    unfolding talliedOf
+    pub stopped : r ≡ Bad → SampleAllExit w Bad o′ m′
+    unfolding accumulatedOf
     stopped e =
-        of-record _ _ _ _ (sym split ∙ stream-stop c f _ (piecesFrom (bare case points s words) c (i + 1) (drop (i + 1) (bare case points s words .cells))) (keptOf t) o o′ m m′ (as-record _ _ _ _ (h .streamed) ∙ rw e))
+        of-record _ _ _ _ (sym split ∙ stream-stop c f _ (piecesFrom (bare case points s words) c (i + 1) (drop (i + 1) (bare case points s words .cells))) (sampleSumsOf t) o o′ m m′ (as-record _ _ _ _ (h .streamed) ∙ rw e))
 
-  pub all-done : stream c f (piecesFrom (bare case points s words) c i (drop i (bare case points s words .cells))) (keptOf t) o m ≡ w → s .cells ≤ i → Streamed w (Done t) o m
-  unfolding piecesFrom talliedOf
+  pub all-done : stream c f (piecesFrom (bare case points s words) c i (drop i (bare case points s words .cells))) (sampleSumsOf t) o m ≡ w → s .cells ≤ i → SampleAllExit w (Done t) o m
+  unfolding piecesFrom accumulatedOf
   all-done inv h =
       let none : drop i (bare case points s words .cells) ≡ [] = drop-end (bare case points s words .cells) i (rw (length-cells case points s words) h) in
-      of-record _ _ _ _ (sym inv ∙ ap (λ (l : List Cell). stream c f (piecesFrom (bare case points s words) c i l) (keptOf t) o m) none ∙ stream-nil c f (keptOf t) o m)
+      of-record _ _ _ _ (sym inv ∙ ap (λ (l : List Cell). stream c f (piecesFrom (bare case points s words) c i l) (sampleSumsOf t) o m) none ∙ stream-nil c f (sampleSumsOf t) o m)
 
 -- ---- whatever the floats hold
 
@@ -166,12 +166,12 @@ module _ (case : List ℕ) (points : ℕ) (s : Sizes) (words : List ℕ) (floats
       ∙ ap (λ (l : List PlaneCell). pieceOf (bare case points s words) c i (cellAt (bare case points s words .cells) i) ++ l) q
       ∙ sym (pieces-next (bare case points s words) c i b)
 
-pub streamed-any : (case : List ℕ) (points : ℕ) (s : Sizes) (words : List ℕ) (plane : Plane) (f : ℕ → Values) (t : Kept) (o m : List ℕ) (c : Cut) (r : Tallied) (o′ m′ : List ℕ) →
-    c ≡ cutOf (pointsIn case points) plane → Streamed (stream c f (piecesFrom (bare case points s words) c 0 (bare case points s words .cells)) t o m) r o′ m′ →
-    (floats : List Float) → Streamed (stream (cutOf (pointsIn case points) plane) f (intersect (meshIn (pointsIn case points) s words floats) plane) t o m) r o′ m′
+pub streamed-any : (case : List ℕ) (points : ℕ) (s : Sizes) (words : List ℕ) (plane : Plane) (f : ℕ → Values) (t : SampleSums) (o m : List ℕ) (c : Cut) (r : Accumulated) (o′ m′ : List ℕ) →
+    c ≡ cutOf (pointsIn case points) plane → SampleAllExit (stream c f (piecesFrom (bare case points s words) c 0 (bare case points s words .cells)) t o m) r o′ m′ →
+    (floats : List Float) → SampleAllExit (stream (cutOf (pointsIn case points) plane) f (intersect (meshIn (pointsIn case points) s words floats) plane) t o m) r o′ m′
 unfolding intersect meshIn
 streamed-any case points s words plane f t o m c r o′ m′ e h floats =
     let M = meshIn (pointsIn case points) s words floats in
     let q = same-from case points s words floats c (s .cells) 0 (omega arith) in
-    subst (λ (d : Cut). Streamed (stream d f (piecesFrom M d 0 (M .cells)) t o m) r o′ m′) e
-    (subst (λ (l : List PlaneCell). Streamed (stream c f l t o m) r o′ m′) (sym q) h)
+    subst (λ (d : Cut). SampleAllExit (stream d f (piecesFrom M d 0 (M .cells)) t o m) r o′ m′) e
+    (subst (λ (l : List PlaneCell). SampleAllExit (stream c f l t o m) r o′ m′) (sym q) h)

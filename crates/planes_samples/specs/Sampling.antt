@@ -6,7 +6,7 @@ use Rattle.reading.specs.Result as result
 use Rattle.reading.specs.Result.{Result, fine, refuse}
 use Rattle.reading.specs.Asks.{Asks, give, ask, _>>=_}
 use Rattle.planes_sections.specs.Intersect.{PlaneCell}
-use Rattle.planes_sums.specs.Sample.{Sample, sound}
+use Rattle.planes_sums.specs.Sample.{Sample, hasFiniteValues}
 
 -- the samples before the first bad one, and whether that one came
 pub record Taken : Type 0 where
@@ -25,7 +25,7 @@ onward true s rest = rest >>= λ t. give (before s t)
 -- the samples of a section's cells, in order
 unfoldable pub taken : List PlaneCell → Asks Taken
 taken [] = give (record { samples = []; bad = false })
-taken (c ∷ cs) = ask (c .cell) (λ v. onward (sound v) (record { geometry = c; values = v }) (taken cs))
+taken (c ∷ cs) = ask (c .cell) (λ v. onward (hasFiniteValues v) (record { geometry = c; values = v }) (taken cs))
 
 -- refusal 39, "non-finite sample", or all of them
 unfoldable pub complete : Taken → Result (List Sample)

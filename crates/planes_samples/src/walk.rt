@@ -1,5 +1,5 @@
 // The samples of the cells, one after another.
-use crate::Tallied;
+use crate::Accumulated;
 use arith::Vec3;
 use case_file::Counts;
 use case_file::Opened;
@@ -10,7 +10,7 @@ use planes_cut::Plane;
 use planes_cut::axes;
 use planes_pieces::pieces;
 use planes_sections::Piece;
-use planes_sums::Tally;
+use planes_sums::Accumulator;
 use planes_sums::keep;
 use planes_sums::measures;
 ghost use mathlib.Core.Path.{_≡_};
@@ -21,10 +21,10 @@ ghost use Rattle.mesh_area.specs.Tables.{cellAt};
 ghost use Rattle.mesh_area.specs.Layout.{pointsIn, meshIn};
 ghost use Rattle.planes_cut.specs.Cut.{cutOf};
 ghost use Rattle.planes_sections.specs.Intersect.{pieceOf, piecesFrom, intersect};
-ghost use Rattle.planes_crossings.specs.Contracts.{Holds};
+ghost use Rattle.planes_crossings.specs.Contracts.{SliceLengths};
 ghost use Rattle.planes_cut.specs.Contracts.{bare};
-ghost use Rattle.planes_samples.specs.Contracts.{stream, Streamed, Stepped, Ready};
-ghost use Rattle.planes_sums.specs.Kept.{keptOf, cellIn, sizeOf};
+ghost use Rattle.planes_samples.specs.Contracts.{stream, SampleAllExit, StepExit, SampleEntry};
+ghost use Rattle.planes_sums.specs.Kept.{sampleSumsOf, cellIn, sizeOf};
 ghost use Rattle.case_file.specs.Trailer.{opened};
 ghost use Rattle.case_file.specs.Field.{valuesOf};
 
@@ -33,7 +33,7 @@ fn take_sample(
     case: &[u8],
     n: Counts,
     cut: Cut,
-    t: Tally,
+    t: Accumulator,
     cell: usize,
     centre: Vec3,
     k: usize,
@@ -42,18 +42,18 @@ fn take_sample(
     z: &[f64],
     answers: &mut [u64],
     marks: &mut [u8],
-) -> Tallied
+) -> Accumulated
     requires { ⌜ opened (now case) ≡ Opened.Case n ⌝ }
-    requires { ⌜ Holds (now x) (now y) (now z) k × (1 ≤ k) × (k ≤ 192) × (sizeOf (keptOf t) < 1073741824) ⌝ }
-    ensures { λ r. ⌜ Stepped (stream cut (valuesOf (now (case .entry)))
-        (cellIn cell centre k (now (x .entry)) (now (y .entry)) (now (z .entry)) ∷ []) (keptOf t) (now (answers .entry))
+    requires { ⌜ SliceLengths (now x) (now y) (now z) k × (1 ≤ k) × (k ≤ 192) × (sizeOf (sampleSumsOf t) < 1073741824) ⌝ }
+    ensures { λ r. ⌜ StepExit (stream cut (valuesOf (now (case .entry)))
+        (cellIn cell centre k (now (x .entry)) (now (y .entry)) (now (z .entry)) ∷ []) (sampleSumsOf t) (now (answers .entry))
         (now (marks .entry))) t r (now (answers .exit)) (now (marks .exit)) ⌝ }
 {
     let v = field::read_cell(case, n, marks, cell);
-    if measures::sound(v) {
-        Tallied::Done(keep::add(cut, t, cell, centre, k, v, x, y, z, answers))
+    if measures::has_finite_values(v) {
+        Accumulated::Done(keep::add(cut, t, cell, centre, k, v, x, y, z, answers))
     } else {
-        Tallied::Bad
+        Accumulated::Bad
     }
 }
 
@@ -64,19 +64,19 @@ fn step(
     words: &[u32],
     s: Sizes,
     cut: Cut,
-    t: Tally,
+    t: Accumulator,
     cell: usize,
     x: &mut [f64],
     y: &mut [f64],
     z: &mut [f64],
     answers: &mut [u64],
     marks: &mut [u8],
-) -> Tallied
-    requires { ⌜ Ready (now case) n s (now words) (now marks) × (cell < s .cells) ⌝ }
-    requires { ⌜ Holds (now x) (now y) (now z) 192 × (sizeOf (keptOf t) < 1073741824) ⌝ }
-    ensures { λ r. ⌜ Stepped (stream cut (valuesOf (now (case .entry)))
+) -> Accumulated
+    requires { ⌜ SampleEntry (now case) n s (now words) (now marks) × (cell < s .cells) ⌝ }
+    requires { ⌜ SliceLengths (now x) (now y) (now z) 192 × (sizeOf (sampleSumsOf t) < 1073741824) ⌝ }
+    ensures { λ r. ⌜ StepExit (stream cut (valuesOf (now (case .entry)))
         (pieceOf (bare (now (case .entry)) (n .points) s (now (words .entry))) cut cell
-        (cellAt (bare (now (case .entry)) (n .points) s (now (words .entry)) .cells) cell)) (keptOf t)
+        (cellAt (bare (now (case .entry)) (n .points) s (now (words .entry)) .cells) cell)) (sampleSumsOf t)
         (now (answers .entry)) (now (marks .entry))) t r (now (answers .exit)) (now (marks .exit)) ⌝ }
 {
     let piece = pieces::piece_of(case, n.points, words, s, cut, cell, x, y, z);
@@ -84,7 +84,7 @@ fn step(
         Piece::Of(centre, k) => {
             take_sample(case, n, cut, t, cell, centre, k, x, y, z, answers, marks)
         }
-        Piece::Empty => Tallied::Done(t),
+        Piece::Empty => Accumulated::Done(t),
     }
 }
 
@@ -95,31 +95,43 @@ fn sample_each(
     words: &[u32],
     s: Sizes,
     cut: Cut,
-    t: Tally,
+    t: Accumulator,
     x: &mut [f64],
     y: &mut [f64],
     z: &mut [f64],
     answers: &mut [u64],
     marks: &mut [u8],
-) -> Tallied
-    requires { ⌜ Ready (now case) n s (now words) (now marks) × (s .cells ≤ 16384) ⌝ }
-    requires { ⌜ Holds (now x) (now y) (now z) 192 × (sizeOf (keptOf t) ≤ 1) ⌝ }
-    ensures { λ r. ⌜ Streamed (stream cut (valuesOf (now (case .entry)))
+) -> Accumulated
+    requires { ⌜ SampleEntry (now case) n s (now words) (now marks) × (s .cells ≤ 16384) ⌝ }
+    requires { ⌜ SliceLengths (now x) (now y) (now z) 192 × (sizeOf (sampleSumsOf t) ≤ 1) ⌝ }
+    ensures { λ r. ⌜ SampleAllExit (stream cut (valuesOf (now (case .entry)))
         (piecesFrom (bare (now (case .entry)) (n .points) s (now (words .entry))) cut 0
-        (bare (now (case .entry)) (n .points) s (now (words .entry)) .cells)) (keptOf t) (now (answers .entry))
+        (bare (now (case .entry)) (n .points) s (now (words .entry)) .cells)) (sampleSumsOf t) (now (answers .entry))
         (now (marks .entry))) r (now (answers .exit)) (now (marks .exit)) ⌝ }
 {
     let mut tally = t;
     let mut i = 0;
     while i < s.cells {
-        let Tallied::Done(next) = step(case, n, words, s, cut, tally, i, x, y, z, answers, marks)
-        else {
-            return Tallied::Bad;
+        let Accumulated::Done(next) = step(
+            case,
+            n,
+            words,
+            s,
+            cut,
+            tally,
+            i,
+            x,
+            y,
+            z,
+            answers,
+            marks,
+        ) else {
+            return Accumulated::Bad;
         };
         tally = next;
         i += 1;
     }
-    Tallied::Done(tally)
+    Accumulated::Done(tally)
 }
 
 // The section's cells in turn.
@@ -129,14 +141,14 @@ pub fn sample_all(
     words: &[u32],
     s: Sizes,
     plane: Plane,
-    t: Tally,
+    t: Accumulator,
     answers: &mut [u64],
     marks: &mut [u8],
-) -> Tallied
-    requires { ⌜ Ready (now case) n s (now words) (now marks) × (sizeOf (keptOf t) ≤ 1) ⌝ }
-    ensures { λ r. ⌜ ((floats : List Float) → Streamed
+) -> Accumulated
+    requires { ⌜ SampleEntry (now case) n s (now words) (now marks) × (sizeOf (sampleSumsOf t) ≤ 1) ⌝ }
+    ensures { λ r. ⌜ ((floats : List Float) → SampleAllExit
         (stream (cutOf (pointsIn (now (case .entry)) (n .points)) plane) (valuesOf (now (case .entry)))
-        (intersect (meshIn (pointsIn (now (case .entry)) (n .points)) s (now (words .entry)) floats) plane) (keptOf t)
+        (intersect (meshIn (pointsIn (now (case .entry)) (n .points)) s (now (words .entry)) floats) plane) (sampleSumsOf t)
         (now (answers .entry)) (now (marks .entry))) r (now (answers .exit)) (now (marks .exit))) ⌝ }
 {
     let cut = axes::cut_of(case, n.points, plane);

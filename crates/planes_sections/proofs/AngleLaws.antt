@@ -19,15 +19,15 @@ use Rattle.arith.proofs.SortLaws.{map-sort, all-insert}
 use Rattle.arith_angles.proofs.PlaceLaws.{places-below}
 use Rattle.planes_cut.specs.declared.Plane.{Plane}
 use Rattle.planes_sections.specs.Intersect.{earlierOn}
-use Rattle.planes_crossings.specs.Contracts.{Holds, heldIn, pointIn}
-use Rattle.planes_sections.specs.Contracts.{angleOn, Angled, Gathered}
+use Rattle.planes_crossings.specs.Contracts.{SliceLengths, slicePoints, pointIn}
+use Rattle.planes_sections.specs.Contracts.{angleOn, AnglesOfExit, GatherEntry}
 
 module _ {s : Plane} {centre : Vec3} {point : ℕ → Vec3} where
-  pub angled-none : (q : List ℕ) (t : List Float) → Angled s centre point 0 q t
+  pub angled-none : (q : List ℕ) (t : List Float) → AnglesOfExit s centre point 0 q t
   angled-none q t = record { quarter = λ i h. absurd (omega arith); slope = λ i h. absurd (omega arith) }
 
-  pub angled-more : {q : List ℕ} {t : List Float} (n : ℕ) (a : Angle) → Angled s centre point n q t → n < length q → n < length t →
-      a ≡ angleOn s centre (point n) → Angled s centre point (n + 1) (set q n (a .quarter)) (set t n (a .slope))
+  pub angled-more : {q : List ℕ} {t : List Float} (n : ℕ) (a : Angle) → AnglesOfExit s centre point n q t → n < length q → n < length t →
+      a ≡ angleOn s centre (point n) → AnglesOfExit s centre point (n + 1) (set q n (a .quarter)) (set t n (a .slope))
   angled-more {q} {t} n a g lq lt e =
       record { quarter = λ i h. at-quarter i h (ℕ-discrete i n); slope = λ i h. at-slope i h (ℕ-discrete i n) }
     where
@@ -74,7 +74,7 @@ unfolding tab
 map-tab f g zero = refl
 map-tab f g (suc n) = mathlib.Core.List.map-append f (tab g n) (g n ∷ []) ∙ ap (λ l. l ++ f (g n) ∷ []) (map-tab f g n)
 
-module _ (s : Plane) (centre : Vec3) (point : ℕ → Vec3) (n : ℕ) (q : List ℕ) (t : List Float) (g : Angled s centre point n q t) where
+module _ (s : Plane) (centre : Vec3) (point : ℕ → Vec3) (n : ℕ) (q : List ℕ) (t : List Float) (g : AnglesOfExit s centre point n q t) where
   angle-same : (i : ℕ) → i < n → angleAt q t i ≡ angleOn s centre (point i)
   unfolding angleAt
   angle-same i h =
@@ -108,7 +108,7 @@ unfolding sortedPlaces upTo tab sort fold
 positive q t zero i b = absurd (omega arith)
 positive q t (suc n) i b = omega arith
 
-pub sorted-within : (q : List ℕ) (t : List Float) (n : ℕ) (px py pz : List Float) (places : List ℕ) → Holds px py pz n → places ≡ sortedPlaces q t n → Gathered px py pz places
+pub sorted-within : (q : List ℕ) (t : List Float) (n : ℕ) (px py pz : List Float) (places : List ℕ) → SliceLengths px py pz n → places ≡ sortedPlaces q t n → GatherEntry px py pz places
 sorted-within q t n px py pz places h e = record { within = at }
   where
     below : (i : ℕ) → i < length places → getD places i 0 < n
@@ -116,15 +116,15 @@ sorted-within q t n px py pz places h e = record { within = at }
         let some : 0 < n = positive q t n i (rw e at b) in
         rw e (all-getD (λ k. k < n) (sortedPlaces q t n) i 0 some (places-below q t n))
 
-    at : (i : ℕ) → i < length places → Holds px py pz (getD places i 0 + 1)
+    at : (i : ℕ) → i < length places → SliceLengths px py pz (getD places i 0 + 1)
     at i b =
         let l = below i b in
         record { in-x = omega (arith, h .in-x); in-y = omega (arith, h .in-y); in-z = omega (arith, h .in-z) }
 
-pub arranged : (s : Plane) (centre : Vec3) (px py pz x y z : List Float) (n : ℕ) (q places : List ℕ) (t : List Float) → Angled s centre (pointIn px py pz) n q t →
-    places ≡ sortedPlaces q t n → length places ≡ n → heldIn x y z (length places) ≡ tab (λ i. pointIn px py pz (getD places i 0)) (length places) →
-    heldIn x y z n ≡ sort (earlierOn s centre) (heldIn px py pz n)
-unfolding heldIn
+pub arranged : (s : Plane) (centre : Vec3) (px py pz x y z : List Float) (n : ℕ) (q places : List ℕ) (t : List Float) → AnglesOfExit s centre (pointIn px py pz) n q t →
+    places ≡ sortedPlaces q t n → length places ≡ n → slicePoints x y z (length places) ≡ tab (λ i. pointIn px py pz (getD places i 0)) (length places) →
+    slicePoints x y z n ≡ sort (earlierOn s centre) (slicePoints px py pz n)
+unfolding slicePoints
 arranged s centre px py pz x y z n q places t g e len h =
     ap (tab (pointIn x y z)) (sym len)
     ∙ h

@@ -23,33 +23,33 @@ use Rattle.planes_crossings.proofs.HeldLaws.{held-left, length-held, rest-same,
 use Rattle.planes_sections.specs.declared.Piece.{Piece}
 use Rattle.planes_sections.specs.declared.Piece.the-variants.{Of, Empty}
 use Rattle.planes_cut.specs.Cut.{near, below, above}
-use Rattle.planes_crossings.specs.Crossings.{rises, parted, addEnd, addBetween, addMeeting, onPlane, foreign, addSide, addFace, meetings}
-use Rattle.planes_sections.specs.Intersect.{earlierOn, addArea, areaOf, middle, wide, pieceAbout, pieceOf}
-use Rattle.planes_crossings.specs.Contracts.{heldIn, pointIn, Rest, Bounded}
+use Rattle.planes_crossings.specs.Crossings.{rises, parted, addEnd, addBetween, addCrossing, onPlane, foreign, addSide, addFace, crossings}
+use Rattle.planes_sections.specs.Intersect.{earlierOn, addArea, areaOf, sectionCentre, wide, pieceAbout, pieceOf}
+use Rattle.planes_crossings.specs.Contracts.{slicePoints, pointIn, SlicesKept, MeshLimits}
 use Rattle.planes_cut.specs.Contracts.{signWith, addSign, faceSigns, signsOf, noSigns, mayMeet, bare}
-use Rattle.planes_sections.specs.Contracts.{pieceIn, verticesOf, arrangedAbout, arrangedOf, Laid, PiecedAbout, Pieced}
+use Rattle.planes_sections.specs.Contracts.{pieceIn, verticesOf, arrangedAbout, arrangedOf, FrontPoints, PieceAboutExit, PieceOfExit}
 
 -- ---- the area of a polygon, from the first point
 
 pub area-start : (x y z : List Float) (n : ℕ) (o : Vec3) → 1 ≤ n → o ≡ pointIn x y z 0 →
-    fold (addArea o) (Rattle.arith.specs.F64.0·0) (windows (drop 1 (heldIn x y z n))) ≡ areaOf (heldIn x y z n)
+    fold (addArea o) (Rattle.arith.specs.F64.0·0) (windows (drop 1 (slicePoints x y z n))) ≡ areaOf (slicePoints x y z n)
 unfolding areaOf
 area-start x y z n o h e =
     rw e (sym (ap areaOf (held-left x y z n 0 (omega arith) .left)))
 
 -- ---- the piece of some points
 
-pub laid-nil : (x y z : List Float) → Laid [] x y z x y z
-unfolding heldIn tab
+pub laid-nil : (x y z : List Float) → FrontPoints [] x y z x y z
+unfolding slicePoints tab
 laid-nil x y z = record { list = refl; rest = rest-same }
 
-laid-first : {l : List Vec3} {x y z x′ y′ z′ : List Float} (n : ℕ) → heldIn x′ y′ z′ n ≡ l → Rest x y z x′ y′ z′ n → Laid l x y z x′ y′ z′
+laid-first : {l : List Vec3} {x y z x′ y′ z′ : List Float} (n : ℕ) → slicePoints x′ y′ z′ n ≡ l → SlicesKept x y z x′ y′ z′ n → FrontPoints l x y z x′ y′ z′
 laid-first {l} {x} {y} {z} {x′} {y′} {z′} n e h =
     let k : n ≡ length l = sym (length-held x′ y′ z′ n) ∙ ap length e in
     record { list = rw k at e; rest = rest-as k h }
 
 module _ (c : Cut) (l : List Vec3) (n : ℕ) (len : n ≡ length l) where
-  pub piece-few : (x y z : List Float) → n < 3 → PiecedAbout c l Empty x y z x y z
+  pub piece-few : (x y z : List Float) → n < 3 → PieceAboutExit c l Empty x y z x y z
   unfolding pieceAbout arrangedAbout pieceIn only verticesOf
   piece-few x y z h =
       record {
@@ -59,13 +59,13 @@ module _ (c : Cut) (l : List Vec3) (n : ℕ) (len : n ≡ length l) where
         laid = rw (← len, lt-leb 3 n h) (laid-nil x y z);
       }
 
-  module _ {x₀ y₀ z₀ x y z : List Float} (centre : Vec3) (ec : centre ≡ middle l) (el : heldIn x y z n ≡ sort (earlierOn (c .plane) centre) l) (er : Rest x₀ y₀ z₀ x y z n)
-      (three : 3 ≤ n) (t : Bool) (et : t ≡ wide c (heldIn x y z n)) where
-    laid-all : Laid (arrangedAbout c l) x₀ y₀ z₀ x y z
+  module _ {x₀ y₀ z₀ x y z : List Float} (centre : Vec3) (ec : centre ≡ sectionCentre l) (el : slicePoints x y z n ≡ sort (earlierOn (c .plane) centre) l) (er : SlicesKept x₀ y₀ z₀ x y z n)
+      (three : 3 ≤ n) (t : Bool) (et : t ≡ wide c (slicePoints x y z n)) where
+    laid-all : FrontPoints (arrangedAbout c l) x₀ y₀ z₀ x y z
     unfolding arrangedAbout
     laid-all = rw (← len, le-leb 3 n three, ← ec) (laid-first n el er)
 
-    pub piece-wide : t ≡ true → n ≤ 192 → PiecedAbout c l (Of centre n) x₀ y₀ z₀ x y z
+    pub piece-wide : t ≡ true → n ≤ 192 → PieceAboutExit c l (Of centre n) x₀ y₀ z₀ x y z
     unfolding pieceAbout pieceIn only verticesOf
     piece-wide h b =
         record {
@@ -75,7 +75,7 @@ module _ (c : Cut) (l : List Vec3) (n : ℕ) (len : n ≡ length l) where
           laid = laid-all;
         }
 
-    pub piece-flat : t ≡ false → PiecedAbout c l Empty x₀ y₀ z₀ x y z
+    pub piece-flat : t ≡ false → PieceAboutExit c l Empty x₀ y₀ z₀ x y z
     unfolding pieceAbout pieceIn only verticesOf
     piece-flat h =
         record {
@@ -88,12 +88,12 @@ module _ (c : Cut) (l : List Vec3) (n : ℕ) (len : n ≡ length l) where
 -- ---- the piece of a cell
 
 module _ (m : Mesh) (c : Cut) (cell : ℕ) where
-  pub piece-foreign : (x y z : List Float) (t : Bool) → t ≡ anyOf (foreign m c cell) (cellAt (m .cells) cell .faces) → t ≡ true → Pieced m c cell Empty x y z x y z
+  pub piece-foreign : (x y z : List Float) (t : Bool) → t ≡ anyOf (foreign m c cell) (cellAt (m .cells) cell .faces) → t ≡ true → PieceOfExit m c cell Empty x y z x y z
   unfolding pieceOf arrangedOf pieceIn verticesOf
   piece-foreign x y z t e h = record { piece = rw (sym e ∙ h); few = omega arith; full = tt; laid = rw (sym e ∙ h) (laid-nil x y z) }
 
   pub piece-met : {x₀ y₀ z₀ x y z : List Float} (t : Bool) (l : List Vec3) (r : Piece) → t ≡ anyOf (foreign m c cell) (cellAt (m .cells) cell .faces) → t ≡ false →
-      l ≡ meetings m c (cellAt (m .cells) cell .faces) → PiecedAbout c l r x₀ y₀ z₀ x y z → Pieced m c cell r x₀ y₀ z₀ x y z
+      l ≡ crossings m c (cellAt (m .cells) cell .faces) → PieceAboutExit c l r x₀ y₀ z₀ x y z → PieceOfExit m c cell r x₀ y₀ z₀ x y z
   unfolding pieceOf arrangedOf
   piece-met t l r e h el p =
       record { piece = rw (sym e ∙ h, ← el) (p .piece cell); few = p .few; full = p .full; laid = rw (sym e ∙ h, ← el) (p .laid) }
@@ -156,8 +156,8 @@ module _ (m : Mesh) (c : Cut) where
       g fs e
 
   -- what no side meets
-  none-met : (Q : Vec3 → Type 0) → ((a b : Vec3) (l : List Vec3) → Q a → Q b → addMeeting c l a b ≡ l) → (fs : List ℕ) → All (Without Q) fs → meetings m c fs ≡ []
-  unfolding meetings addFace addSide
+  none-met : (Q : Vec3 → Type 0) → ((a b : Vec3) (l : List Vec3) → Q a → Q b → addCrossing c l a b ≡ l) → (fs : List ℕ) → All (Without Q) fs → crossings m c fs ≡ []
+  unfolding crossings addFace addSide
   none-met Q h fs p =
       fold-stays (addFace m c) [] (Without Q)
       (λ f q. fold-stays (addSide m c) [] (λ s. Q (pointAt (m .points) (s .from)) × Q (pointAt (m .points) (s .to)))
@@ -170,16 +170,16 @@ module _ (m : Mesh) (c : Cut) where
   all-without P Q (f ∷ fs) p q =
       (all-both (λ v. P (pointAt (m .points) v)) (λ v. Q (pointAt (m .points) v)) (faceAt (m .faces) f .vertices) (p .0) (q .0), all-without P Q fs (p .1) (q .1))
 
-  not-below : (a b : Vec3) (l : List Vec3) → (near c a ≡ false) × (below c a ≡ false) → (near c b ≡ false) × (below c b ≡ false) → addMeeting c l a b ≡ l
-  unfolding addMeeting addEnd addBetween parted rises
+  not-below : (a b : Vec3) (l : List Vec3) → (near c a ≡ false) × (below c a ≡ false) → (near c b ≡ false) × (below c b ≡ false) → addCrossing c l a b ≡ l
+  unfolding addCrossing addEnd addBetween parted rises
   not-below a b l p q = rw (p .0, p .1, q .1)
 
-  not-above : (a b : Vec3) (l : List Vec3) → (near c a ≡ false) × (above c a ≡ false) → (near c b ≡ false) × (above c b ≡ false) → addMeeting c l a b ≡ l
-  unfolding addMeeting addEnd addBetween parted rises
+  not-above : (a b : Vec3) (l : List Vec3) → (near c a ≡ false) × (above c a ≡ false) → (near c b ≡ false) × (above c b ≡ false) → addCrossing c l a b ≡ l
+  unfolding addCrossing addEnd addBetween parted rises
   not-above a b l p q = rw (p .0, p .1, q .1, and-none (below c a), and-none (below c b))
 
   -- a cell all of whose points lie beyond the tolerance on one side has no piece
-  pub unmet : (cell : ℕ) → mayMeet (signsOf m c cell) ≡ false → meetings m c (cellAt (m .cells) cell .faces) ≡ []
+  pub unmet : (cell : ℕ) → mayMeet (signsOf m c cell) ≡ false → crossings m c (cellAt (m .cells) cell .faces) ≡ []
   unfolding mayMeet signsOf
   unmet cell e =
       let fs = cellAt (m .cells) cell .faces in
@@ -190,7 +190,7 @@ module _ (m : Mesh) (c : Cut) where
       (λ a. none-met (λ p. (near c p ≡ false) × (above c p ≡ false)) not-above fs (all-without (λ p. near c p ≡ false) (λ p. above c p ≡ false) fs (n .1) (signs-clear (λ g. g .above) (above c) (λ g p. unfold signWith in refl) noSigns fs a .1)))
       (and-false (fold (faceSigns m c) noSigns fs .below) (fold (faceSigns m c) noSigns fs .above) (r .1))
 
-  pub piece-unmet : (cell : ℕ) (x y z : List Float) (t : Bool) → t ≡ mayMeet (signsOf m c cell) → t ≡ false → Pieced m c cell Empty x y z x y z
+  pub piece-unmet : (cell : ℕ) (x y z : List Float) (t : Bool) → t ≡ mayMeet (signsOf m c cell) → t ≡ false → PieceOfExit m c cell Empty x y z x y z
   unfolding pieceOf pieceAbout arrangedOf arrangedAbout pieceIn only verticesOf
   piece-unmet cell x y z t e h =
       record {
@@ -239,16 +239,16 @@ module _ (points : List Vec3) (s : Sizes) (words : List ℕ) (floats : List Floa
     pub same-piece : (cell : ℕ) →
         pieceOf (meshIn points s words floats) c cell (cellAt (meshIn points s words floats .cells) cell)
         ≡ pieceOf (meshIn points s words []) c cell (cellAt (meshIn points s words [] .cells) cell)
-    unfolding pieceOf meetings
+    unfolding pieceOf crossings
     same-piece cell = rw (same-foreign cell, same-addFace) (unfold meshIn in rw (same-faces cell))
 
     pub same-arranged : (cell : ℕ) →
         arrangedOf (meshIn points s words floats) c cell (cellAt (meshIn points s words floats .cells) cell)
         ≡ arrangedOf (meshIn points s words []) c cell (cellAt (meshIn points s words [] .cells) cell)
-    unfolding arrangedOf meetings
+    unfolding arrangedOf crossings
     same-arranged cell = rw (same-foreign cell, same-addFace) (unfold meshIn in rw (same-faces cell))
 
-  pub same-bounds : Bounded (meshIn points s words floats) → Bounded (meshIn points s words [])
+  pub same-bounds : MeshLimits (meshIn points s words floats) → MeshLimits (meshIn points s words [])
   unfolding meshIn
   same-bounds b =
       record {
@@ -256,8 +256,8 @@ module _ (points : List Vec3) (s : Sizes) (words : List ℕ) (floats : List Floa
         few-vertices = λ f. rw (← same-vertices f) (b .few-vertices f);
       }
 
-pub pieced-any : (case : List ℕ) (n : ℕ) (s : Sizes) (words : List ℕ) (c : Cut) (cell : ℕ) (r : Piece) {x y z x′ y′ z′ : List Float} → Pieced (bare case n s words) c cell r x y z x′ y′ z′ →
-    (floats : List Float) → Pieced (meshIn (pointsIn case n) s words floats) c cell r x y z x′ y′ z′
+pub pieced-any : (case : List ℕ) (n : ℕ) (s : Sizes) (words : List ℕ) (c : Cut) (cell : ℕ) (r : Piece) {x y z x′ y′ z′ : List Float} → PieceOfExit (bare case n s words) c cell r x y z x′ y′ z′ →
+    (floats : List Float) → PieceOfExit (meshIn (pointsIn case n) s words floats) c cell r x y z x′ y′ z′
 unfolding bare
 pieced-any case n s words c cell r p floats =
     record {

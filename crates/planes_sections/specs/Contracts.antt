@@ -15,17 +15,17 @@ use Rattle.mesh_area.specs.Tables.{Mesh, Cell, cellAt}
 use Rattle.planes_cut.specs.declared.Cut.{Cut}
 use Rattle.planes_cut.specs.declared.Plane.{Plane}
 use Rattle.planes_cut.specs.Plane.{along}
-use Rattle.planes_crossings.specs.Crossings.{foreign, meetings}
-use Rattle.planes_crossings.specs.Contracts.{heldIn, Holds, Rest}
+use Rattle.planes_crossings.specs.Crossings.{foreign, crossings}
+use Rattle.planes_crossings.specs.Contracts.{slicePoints, SliceLengths, SlicesKept}
 use Rattle.planes_sections.specs.declared.Piece.{Piece}
 use Rattle.planes_sections.specs.declared.Piece.the-variants.{Of, Empty}
-use Rattle.planes_sections.specs.Intersect.{PlaneCell, earlierOn, pieceAbout, pieceOf, middle}
+use Rattle.planes_sections.specs.Intersect.{PlaneCell, earlierOn, pieceAbout, pieceOf, sectionCentre}
 
 -- ---- the piece that was found, with its polygon in the slices
 
 -- one, or none
 unfoldable pub pieceIn : ℕ → Piece → List Float → List Float → List Float → List PlaneCell
-pieceIn cell (Of centre n) x y z = record { cell = cell; centre = centre; polygon = heldIn x y z n } ∷ []
+pieceIn cell (Of centre n) x y z = record { cell = cell; centre = centre; polygon = slicePoints x y z n } ∷ []
 pieceIn cell Empty x y z = []
 
 -- how many vertices it has
@@ -40,30 +40,30 @@ Full Empty = Unit
 
 -- three points or more are arranged before their area is known, so that they stand in the slices where there is no piece too
 unfoldable pub arrangedAbout : Cut → List Vec3 → List Vec3
-arrangedAbout c l = cond (leb 3 (length l)) (sort (earlierOn (c .plane) (middle l)) l) []
+arrangedAbout c l = cond (leb 3 (length l)) (sort (earlierOn (c .plane) (sectionCentre l)) l) []
 
 -- those of a cell, where it is not passed over
 unfoldable pub arrangedOf : Mesh → Cut → ℕ → Cell → List Vec3
-arrangedOf m c cell k = cond (anyOf (foreign m c cell) (k .faces)) [] (arrangedAbout c (meetings m c (k .faces)))
+arrangedOf m c cell k = cond (anyOf (foreign m c cell) (k .faces)) [] (arrangedAbout c (crossings m c (k .faces)))
 
 -- the points l stand at the front of the slices; behind them the slices are as they were
-pub record Laid (l : List Vec3) (x y z x′ y′ z′ : List Float) : Type 0 where
-  pub list : heldIn x′ y′ z′ (length l) ≡ l
-  pub rest : Rest x y z x′ y′ z′ (length l)
+pub record FrontPoints (l : List Vec3) (x y z x′ y′ z′ : List Float) : Type 0 where
+  pub list : slicePoints x′ y′ z′ (length l) ≡ l
+  pub rest : SlicesKept x y z x′ y′ z′ (length l)
 
 -- the piece is that of the points l, and has at most 192 vertices
-pub record PiecedAbout (c : Cut) (l : List Vec3) (r : Piece) (x y z x′ y′ z′ : List Float) : Type 0 where
-  pub piece : (cell : ℕ) → pieceIn cell r x′ y′ z′ ≡ pieceAbout c cell l (middle l)
+pub record PieceAboutExit (c : Cut) (l : List Vec3) (r : Piece) (x y z x′ y′ z′ : List Float) : Type 0 where
+  pub piece : (cell : ℕ) → pieceIn cell r x′ y′ z′ ≡ pieceAbout c cell l (sectionCentre l)
   pub few : verticesOf r ≤ 192
   pub full : Full r
-  pub laid : Laid (arrangedAbout c l) x y z x′ y′ z′
+  pub laid : FrontPoints (arrangedAbout c l) x y z x′ y′ z′
 
 -- the piece is that of a cell of the mesh
-pub record Pieced (m : Mesh) (c : Cut) (cell : ℕ) (r : Piece) (x y z x′ y′ z′ : List Float) : Type 0 where
+pub record PieceOfExit (m : Mesh) (c : Cut) (cell : ℕ) (r : Piece) (x y z x′ y′ z′ : List Float) : Type 0 where
   pub piece : pieceIn cell r x′ y′ z′ ≡ pieceOf m c cell (cellAt (m .cells) cell)
   pub few : verticesOf r ≤ 192
   pub full : Full r
-  pub laid : Laid (arrangedOf m c cell (cellAt (m .cells) cell)) x y z x′ y′ z′
+  pub laid : FrontPoints (arrangedOf m c cell (cellAt (m .cells) cell)) x y z x′ y′ z′
 
 -- ---- points sorted by their angles
 
@@ -72,10 +72,10 @@ unfoldable pub angleOn : Plane → Vec3 → Vec3 → Angle
 angleOn s centre p = angleOf (along s (minus p centre))
 
 -- the first n angles are those of the points
-pub record Angled (s : Plane) (centre : Vec3) (point : ℕ → Vec3) (n : ℕ) (quarters : List ℕ) (slopes : List Float) : Type 0 where
+pub record AnglesOfExit (s : Plane) (centre : Vec3) (point : ℕ → Vec3) (n : ℕ) (quarters : List ℕ) (slopes : List Float) : Type 0 where
   pub quarter : (i : ℕ) → i < n → getD quarters i 0 ≡ angleOn s centre (point i) .quarter
   pub slope : (i : ℕ) → i < n → getD slopes i nan ≡ angleOn s centre (point i) .slope
 
 -- the places are within the slices
-pub record Gathered (x y z : List Float) (places : List ℕ) : Type 0 where
-  pub within : (i : ℕ) → i < length places → Holds x y z (getD places i 0 + 1)
+pub record GatherEntry (x y z : List Float) (places : List ℕ) : Type 0 where
+  pub within : (i : ℕ) → i < length places → SliceLengths x y z (getD places i 0 + 1)

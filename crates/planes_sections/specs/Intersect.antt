@@ -15,7 +15,7 @@ use Rattle.planes_cut.specs.declared.Plane.{Plane}
 use Rattle.planes_cut.specs.declared.Cut.{Cut}
 use Rattle.planes_cut.specs.Plane.{along}
 use Rattle.planes_cut.specs.Cut.{cutOf}
-use Rattle.planes_crossings.specs.Crossings.{foreign, meetings}
+use Rattle.planes_crossings.specs.Crossings.{foreign, crossings}
 
 -- `PlaneCell`
 pub record PlaneCell : Type 0 where
@@ -29,7 +29,7 @@ pub record PlaneCell : Type 0 where
 unfoldable pub earlierOn : Plane → Vec3 → Vec3 → Vec3 → Bool
 earlierOn s centre a b = turnsBefore (along s (minus a centre)) (along s (minus b centre))
 
--- the sum of the areas of the triangles from the first corner
+-- the sum of the areas of the triangles from the first vertex
 unfoldable pub addArea : Vec3 → Float → Side Vec3 → Float
 addArea o r t = r ⊕ norm (cross (minus (t .from) o) (minus (t .to) o)) ⊗ 0·5
 
@@ -39,8 +39,8 @@ areaOf [] = 0·0
 areaOf (o ∷ l) = fold (addArea o) 0·0 (windows l)
 
 -- `center`: the sum, times one over the number
-unfoldable pub middle : List Vec3 → Vec3
-middle l = times (fold plus origin l) (1·0 ⊘ ofℕ (length l))
+unfoldable pub sectionCentre : List Vec3 → Vec3
+sectionCentre l = times (fold plus origin l) (1·0 ⊘ ofℕ (length l))
 
 -- `area > eps * eps`
 unfoldable pub wide : Cut → List Vec3 → Bool
@@ -55,7 +55,7 @@ pieceAbout c cell l centre =
 -- the piece of a cell, a list of one or none
 unfoldable pub pieceOf : Mesh → Cut → ℕ → Cell → List PlaneCell
 pieceOf m c cell k =
-    cond (anyOf (foreign m c cell) (k .faces)) [] (pieceAbout c cell (meetings m c (k .faces)) (middle (meetings m c (k .faces))))
+    cond (anyOf (foreign m c cell) (k .faces)) [] (pieceAbout c cell (crossings m c (k .faces)) (sectionCentre (crossings m c (k .faces))))
 
 -- ---- all cells, from number i on
 

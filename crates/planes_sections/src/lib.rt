@@ -2,7 +2,7 @@
 use arith::Vec3;
 
 pub mod angles;
-pub mod middle;
+pub mod measures;
 
 // The piece of a cell: its centre and how many vertices it has.
 pub enum Piece {

@@ -16,18 +16,18 @@ use Rattle.arith.proofs.ListLaws.{count-next, length-sides, sides-at}
 use Rattle.arith.proofs.RoundLaws.{after-less, odd, odd-here, odd-past}
 use Rattle.arith.proofs.RecordLaws.{length-tab, getD-tab, drop-end}
 use Rattle.planes_cut.specs.declared.Plane.{Plane}
-use Rattle.planes_crossings.specs.Contracts.{heldIn, pointIn}
+use Rattle.planes_crossings.specs.Contracts.{slicePoints, pointIn}
 use Rattle.planes_sections.proofs.AngleLaws.{map-tab}
 use Rattle.planes_sums.specs.Probe.{project, covers}
 
 -- ---- an odd number of crossings, those so far and those to come
 
 module _ (s : Plane) (q : Vec2) (x y z : List Float) (n : ℕ) where
-  abbrev pub corner : ℕ → Vec2
-  corner i = project s (pointIn x y z i)
+  abbrev pub vertex : ℕ → Vec2
+  vertex i = project s (pointIn x y z i)
 
   abbrev pub sidesIn : List (Side Vec2)
-  sidesIn = sides (tab corner n)
+  sidesIn = sides (tab vertex n)
 
   abbrev pub sideIn : ℕ → Side Vec2
   sideIn i = record { from = project s (pointIn x y z i); to = project s (pointIn x y z (after n i)) }
@@ -36,10 +36,10 @@ module _ (s : Plane) (q : Vec2) (x y z : List Float) (n : ℕ) where
   rest inside i = odd inside (countWhere (crosses q) (drop i sidesIn))
 
   long : length sidesIn ≡ n
-  long = length-sides (tab corner n) ∙ length-tab corner n
+  long = length-sides (tab vertex n) ∙ length-tab vertex n
 
-  pub rest-start : rest false 0 ≡ covers s q (heldIn x y z n)
-  unfolding rest odd covers evenOdd heldIn
+  pub rest-start : rest false 0 ≡ covers s q (slicePoints x y z n)
+  unfolding rest odd covers evenOdd slicePoints
   rest-start = rw (map-tab (project s) (pointIn x y z) n, zero-add (countWhere (crosses q) sidesIn))
 
   pub rest-end : (i : ℕ) (inside r : Bool) → n ≤ i → rest inside i ≡ r → inside ≡ r
@@ -55,8 +55,8 @@ module _ (s : Plane) (q : Vec2) (x y z : List Float) (n : ℕ) where
   module _ (i : ℕ) (more : i < n) (inside r : Bool) (inv : rest inside i ≡ r) (c : Bool) (hc : c ≡ crosses q (sideIn i)) where
     here : getD sidesIn i (sideIn 0) ≡ sideIn i
     here =
-        sides-at (tab corner n) i (corner 0) (sideIn 0) (rw (length-tab corner n) more)
-        ∙ rw (length-tab corner n, getD-tab corner n i (corner 0) more, getD-tab corner n (after n i) (corner 0) (after-less n i more))
+        sides-at (tab vertex n) i (vertex 0) (sideIn 0) (rw (length-tab vertex n) more)
+        ∙ rw (length-tab vertex n, getD-tab vertex n i (vertex 0) more, getD-tab vertex n (after n i) (vertex 0) (after-less n i more))
 
     next : odd inside (cond c 1 0 + countWhere (crosses q) (drop (i + 1) sidesIn)) ≡ r
     unfolding rest

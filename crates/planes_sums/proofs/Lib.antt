@@ -1,4 +1,4 @@
 pub mod MeasureLaws
 pub mod WriteLaws
 pub mod InsideLaws
-pub mod TallyLaws
+pub mod AccumulatorLaws

@@ -8,12 +8,12 @@ use lib.Ieee.{Float}
 use Rattle.arith.specs.Lists.{fold, windows}
 use Rattle.arith.specs.Vec.{origin}
 use Rattle.arith.specs.declared.Vec3.{Vec3}
-use Rattle.planes_crossings.specs.Contracts.{heldIn, pointIn}
+use Rattle.planes_crossings.specs.Contracts.{slicePoints, pointIn}
 use Rattle.planes_crossings.proofs.HeldLaws.{held-left}
 use Rattle.planes_sums.specs.Sample.{addVector, vectorOf}
 
 pub vector-start : (x y z : List Float) (n : ℕ) (o t : Vec3) → 1 ≤ n → o ≡ pointIn x y z 0 → t ≡ origin →
-    fold (addVector o) t (windows (drop 1 (heldIn x y z n))) ≡ vectorOf (heldIn x y z n)
+    fold (addVector o) t (windows (drop 1 (slicePoints x y z n))) ≡ vectorOf (slicePoints x y z n)
 unfolding vectorOf
 vector-start x y z n o t h e w = rw (e, w) (sym (ap vectorOf (held-left x y z n 0 (omega arith) .left)))
 

@@ -11,20 +11,20 @@ use Rattle.arith.proofs.RecordLaws.{tab-next}
 use Rattle.reading.specs.declared.Values.{Values}
 use Rattle.answers.specs.Words.{vecWords, pointWords, valuesWords}
 use Rattle.answers.proofs.WordLaws.{sets-append, length-vec, length-points, points-more}
-use Rattle.planes_crossings.specs.Contracts.{heldIn, pointIn}
+use Rattle.planes_crossings.specs.Contracts.{slicePoints, pointIn}
 use Rattle.planes_crossings.proofs.HeldLaws.{length-held}
 use Rattle.planes_sums.specs.Words.{sampleWords}
 
-held-next : (x y z : List Float) (i : ℕ) → heldIn x y z (i + 1) ≡ heldIn x y z i ++ pointIn x y z i ∷ []
-unfolding heldIn
+held-next : (x y z : List Float) (i : ℕ) → slicePoints x y z (i + 1) ≡ slicePoints x y z i ++ pointIn x y z i ∷ []
+unfolding slicePoints
 held-next x y z i = tab-next (pointIn x y z) i
 
 -- one point more
-pub held-put : (o₀ o o′ : List ℕ) (at i : ℕ) (x y z : List Float) (p : Vec3) → o ≡ sets o₀ at (pointWords (heldIn x y z i)) → p ≡ pointIn x y z i →
-    o′ ≡ sets o (at + 3 * i) (vecWords p) → o′ ≡ sets o₀ at (pointWords (heldIn x y z (i + 1)))
+pub held-put : (o₀ o o′ : List ℕ) (at i : ℕ) (x y z : List Float) (p : Vec3) → o ≡ sets o₀ at (pointWords (slicePoints x y z i)) → p ≡ pointIn x y z i →
+    o′ ≡ sets o (at + 3 * i) (vecWords p) → o′ ≡ sets o₀ at (pointWords (slicePoints x y z (i + 1)))
 held-put o₀ o o′ at i x y z p inv ep e =
-    let next : heldIn x y z (i + 1) ≡ heldIn x y z i ++ p ∷ [] = held-next x y z i ∙ ap (λ (q : Vec3). heldIn x y z i ++ q ∷ []) (sym ep) in
-    points-more o₀ o o′ (heldIn x y z i) p at i (sym (length-held x y z i)) inv e ∙ ap (λ (l : List Vec3). sets o₀ at (pointWords l)) (sym next)
+    let next : slicePoints x y z (i + 1) ≡ slicePoints x y z i ++ p ∷ [] = held-next x y z i ∙ ap (λ (q : Vec3). slicePoints x y z i ++ q ∷ []) (sym ep) in
+    points-more o₀ o o′ (slicePoints x y z i) p at i (sym (length-held x y z i)) inv e ∙ ap (λ (l : List Vec3). sets o₀ at (pointWords l)) (sym next)
 
 -- a whole sample
 pub sample-put : (o : List ℕ) (at cell n : ℕ) (centre : Vec3) (v : Values) (l : List Vec3) → length l ≡ n →

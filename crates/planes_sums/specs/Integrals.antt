@@ -27,22 +27,22 @@ weighing normal t a v =
     }
 
 -- area, speed and pressure are finite
-unfoldable pub fit : Float → Values → Bool
-fit a v = finite a && (finite (norm (v .velocity)) && finite (v .pressure))
+unfoldable pub isValid : Float → Values → Bool
+isValid a v = finite a && (finite (norm (v .velocity)) && finite (v .pressure))
 
 -- refusal 42, "invalid sample"
 unfoldable pub addIntegral : Vec3 → Integral → Sample → Result Integral
 addIntegral normal t s =
     let a = measureOf normal (s .geometry .polygon) in
-    cond (fit a (s .values)) (fine (weighing normal t a (s .values))) (refused 42)
+    cond (isValid a (s .values)) (fine (weighing normal t a (s .values))) (refused 42)
 
 -- all integrals are finite
 unfoldable pub finiteIntegral : Integral → Bool
 finiteIntegral t = finite (t .area) && (finite (t .pressure) && (finite (t .speed) && finite (t .flux)))
 
 -- refusal 43, "no integrals"
-unfoldable pub vacant : Integral → Bool
-vacant t = (t .area ≼ 0·0) || not (finiteIntegral t)
+unfoldable pub noIntegrals : Integral → Bool
+noIntegrals t = (t .area ≼ 0·0) || not (finiteIntegral t)
 
 -- "area, mean pressure, mean speed, flux"
 unfoldable pub integralWords : Integral → List ℕ
@@ -50,7 +50,7 @@ integralWords t = word (t .area) ∷ word (t .pressure ⊘ t .area) ∷ word (t 
 
 -- refusal 43, or the answer
 unfoldable pub integralsFrom : Integral → Result (List ℕ)
-integralsFrom t = cond (vacant t) (refused 43) (fine (integralWords t))
+integralsFrom t = cond (noIntegrals t) (refused 43) (fine (integralWords t))
 
 -- all samples in turn, with refusal 42
 unfoldable pub integrals : Vec3 → List Sample → Result (List ℕ)

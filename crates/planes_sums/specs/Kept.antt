@@ -13,7 +13,7 @@ use Rattle.arith.specs.declared.Vec2.{Vec2}
 use Rattle.reading.specs.declared.Values.{Values}
 use Rattle.reading.specs.Result.{Result, refused, fine, _>>=_}
 use Rattle.planes_cut.specs.declared.Cut.{Cut}
-use Rattle.planes_crossings.specs.Contracts.{heldIn}
+use Rattle.planes_crossings.specs.Contracts.{slicePoints}
 use Rattle.planes_sections.specs.Intersect.{PlaneCell}
 use Rattle.planes_sums.specs.declared.Sums.{Sums}
 use Rattle.planes_sums.specs.declared.Integral.{Integral}
@@ -23,11 +23,11 @@ use Rattle.planes_sums.specs.declared.Weighed.{Weighed}
 use Rattle.planes_sums.specs.declared.Weighed.the-variants.{Whole, Unweighed}
 use Rattle.planes_sums.specs.declared.Probed.{Probed}
 use Rattle.planes_sums.specs.declared.Probed.the-variants.{Hit, Missed}
-use Rattle.planes_sums.specs.declared.Tally.{Tally}
-use Rattle.planes_sums.specs.declared.Tally.the-variants.{Section, Statistics, Integrals, Probe}
+use Rattle.planes_sums.specs.declared.Accumulator.{Accumulator}
+use Rattle.planes_sums.specs.declared.Accumulator.the-variants.{Section, Statistics, Integrals, Probe}
 use Rattle.planes_sums.specs.Sample.{Sample}
 use Rattle.planes_sums.specs.Statistics.{summing, counted, scalarOf, addSample}
-use Rattle.planes_sums.specs.Integrals.{fit, weighing, addIntegral}
+use Rattle.planes_sums.specs.Integrals.{isValid, weighing, addIntegral}
 use Rattle.planes_sums.specs.Probe.{covers}
 use Rattle.planes_sums.specs.Words.{sampleWords}
 
@@ -45,18 +45,18 @@ integralOf Unweighed = refused 42
 
 -- what is kept for each code: how many polygons were written and where the next one goes; the sums of a field; the integrals; the first
 -- sample over a point
-pub data Kept : Type 0 where
-  ofSection : ℕ → ℕ → Kept
-  ofStatistics : ℕ → Result Sums → Kept
-  ofIntegrals : Result Integral → Kept
-  ofProbe : Vec2 → Probed → Kept
+pub data SampleSums : Type 0 where
+  ofSection : ℕ → ℕ → SampleSums
+  ofStatistics : ℕ → Result Sums → SampleSums
+  ofIntegrals : Result Integral → SampleSums
+  ofProbe : Vec2 → Probed → SampleSums
 
 -- what each case of the answer stands for
-unfoldable pub keptOf : Tally → Kept
-keptOf (Section polygons at) = ofSection polygons at
-keptOf (Statistics field r) = ofStatistics field (sumsOf r)
-keptOf (Integrals r) = ofIntegrals (integralOf r)
-keptOf (Probe q r) = ofProbe q r
+unfoldable pub sampleSumsOf : Accumulator → SampleSums
+sampleSumsOf (Section polygons at) = ofSection polygons at
+sampleSumsOf (Statistics field r) = ofStatistics field (sumsOf r)
+sampleSumsOf (Integrals r) = ofIntegrals (integralOf r)
+sampleSumsOf (Probe q r) = ofProbe q r
 
 -- ---- with one sample
 
@@ -67,7 +67,7 @@ summingOf normal field t measure v =
 
 -- the integrals with a sample of this area
 unfoldable pub weighingOf : Vec3 → Integral → Float → Values → Result Integral
-weighingOf normal t a v = cond (fit a v) (fine (weighing normal t a v)) (refused 42)
+weighingOf normal t a v = cond (isValid a v) (fine (weighing normal t a v)) (refused 42)
 
 -- a refusal stays
 abbrev pub addSummed : Vec3 → ℕ → Result Sums → Sample → Result Sums
@@ -83,14 +83,14 @@ addProbed c q (Hit i v) s = Hit i v
 addProbed c q Missed s = cond (covers (c .plane) q (s .geometry .polygon)) (Hit (s .geometry .cell) (s .values)) Missed
 
 -- what each code keeps of it
-unfoldable pub addTo : Cut → Kept → Sample → Kept
+unfoldable pub addTo : Cut → SampleSums → Sample → SampleSums
 addTo c (ofSection polygons at) s = ofSection (suc polygons) (at + length (sampleWords s))
 addTo c (ofStatistics field r) s = ofStatistics field (addSummed (c .normal) field r s)
 addTo c (ofIntegrals r) s = ofIntegrals (addWeighed (c .normal) r s)
 addTo c (ofProbe q r) s = ofProbe q (addProbed c q r s)
 
 -- what it writes of a sample: a polygon of code 5, as far as it fits
-unfoldable pub written : Kept → List ℕ → Sample → List ℕ
+unfoldable pub written : SampleSums → List ℕ → Sample → List ℕ
 written (ofSection polygons at) o s = sets o at (sampleWords s)
 written (ofStatistics field r) o s = o
 written (ofIntegrals r) o s = o
@@ -100,7 +100,7 @@ written (ofProbe q r) o s = o
 
 -- a piece whose polygon stands in three slices
 abbrev pub cellIn : ℕ → Vec3 → ℕ → List Float → List Float → List Float → PlaneCell
-cellIn cell centre n x y z = record { cell = cell; centre = centre; polygon = heldIn x y z n }
+cellIn cell centre n x y z = record { cell = cell; centre = centre; polygon = slicePoints x y z n }
 
 -- the sample of such a piece
 abbrev pub sampleIn : ℕ → Vec3 → ℕ → Values → List Float → List Float → List Float → Sample
@@ -112,13 +112,13 @@ usedOf (fine t) = t .used
 usedOf (refused n) = 0
 
 -- a bound of the numbers that are kept
-unfoldable pub sizeOf : Kept → ℕ
+unfoldable pub sizeOf : SampleSums → ℕ
 sizeOf (ofSection polygons at) = polygons + at
 sizeOf (ofStatistics field r) = usedOf r
 sizeOf (ofIntegrals r) = 0
 sizeOf (ofProbe q r) = 0
 
 -- what is kept and written of one sample
-pub record Added (c : Cut) (t : Tally) (s : Sample) (r : Tally) (o o′ : List ℕ) : Type 0 where
-  pub tally : keptOf r ≡ addTo c (keptOf t) s
-  pub answers : o′ ≡ written (keptOf t) o s
+pub record AddExit (c : Cut) (t : Accumulator) (s : Sample) (r : Accumulator) (o o′ : List ℕ) : Type 0 where
+  pub tally : sampleSumsOf r ≡ addTo c (sampleSumsOf t) s
+  pub answers : o′ ≡ written (sampleSumsOf t) o s

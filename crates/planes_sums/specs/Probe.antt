@@ -28,9 +28,9 @@ firstOver s q (t ∷ l) =
     elim (covers s q (t .geometry .polygon)) [ true ↦ Hit (t .geometry .cell) (t .values) | false ↦ firstOver s q l ]
 
 -- a point more than 1e-8 off the plane
-unfoldable pub off : Plane → Vec3 → Bool
-off s p = 1e-8 ≺ abs (dot (minus p (s .origin)) (normalOf s))
+unfoldable pub offPlane : Plane → Vec3 → Bool
+offPlane s p = 1e-8 ≺ abs (dot (minus p (s .origin)) (normalOf s))
 
 -- it finds none
 unfoldable pub probe : Plane → Vec3 → List Sample → Probed
-probe s p l = cond (off s p) Missed (firstOver s (project s p) l)
+probe s p l = cond (offPlane s p) Missed (firstOver s (project s p) l)

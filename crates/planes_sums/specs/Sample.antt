@@ -15,12 +15,12 @@ pub record Sample : Type 0 where
   pub values : Values
 
 -- velocity and pressure are finite
-unfoldable pub sound : Values → Bool
-sound v = each3 finite (v .velocity) && finite (v .pressure)
+unfoldable pub hasFiniteValues : Values → Bool
+hasFiniteValues v = each3 finite (v .velocity) && finite (v .pressure)
 
 -- ---- the measure of a sample: its polygon's area vector, against the plane's normal
 
--- one triangle from the first corner o
+-- one triangle from the first vertex o
 unfoldable pub addVector : Vec3 → Vec3 → Side Vec3 → Vec3
 addVector o r t = plus r (times (cross (minus (t .from) o) (minus (t .to) o)) 0·5)
 

@@ -1,9 +1,9 @@
 // What each answer keeps of the samples.
+use crate::Accumulator;
 use crate::Integral;
 use crate::Probed;
 use crate::Summed;
 use crate::Sums;
-use crate::Tally;
 use crate::Weighed;
 use crate::measures;
 use crate::write;
@@ -16,8 +16,8 @@ ghost use mathlib.Core.Path.{_≡_};
 ghost use Prim.Native.Nat.{ℕ, _≤_, _<_};
 ghost use Rattle.planes_sums.specs.Statistics as Statistics;
 ghost use Rattle.planes_sums.specs.Integrals as Integrals;
-ghost use Rattle.planes_sums.specs.Kept.{keptOf, sumsOf, integralOf, summingOf, weighingOf, addSummed, addWeighed, addProbed, sampleIn, usedOf, sizeOf, Added};
-ghost use Rattle.planes_crossings.specs.Contracts.{Holds};
+ghost use Rattle.planes_sums.specs.Kept.{sampleSumsOf, sumsOf, integralOf, summingOf, weighingOf, addSummed, addWeighed, addProbed, sampleIn, usedOf, sizeOf, AddExit};
+ghost use Rattle.planes_crossings.specs.Contracts.{SliceLengths};
 
 // A sample with area and a finite value counts.
 fn counted(measure: f64, value: f64) -> bool
@@ -76,8 +76,8 @@ fn add_sample(normal: Vec3, field: u64, t: Sums, measure: f64, v: Values) -> Sum
 }
 
 // Area, speed and pressure are finite.
-fn fit(a: f64, v: Values) -> bool
-    ensures { λ r. ⌜ r ≡ Integrals.fit a v ⌝ }
+fn is_valid(a: f64, v: Values) -> bool
+    ensures { λ r. ⌜ r ≡ Integrals.isValid a v ⌝ }
 {
     if float::is_finite(a) {
         if float::is_finite(v.velocity.norm()) {
@@ -108,7 +108,7 @@ fn weighing(normal: Vec3, t: Integral, a: f64, v: Values) -> Integral
 fn add_integral(normal: Vec3, t: Integral, a: f64, v: Values) -> Weighed
     ensures { λ r. ⌜ integralOf r ≡ weighingOf normal t a v ⌝ }
 {
-    if fit(a, v) {
+    if is_valid(a, v) {
         Weighed::Whole(weighing(normal, t, a, v))
     } else {
         Weighed::Unweighed
@@ -126,7 +126,7 @@ fn add_summed(
     y: &[f64],
     z: &[f64],
 ) -> Summed
-    requires { ⌜ Holds (now x) (now y) (now z) n × (1 ≤ n) × (usedOf (sumsOf t) < 4294967296) ⌝ }
+    requires { ⌜ SliceLengths (now x) (now y) (now z) n × (1 ≤ n) × (usedOf (sumsOf t) < 4294967296) ⌝ }
     ensures { λ r. ⌜ ((cell : ℕ) (centre : Vec3) → sumsOf r ≡ addSummed normal field (sumsOf t)
         (sampleIn cell centre n v (now (x .entry)) (now (y .entry)) (now (z .entry)))) ⌝ }
 {
@@ -149,7 +149,7 @@ fn add_weighed(
     y: &[f64],
     z: &[f64],
 ) -> Weighed
-    requires { ⌜ Holds (now x) (now y) (now z) n × (1 ≤ n) ⌝ }
+    requires { ⌜ SliceLengths (now x) (now y) (now z) n × (1 ≤ n) ⌝ }
     ensures { λ r. ⌜ ((cell : ℕ) (centre : Vec3) → integralOf r ≡ addWeighed normal (integralOf t)
         (sampleIn cell centre n v (now (x .entry)) (now (y .entry)) (now (z .entry)))) ⌝ }
 {
@@ -174,7 +174,7 @@ fn add_probed(
     y: &[f64],
     z: &[f64],
 ) -> Probed
-    requires { ⌜ Holds (now x) (now y) (now z) n ⌝ }
+    requires { ⌜ SliceLengths (now x) (now y) (now z) n ⌝ }
     ensures { λ r. ⌜ ((centre : Vec3) → r ≡ addProbed cut q t
         (sampleIn cell centre n v (now (x .entry)) (now (y .entry)) (now (z .entry)))) ⌝ }
 {
@@ -193,7 +193,7 @@ fn add_probed(
 // What is kept with a sample, whose words are written where the answer has them.
 pub fn add(
     cut: Cut,
-    t: Tally,
+    t: Accumulator,
     cell: usize,
     centre: Vec3,
     n: usize,
@@ -202,20 +202,31 @@ pub fn add(
     y: &[f64],
     z: &[f64],
     answers: &mut [u64],
-) -> Tally
-    requires { ⌜ Holds (now x) (now y) (now z) n × (1 ≤ n) × (n ≤ 192) × (sizeOf (keptOf t) < 1073741824) ⌝ }
-    ensures { λ r. ⌜ Added cut t (sampleIn cell centre n v (now (x .entry)) (now (y .entry)) (now (z .entry))) r
+) -> Accumulator
+    requires { ⌜ SliceLengths (now x) (now y) (now z) n × (1 ≤ n) × (n ≤ 192) × (sizeOf (sampleSumsOf t) < 1073741824) ⌝ }
+    ensures { λ r. ⌜ AddExit cut t (sampleIn cell centre n v (now (x .entry)) (now (y .entry)) (now (z .entry))) r
         (now (answers .entry)) (now (answers .exit)) ⌝ }
 {
     match t {
-        Tally::Section(polygons, at) => {
+        Accumulator::Section(polygons, at) => {
             write::put_sample(answers, at, cell, centre, n, v, x, y, z);
-            Tally::Section(polygons + 1, at + 9 + 3 * n)
+            Accumulator::Section(polygons + 1, at + 9 + 3 * n)
         }
-        Tally::Statistics(field, r) => {
-            Tally::Statistics(field, add_summed(cut.normal, field, r, n, v, x, y, z))
+        Accumulator::Statistics(field, r) => {
+            Accumulator::Statistics(field, add_summed(cut.normal, field, r, n, v, x, y, z))
         }
-        Tally::Integrals(r) => Tally::Integrals(add_weighed(cut.normal, r, n, v, x, y, z)),
-        Tally::Probe(q, r) => Tally::Probe(q, add_probed(cut, q, r, cell, n, v, x, y, z)),
+        Accumulator::Integrals(r) => Accumulator::Integrals(add_weighed(
+            cut.normal,
+            r,
+            n,
+            v,
+            x,
+            y,
+            z,
+        )),
+        Accumulator::Probe(q, r) => Accumulator::Probe(
+            q,
+            add_probed(cut, q, r, cell, n, v, x, y, z),
+        ),
     }
 }

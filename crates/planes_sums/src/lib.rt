@@ -47,7 +47,7 @@ pub enum Probed {
 
 // What is kept of the samples: how many polygons were written and where the next one goes;
 // the sums of a field; the integrals; the sample over a point.
-pub enum Tally {
+pub enum Accumulator {
     Section(usize, usize),
     Statistics(u64, Summed),
     Integrals(Weighed),

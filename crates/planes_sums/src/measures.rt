@@ -4,7 +4,7 @@ use arith::Vec3;
 use arith::float;
 use arith::number::next_of;
 use arith::polygon::crosses;
-use planes_crossings::held;
+use planes_crossings::slices;
 use planes_cut::Plane;
 use reading::Values;
 ghost use mathlib.Core.Path.{_≡_};
@@ -12,15 +12,15 @@ ghost use Prim.Native.Nat.{_+_, _≤_, _<_};
 ghost use Rattle.arith.specs.F64.{finite};
 ghost use Rattle.arith.specs.Lists.{after};
 ghost use Rattle.arith.specs.Polygon as Polygon;
-ghost use Rattle.planes_crossings.specs.Contracts.{heldIn, pointIn, Holds};
+ghost use Rattle.planes_crossings.specs.Contracts.{slicePoints, pointIn, SliceLengths};
 ghost use Rattle.planes_sums.specs.Sample as Sample;
 ghost use Rattle.planes_sums.specs.Sample.{addVector, vectorOf, measureOf};
 ghost use Rattle.planes_sums.specs.Statistics.{scalarOf};
 ghost use Rattle.planes_sums.specs.Probe as Probe;
 
 // Velocity and pressure are finite.
-pub fn sound(v: Values) -> bool
-    ensures { λ r. ⌜ r ≡ Sample.sound v ⌝ }
+pub fn has_finite_values(v: Values) -> bool
+    ensures { λ r. ⌜ r ≡ Sample.hasFiniteValues v ⌝ }
 {
     if v.velocity.is_finite() {
         float::is_finite(v.pressure)
@@ -38,14 +38,19 @@ fn add_vector(o: Vec3, p: Vec3, q: Vec3, sum: Vec3) -> Vec3
 
 // The area vector of the polygon of n points.
 fn area_vector(x: &[f64], y: &[f64], z: &[f64], n: usize) -> Vec3
-    requires { ⌜ Holds (now x) (now y) (now z) n × (1 ≤ n) ⌝ }
-    ensures { λ r. ⌜ r ≡ vectorOf (heldIn (now (x .entry)) (now (y .entry)) (now (z .entry)) n) ⌝ }
+    requires { ⌜ SliceLengths (now x) (now y) (now z) n × (1 ≤ n) ⌝ }
+    ensures { λ r. ⌜ r ≡ vectorOf (slicePoints (now (x .entry)) (now (y .entry)) (now (z .entry)) n) ⌝ }
 {
-    let o = held::held(x, y, z, 0);
+    let o = slices::point_in(x, y, z, 0);
     let mut total = Vec3::new(0.0, 0.0, 0.0);
     let mut i = 1;
     while i + 1 < n {
-        total = add_vector(o, held::held(x, y, z, i), held::held(x, y, z, i + 1), total);
+        total = add_vector(
+            o,
+            slices::point_in(x, y, z, i),
+            slices::point_in(x, y, z, i + 1),
+            total,
+        );
         i += 1;
     }
     total
@@ -53,8 +58,8 @@ fn area_vector(x: &[f64], y: &[f64], z: &[f64], n: usize) -> Vec3
 
 // The polygon's area against the plane's normal.
 pub(crate) fn measure(normal: Vec3, x: &[f64], y: &[f64], z: &[f64], n: usize) -> f64
-    requires { ⌜ Holds (now x) (now y) (now z) n × (1 ≤ n) ⌝ }
-    ensures { λ r. ⌜ r ≡ measureOf normal (heldIn (now (x .entry)) (now (y .entry)) (now (z .entry)) n) ⌝ }
+    requires { ⌜ SliceLengths (now x) (now y) (now z) n × (1 ≤ n) ⌝ }
+    ensures { λ r. ⌜ r ≡ measureOf normal (slicePoints (now (x .entry)) (now (y .entry)) (now (z .entry)) n) ⌝ }
 {
     float::abs(area_vector(x, y, z, n).dot(normal))
 }
@@ -85,7 +90,7 @@ pub fn project(plane: Plane, p: Vec3) -> Vec2
 
 // The point lies more than 1e-8 off the plane.
 pub fn off(plane: Plane, p: Vec3) -> bool
-    ensures { λ r. ⌜ r ≡ Probe.off plane p ⌝ }
+    ensures { λ r. ⌜ r ≡ Probe.offPlane plane p ⌝ }
 {
     let normal = plane.u.cross(plane.v);
     float::abs(p.sub(plane.origin).dot(normal)) > 1e-8
@@ -93,7 +98,7 @@ pub fn off(plane: Plane, p: Vec3) -> bool
 
 // The line from q to the right crosses side i of the n points' polygon.
 fn side_crosses(plane: Plane, q: Vec2, x: &[f64], y: &[f64], z: &[f64], n: usize, i: usize) -> bool
-    requires { ⌜ Holds (now x) (now y) (now z) n × (i < n) ⌝ }
+    requires { ⌜ SliceLengths (now x) (now y) (now z) n × (i < n) ⌝ }
     ensures { λ r. ⌜ r ≡ Polygon.crosses q
         (record {
           from = Probe.project plane (pointIn (now (x .entry)) (now (y .entry)) (now (z .entry)) i);
@@ -102,15 +107,15 @@ fn side_crosses(plane: Plane, q: Vec2, x: &[f64], y: &[f64], z: &[f64], n: usize
         }) ⌝ }
 {
     let j = next_of(i, n);
-    let a = project(plane, held::held(x, y, z, i));
-    let b = project(plane, held::held(x, y, z, j));
+    let a = project(plane, slices::point_in(x, y, z, i));
+    let b = project(plane, slices::point_in(x, y, z, j));
     crosses(q, a, b)
 }
 
 // q lies in the polygon of n points, by the even-odd rule.
 pub(crate) fn covers(plane: Plane, q: Vec2, x: &[f64], y: &[f64], z: &[f64], n: usize) -> bool
-    requires { ⌜ Holds (now x) (now y) (now z) n ⌝ }
-    ensures { λ r. ⌜ r ≡ Probe.covers plane q (heldIn (now (x .entry)) (now (y .entry)) (now (z .entry)) n) ⌝ }
+    requires { ⌜ SliceLengths (now x) (now y) (now z) n ⌝ }
+    ensures { λ r. ⌜ r ≡ Probe.covers plane q (slicePoints (now (x .entry)) (now (y .entry)) (now (z .entry)) n) ⌝ }
 {
     let mut inside = false;
     let mut i = 0;

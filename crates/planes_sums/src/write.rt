@@ -1,23 +1,23 @@
 // The words of a sample, written as far as they fit.
 use arith::Vec3;
-use planes_crossings::held;
+use planes_crossings::slices;
 use reading::Values;
 ghost use mathlib.Core.Path.{_≡_};
 ghost use Prim.Native.Nat.{_≤_, _<_};
 ghost use lib.Seq.{sets};
 ghost use Rattle.answers.specs.Words.{pointWords};
-ghost use Rattle.planes_crossings.specs.Contracts.{heldIn, Holds};
+ghost use Rattle.planes_crossings.specs.Contracts.{slicePoints, SliceLengths};
 ghost use Rattle.planes_sums.specs.Words.{sampleWords};
 
 // The n points of three slices, from `at` on.
 fn put_points(answers: &mut [u64], at: usize, x: &[f64], y: &[f64], z: &[f64], n: usize)
-    requires { ⌜ Holds (now x) (now y) (now z) n × (n ≤ 192) × (at < 2147483648) ⌝ }
+    requires { ⌜ SliceLengths (now x) (now y) (now z) n × (n ≤ 192) × (at < 2147483648) ⌝ }
     ensures { λ _. ⌜ now (answers .exit) ≡ sets (now (answers .entry)) at
-        (pointWords (heldIn (now (x .entry)) (now (y .entry)) (now (z .entry)) n)) ⌝ }
+        (pointWords (slicePoints (now (x .entry)) (now (y .entry)) (now (z .entry)) n)) ⌝ }
 {
     let mut i = 0;
     while i < n {
-        answers::put_vec(answers, at + 3 * i, held::held(x, y, z, i));
+        answers::put_vec(answers, at + 3 * i, slices::point_in(x, y, z, i));
         i += 1;
     }
 }
@@ -34,11 +34,11 @@ pub(crate) fn put_sample(
     y: &[f64],
     z: &[f64],
 )
-    requires { ⌜ Holds (now x) (now y) (now z) n × (n ≤ 192) × (at < 1073741824) ⌝ }
+    requires { ⌜ SliceLengths (now x) (now y) (now z) n × (n ≤ 192) × (at < 1073741824) ⌝ }
     ensures { λ _. ⌜ now (answers .exit) ≡ sets (now (answers .entry)) at
         (sampleWords (record {
           geometry = record
-              { cell = cell; centre = centre; polygon = heldIn (now (x .entry)) (now (y .entry)) (now (z .entry)) n };
+              { cell = cell; centre = centre; polygon = slicePoints (now (x .entry)) (now (y .entry)) (now (z .entry)) n };
           values
               = v;
         })) ⌝ }

@@ -5,10 +5,10 @@ use mathlib.Core.List.{List}
 use lib.ListN.{length}
 use borrow.Author.Tests.{lt-ltb, le-ltb, eq-eqb, ne-eqb}
 use Rattle.reading.specs.After.{After}
-use Rattle.job_promise.specs.Promise.{Promised}
+use Rattle.job_promise.specs.Promise.{JobPromise}
 use Rattle.listing.specs.Listing.{doneText, refusedText}
-use Rattle.listing.specs.Contracts.{Listed}
-use Rattle.report.specs.Report.{ended, textOf, Reported}
+use Rattle.listing.specs.Contracts.{ListingExit}
+use Rattle.report.specs.Report.{ended, textOf, ReportExit}
 
 -- ---- refusal 20, or the job's end
 
@@ -28,7 +28,7 @@ module _ (file requests : List ℕ) (words floats : ℕ) (answers marks : List �
       : {n k : ℕ} {answers′ marks′ : List ℕ}
       → length file ≤ 65536
       → length requests ≤ 65536
-      → Promised file requests words floats answers marks (record { result = n; answers = answers′; marks = marks′ })
+      → JobPromise file requests words floats answers marks (record { result = n; answers = answers′; marks = marks′ })
       → k ≡ n
       → ended file requests words floats answers marks ≡ record { result = k; answers = answers′; marks = marks′ }
   unfolding ended
@@ -39,23 +39,23 @@ module _ (file requests : List ℕ) (words floats : ℕ) (answers marks : List �
 module _ (count k : ℕ) (answers marks text text′ : List ℕ) (r : ℕ) where
   pub text-done
       : k ≡ 0
-      → Listed (doneText answers count marks) text text′ r
-      → Listed (textOf count (record { result = k; answers = answers; marks = marks })) text text′ r
+      → ListingExit (doneText answers count marks) text text′ r
+      → ListingExit (textOf count (record { result = k; answers = answers; marks = marks })) text text′ r
   unfolding textOf
   text-done h t = rw (eq-eqb k 0 h) t
 
   pub text-refused
       : (k ≡ 0 → ⊥)
-      → Listed (refusedText k) text text′ r
-      → Listed (textOf count (record { result = k; answers = answers; marks = marks })) text text′ r
+      → ListingExit (refusedText k) text text′ r
+      → ListingExit (textOf count (record { result = k; answers = answers; marks = marks })) text text′ r
   unfolding textOf
   text-refused h t = rw (ne-eqb k 0 h) t
 
 pub reported
     : (a : After) (count k : ℕ) (answers marks text text′ : List ℕ) (r : ℕ)
     → a ≡ record { result = k; answers = answers; marks = marks }
-    → Listed (textOf count (record { result = k; answers = answers; marks = marks })) text text′ r
-    → Reported a count text text′ r answers marks
+    → ListingExit (textOf count (record { result = k; answers = answers; marks = marks })) text text′ r
+    → ReportExit a count text text′ r answers marks
 reported a count k answers marks text text′ r e t =
     record {
       listed = rw e t;

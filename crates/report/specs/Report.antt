@@ -8,7 +8,7 @@ use lib.ListN.{length}
 use Rattle.reading.specs.After.{After}
 use Rattle.job_promise.specs.Job.{outcome}
 use Rattle.listing.specs.Listing.{doneText, refusedText}
-use Rattle.listing.specs.Contracts.{Listed}
+use Rattle.listing.specs.Contracts.{ListingExit}
 
 -- "20, by the program before the job, for a file missing or above 65,536 bytes"; like every refusal it leaves answers and marks untouched
 unfoldable pub ended : List ℕ → List ℕ → ℕ → ℕ → List ℕ → List ℕ → After
@@ -22,7 +22,7 @@ unfoldable pub textOf : ℕ → After → List ℕ
 textOf count a = cond (eqb (a .result) 0) (doneText (a .answers) count (a .marks)) (refusedText (a .result))
 
 -- what `report` promises: the text of an end with `count` requests, and that end's answers and marks
-pub record Reported (a : After) (count : ℕ) (text text′ : List ℕ) (r : ℕ) (answers marks : List ℕ) : Type 0 where
-  pub listed : Listed (textOf count a) text text′ r
+pub record ReportExit (a : After) (count : ℕ) (text text′ : List ℕ) (r : ℕ) (answers marks : List ℕ) : Type 0 where
+  pub listed : ListingExit (textOf count a) text text′ r
   pub same-answers : answers ≡ a .answers
   pub same-marks : marks ≡ a .marks

@@ -5,8 +5,8 @@ use listing::put_refusal;
 ghost use Prim.Native.Nat.{_/_};
 ghost use mathlib.Core.Path.{_≡_};
 ghost use lib.ListN.{length};
-ghost use Rattle.listing.specs.Contracts.{Listed};
-ghost use Rattle.report.specs.Report.{ended, textOf, Reported};
+ghost use Rattle.listing.specs.Contracts.{ListingExit};
+ghost use Rattle.report.specs.Report.{ended, textOf, ReportExit};
 
 // The longest file, in bytes.
 const LONGEST: usize = 65536;
@@ -35,7 +35,7 @@ fn run(
 
 // The text of a job with this result. How long it is, or one more than the room for it.
 fn show(k: u64, answers: &[u64], count: usize, marks: &[u8], text: &mut [u8]) -> usize
-    ensures { λ r. ⌜ Listed (textOf count (record {
+    ensures { λ r. ⌜ ListingExit (textOf count (record {
       result = k;
       answers = now (answers .entry);
       marks = now
@@ -61,7 +61,7 @@ pub fn report(
     answers: &mut [u64],
     text: &mut [u8],
 ) -> usize
-    ensures { λ r. ⌜ Reported (ended (now (case .entry)) (now (requests .entry))
+    ensures { λ r. ⌜ ReportExit (ended (now (case .entry)) (now (requests .entry))
         (length (now (words .entry))) (length (now (floats .entry))) (now (answers .entry)) (now (marks .entry)))
         (length (now (requests .entry)) / 128) (now (text .entry)) (now (text .exit)) r (now (answers .exit))
         (now (marks .exit)) ⌝ }

@@ -9,7 +9,7 @@ ghost use Rattle.test_arith_exports.specs.Directions as Spec;
 
 // The quarters and the slopes of all directions.
 fn measure(dx: &[f64], dy: &[f64], quarters: &mut [u64], slopes: &mut [f64])
-    requires { ⌜ Spec.Lent (now dx) (now dy) (now quarters) (now slopes) ⌝ }
+    requires { ⌜ Spec.EqualLengths (now dx) (now dy) (now quarters) (now slopes) ⌝ }
     ensures { λ _. ⌜ now (quarters .exit) ≡ Spec.quarters (now (dx .entry)) (now (dy .entry))
         (length (now (dx .entry))) ⌝ }
     ensures { λ _. ⌜ now (slopes .exit) ≡ Spec.slopes (now (dx .entry)) (now (dy .entry)) (length (now (dx .entry))) ⌝ }
@@ -25,7 +25,7 @@ fn measure(dx: &[f64], dy: &[f64], quarters: &mut [u64], slopes: &mut [f64])
 
 // The places of the directions in angle order; quarters and slopes are work space.
 fn order(dx: &[f64], dy: &[f64], quarters: &mut [u64], slopes: &mut [f64], places: &mut [usize])
-    requires { ⌜ Spec.Lent (now dx) (now dy) (now quarters) (now slopes) ⌝ ∗ ⌜ length (now places) ≡ length (now dx) ⌝ }
+    requires { ⌜ Spec.EqualLengths (now dx) (now dy) (now quarters) (now slopes) ⌝ ∗ ⌜ length (now places) ≡ length (now dx) ⌝ }
     ensures { λ _. ⌜ now (places .exit) ≡ Spec.ordered (now (dx .entry)) (now (dy .entry)) ⌝ }
 {
     measure(dx, dy, quarters, slopes);

@@ -11,14 +11,14 @@ use Rattle.reading.specs.Result.{Result, refused, fine}
 use Rattle.mesh_area.specs.Tables.{Mesh}
 use Rattle.mesh_area.specs.Layout.{meshIn}
 use Rattle.mesh_area.specs.declared.Sizes.{Sizes}
-use Rattle.mesh.specs.Contracts.{Building, sizesFor}
+use Rattle.mesh.specs.Contracts.{BuildExit, sizesFor}
 use Rattle.mesh.specs.declared.Built.{Built}
 use Rattle.mesh.specs.declared.Built.the-variants as Built
 use Rattle.mesh.proofs.Laws.{Standing, building-refused, building-mesh, standing-sizes}
-use Rattle.test_mesh_exports.specs.Exported.{refusalOf, sizesOf, Exported}
+use Rattle.test_mesh_exports.specs.Exported.{refusalOf, sizesOf, FromCellsExit}
 
-module _ {m : Result Mesh} {n : ℕ} {ps : List Vec3} {words : List ℕ} {floats : List Float} {b : Built} (z : List ℕ) (h : Building m n ps words floats b) where
-  pub refusal : (k : ℕ) → b ≡ Built.Refused k → Exported m n ps words floats z z k
+module _ {m : Result Mesh} {n : ℕ} {ps : List Vec3} {words : List ℕ} {floats : List Float} {b : Built} (z : List ℕ) (h : BuildExit m n ps words floats b) where
+  pub refusal : (k : ℕ) → b ≡ Built.Refused k → FromCellsExit m n ps words floats z z k
   unfolding refusalOf sizesOf
   refusal k e =
       let r : m ≡ refused k = building-refused k h e in
@@ -34,11 +34,11 @@ module _ {m : Result Mesh} {n : ℕ} {ps : List Vec3} {words : List ℕ} {floats
     own : s ≡ sizesFor n (meshIn ps s words floats)
     own = standing-sizes s (meshIn ps s words floats) p (p .mesh)
 
-    pub no-room : length z < 3 → Exported m n ps words floats z z 0
+    pub no-room : length z < 3 → FromCellsExit m n ps words floats z z 0
     unfolding refusalOf sizesOf
     no-room short = record { number = rw (p .mesh); stored = rw (p .mesh, lt-ltb (length z) 3 short); stands = there }
 
-    pub sized : 3 ≤ length z → Exported m n ps words floats z (set (set (set z 0 (s .slots)) 1 (s .faces)) 2 (s .cells)) 0
+    pub sized : 3 ≤ length z → FromCellsExit m n ps words floats z (set (set (set z 0 (s .slots)) 1 (s .faces)) 2 (s .cells)) 0
     unfolding refusalOf sizesOf sizesFor
     sized long =
         let filled : set (set (set z 0 (s .slots)) 1 (s .faces)) 2 (s .cells) ≡ sizesOf n (fine (meshIn ps s words floats)) z =

@@ -23,7 +23,7 @@ sizesOf f (refused k) l = l
 sizesOf f (fine m) l = cond (ltb (length l) 3) l (set (set (set l 0 f) 1 (length (m .faces))) 2 (length (m .cells)))
 
 -- the number of the refusal or 0, the sizes, and the mesh that stands in the area by them
-pub record Exported (m : Result Mesh) (f : ℕ) (ps : List Vec3) (words : List ℕ) (floats : List Float) (sizes sizes′ : List ℕ) (r : ℕ) : Type 0 where
+pub record FromCellsExit (m : Result Mesh) (f : ℕ) (ps : List Vec3) (words : List ℕ) (floats : List Float) (sizes sizes′ : List ℕ) (r : ℕ) : Type 0 where
   pub number : r ≡ refusalOf m
   pub stored : sizes′ ≡ sizesOf f m sizes
   pub stands : (t : Mesh) → m ≡ fine t → meshIn ps (sizesFor f t) words floats ≡ t

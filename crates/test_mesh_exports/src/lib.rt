@@ -4,7 +4,7 @@ ghost use lib.ListN.{length};
 ghost use Rattle.case_file.specs.Trailer.{countsOf};
 ghost use Rattle.mesh_area.specs.Layout.{pointsIn};
 ghost use Rattle.mesh.specs.Case.{surveyOf, caseFaces, meshFrom};
-ghost use Rattle.test_mesh_exports.specs.Exported.{Exported};
+ghost use Rattle.test_mesh_exports.specs.Exported.{FromCellsExit};
 
 // Builds the mesh of a case in the lent area and answers 0, or the refusal. The sizes are the
 // number of faces of all definitions, of faces and of cells, which say where the area has what.
@@ -15,7 +15,7 @@ pub extern "C" fn hookyellow_from_cells(
     floats: &mut [f64],
     sizes: &mut [usize],
 ) -> u64
-    ensures { λ r. ⌜ Exported
+    ensures { λ r. ⌜ FromCellsExit
         (meshFrom (now (case .entry)) (length (now (words .entry))) (length (now (floats .entry))))
         (caseFaces (surveyOf (now (case .entry))))
         (pointsIn (now (case .entry)) (countsOf (now (case .entry)) .points)) (now (words .exit)) (now (floats .exit))

@@ -5,7 +5,7 @@ use mathlib.Core.Path.{_≡_, refl, ap, sym, _∙_}
 use mathlib.Core.List.{List, _++_}
 use lib.ListN.{length, getD, set, take, drop, length-take, length-drop}
 use lib.Seq.{drop-drop}
-use Rattle.test_stored.specs.Pieces.{repeated, copied, endWith, with-piece, Added, Text, more, Named}
+use Rattle.test_stored.specs.Pieces.{repeated, copied, endWith, with-piece, PieceExit, Text, more, ShowNameExit}
 
 -- one byte more
 pub next-repeat
@@ -26,12 +26,12 @@ no-repeat end n k room whole le e =
     sym (ap (λ (m : ℕ). repeated m n k room) z) ∙ e
 
 -- one piece more
-pub next-piece : (room₀ room room′ : List ℕ) (from r : ℕ) → Text room₀ from room → Added from room room′ r → Text room₀ r room′
+pub next-piece : (room₀ room room′ : List ℕ) (from r : ℕ) → Text room₀ from room → PieceExit from room room′ r → Text room₀ r room′
 next-piece room₀ room room′ from r t a = rw (a .end, a .text) (more t (a .piece))
 
 -- ---- what a read leaves, in the part of the room that it was lent
 
-pub named : (room part : List ℕ) (n : ℕ) → n ≤ length room → length part ≡ length (take n room) → Named room (part ++ drop n room)
+pub named : (room part : List ℕ) (n : ℕ) → n ≤ length room → length part ≡ length (take n room) → ShowNameExit room (part ++ drop n room)
 unfolding copied
 named room part n le k =
     let e : length part ≡ n = omega (arith, simp length-take at k) in
@@ -46,7 +46,7 @@ pub added
     → room′ ≡ repeated (end - (from + n)) n (from + n) (take from room ++ (part ++ drop (from + n - from) (drop from room)))
     → r ≡ max (from + n) end
     → r ≤ length room′
-    → Added from room room′ r
+    → PieceExit from room room′ r
 unfolding copied endWith with-piece
 added room part room′ from n end r le at k e m fits =
     let s : length part ≡ n = omega (arith, simp (length-take, length-drop) at k) in

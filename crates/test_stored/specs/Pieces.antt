@@ -30,7 +30,7 @@ with-piece p from room =
     repeated (p .length-after - (from + n)) n (from + n) (copied (p .bytes) from room)
 
 -- what `piece` promises
-pub record Added (from : ℕ) (room room′ : List ℕ) (r : ℕ) : Type 0 where
+pub record PieceExit (from : ℕ) (room room′ : List ℕ) (r : ℕ) : Type 0 where
   pub piece : Piece
   pub end : r ≡ endWith piece from
   pub fits : r ≤ length room′
@@ -42,12 +42,12 @@ pub data Text (room : List ℕ) : ℕ → List ℕ → Type 0 where
   more : {from : ℕ} {room′ : List ℕ} → Text room from room′ → (p : Piece) → Text room (endWith p from) (with-piece p from room′)
 
 -- what `assemble` promises
-pub record Assembled (room room′ : List ℕ) (r : ℕ) : Type 0 where
+pub record AssembleExit (room room′ : List ℕ) (r : ℕ) : Type 0 where
   pub text : Text room r room′
   pub fits : r ≤ length room′
 
 -- what `show_name` promises of the room that it reads the name into
-pub record Named (room room′ : List ℕ) : Type 0 where
+pub record ShowNameExit (room room′ : List ℕ) : Type 0 where
   pub name : List ℕ
   pub fits : length name ≤ length room
   pub stands : room′ ≡ copied name 0 room

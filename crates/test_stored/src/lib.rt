@@ -9,7 +9,7 @@ use libc::STDOUT_FILENO;
 ghost use Prim.Native.Nat.{_≤_, _<_, _-_};
 ghost use mathlib.Core.Path.{_≡_};
 ghost use lib.ListN.{length};
-ghost use Rattle.test_stored.specs.Pieces.{repeated, Added, Assembled, Named};
+ghost use Rattle.test_stored.specs.Pieces.{repeated, PieceExit, AssembleExit, ShowNameExit};
 
 pub mod fnv;
 
@@ -25,7 +25,7 @@ pub fn number(fd: i32, most: usize) -> usize
 
 // Prints the next name of the file; `room` is to read it into.
 pub fn show_name(fd: i32, room: &mut [u8])
-    ensures { λ _. ⌜ Named (now (room .entry)) (now (room .exit)) ⌝ }
+    ensures { λ _. ⌜ ShowNameExit (now (room .entry)) (now (room .exit)) ⌝ }
 {
     let n = number(fd, room.len());
     io::read_full(fd, &mut room[..n]);
@@ -48,7 +48,7 @@ fn repeat(room: &mut [u8], n: usize, from: usize, end: usize)
 // Adds the next piece of the file to the first `from` bytes, where there are so many. How many there are then.
 pub fn piece(fd: i32, room: &mut [u8], from: usize) -> usize
     requires { ⌜ from ≤ length (now room) ⌝ }
-    ensures { λ r. ⌜ Added from (now (room .entry)) (now (room .exit)) r ⌝ }
+    ensures { λ r. ⌜ PieceExit from (now (room .entry)) (now (room .exit)) r ⌝ }
 {
     let n = number(fd, room.len() - from);
     let end = number(fd, room.len());
@@ -60,7 +60,7 @@ pub fn piece(fd: i32, room: &mut [u8], from: usize) -> usize
 
 // Puts the next pieces of the file together, and answers how many bytes they are.
 pub fn assemble(fd: i32, room: &mut [u8]) -> usize
-    ensures { λ r. ⌜ Assembled (now (room .entry)) (now (room .exit)) r ⌝ }
+    ensures { λ r. ⌜ AssembleExit (now (room .entry)) (now (room .exit)) r ⌝ }
 {
     let pieces = number(fd, 65536);
     let mut end = 0;

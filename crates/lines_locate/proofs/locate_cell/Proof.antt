@@ -1,5 +1,5 @@
 use mathlib.Core.Path.{sym, _∙_}
-use Rattle.lines_locate.specs.Locate.{flat}
+use Rattle.lines_locate.specs.Locate.{xyOf}
 use Rattle.lines_locate.specs.Locate.{locate, locateWhere}
 use borrow.Author.Needs.{needs}
 use Rattle.lines_locate.proofs.locate_cell.Statement.{statement}
@@ -15,7 +15,7 @@ first-at-requires : tie.Need-first-at-requires
 first-at-requires c κs = search needs
 
 returns : tie.Need-returns
-unfolding locate locateWhere flat
+unfolding locate locateWhere xyOf
 returns c = rw (sym (c .before .before .before .before .is-finite .ensures) ∙ c .before .before .before .if1 .taken, sym (c .before .before .is-finite2 .ensures) ∙ c .before .if2 .taken) (c .first-at .ensures)
 
 returns-2 : tie.Need-returns-2

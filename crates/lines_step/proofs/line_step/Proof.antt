@@ -18,14 +18,14 @@ same-length c = search needs
 returns : tie.Need-returns
 returns c = step-ended _ _ _ _ _ _ _ _ _ (c .before .before .before .before .rk4-step .ensures) (c .enum-told .given .1)
 
-kept-requires : tie.Need-kept-requires
-kept-requires c κs = search needs
+within-length-requires : tie.Need-within-length-requires
+within-length-requires c κs = search needs
 
 same-length-2 : tie.Need-same-length-2
 same-length-2 c = search needs
 
 returns-2 : tie.Need-returns-2
-returns-2 c = step-kept _ _ _ _ _ _ _ _ _ (c .before .before .before .before .before .before .rk4-step .ensures) _ _ (c .before .before .q .given .1) (c .kept .ensures)
+returns-2 c = step-kept _ _ _ _ _ _ _ _ _ (c .before .before .before .before .before .before .rk4-step .ensures) _ _ (c .before .before .q .given .1) (c .within-length .ensures)
 
 pub line-step-spec : {M : Type 1} → statement M
 line-step-spec =
@@ -36,6 +36,6 @@ line-step-spec =
     enum-told
     same-length
     returns
-    kept-requires
+    within-length-requires
     same-length-2
     returns-2)

@@ -11,7 +11,7 @@ join-requires c κs =
     record {
       lent-words = k .lent-words;
       lent-floats = lent-floats _ _ _ _ (k .lent-floats) (c .before .before .before .before .before .before .finish-cells .ensures .long) (k .lent-floats .few-faces);
-      laid = laid-out _ _ _ (k .lists) (p .corners);
+      laid = laid-out _ _ _ (k .lists) (p .vertices);
     }
 
 returns : tie.Need-returns

@@ -13,11 +13,11 @@ complete-requires c κs =
     let h = held-sized _ _ _ _ _ _ (a .held) in
     record {
       finishable =
-          held-finishable _ _ _ _ _ _ _ _ h _ _ _ (a .drafted) (p .right)
+          held-finishable _ _ _ _ _ _ _ _ h _ _ _ (a .partial) (p .right)
           (lent-words _ _ _ _ (p .lent-words) (search needs) (a .held .few))
           (lent-floats _ _ _ _ (p .lent-floats) (search needs) (a .held .few))
           (record { few = p .points-few; long = p .points-there });
-      corners = a .held .corners;
+      vertices = a .held .vertices;
     }
 
 returns : tie.Need-returns
@@ -26,7 +26,7 @@ returns c = λ defs e. barred (filled-refused _ defs _ _ (adding-refused _ (c .b
 returns-2 : tie.Need-returns-2
 returns-2 c = λ defs e.
     let a = adding-faces _ (c .before .before .before .before .before .before .before .before .before .before .before .before .before .before .add-cells .ensures defs e) (c .before .before .before .before .before .before .before .before .faces .given .1) in
-    built-as (ap (completed _ _) (held-is _ _ _ _ _ _ (a .held)) ∙ filled-fine _ defs _ _ (a .drafted)) refl (c .before .before .before .before .complete .ensures)
+    built-as (ap (completed _ _) (held-is _ _ _ _ _ _ (a .held)) ∙ filled-fine _ defs _ _ (a .partial)) refl (c .before .before .before .before .complete .ensures)
 
 pub fill-spec : {M : Type 1} → statement M
 fill-spec =

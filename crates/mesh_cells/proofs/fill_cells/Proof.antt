@@ -4,7 +4,7 @@ use native.Mathlib.Omega.{arith}
 use lib.ListN.{length}
 use Rattle.case_file.specs.Trailer.{wordsIn}
 use Rattle.mesh_area.specs.Layout.{pointsIn}
-use Rattle.mesh_cells.specs.Contracts.{Filled, definedIn}
+use Rattle.mesh_cells.specs.Contracts.{CellsSoFar, definedIn}
 use Rattle.mesh_cells.proofs.CellLaws.{filled-start, addable-kept, added-refused, added-next, drafts-refused, drafts-done}
 use borrow.Author.Needs.{needs}
 use Rattle.mesh_cells.proofs.fill_cells.Statement.{statement}
@@ -13,7 +13,7 @@ use Rattle.mesh_cells.proofs.fill_cells.Tie as tie
 abbrev Inv-loop : tie.InvT-loop
 Inv-loop case points dimension ws words₀ floats₀ s p₀ i₀ words floats p i =
     (i ≤ s .cells) × (length words ≡ length words₀) × (length floats ≡ length floats₀)
-    × Filled dimension (pointsIn case points) (wordsIn ws) (definedIn s (wordsIn ws)) s words floats i p
+    × CellsSoFar dimension (pointsIn case points) (wordsIn ws) (definedIn s (wordsIn ws)) s words floats i p
 
 abbrev μ-loop : tie.MeasureT-loop
 μ-loop case points dimension ws words₀ floats₀ s p₀ i₀ words floats p i = s .cells - i

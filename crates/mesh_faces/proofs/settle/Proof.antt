@@ -12,12 +12,12 @@ returns-2 : tie.Need-returns-2
 returns-2 c =
     let o = c .before .before .before .before .before in
     let b = o .before .before in
-    is-second _ _ _ _ _ _ _ _ (b .before .find .ensures .0) (b .if1 .left) (b .before .find .ensures .1) (b .before .before .before .before .before .before .pre) _ _ (o .other-of .ensures) (c .before .before .before .before .if2 .taken) (c .before .before .store-other .ensures) (search needs)
+    is-second _ _ _ _ _ _ _ _ (b .before .find .ensures .0) (b .if1 .left) (b .before .find .ensures .1) (b .before .before .before .before .before .before .pre) _ _ (o .neighbour-word .ensures) (c .before .before .before .before .if2 .taken) (c .before .before .store-neighbour .ensures) (search needs)
 
 returns-3 : tie.Need-returns-3
 returns-3 c =
     let b = c .before .before .before in
-    is-third _ _ _ _ _ _ _ _ (b .before .find .ensures .0) (b .if1 .left) (b .before .find .ensures .1) (b .before .before .before .before .before .before .pre) _ (c .before .other-of .ensures) (c .if2 .left)
+    is-third _ _ _ _ _ _ _ _ (b .before .find .ensures .0) (b .if1 .left) (b .before .find .ensures .1) (b .before .before .before .before .before .before .pre) _ (c .before .neighbour-word .ensures) (c .if2 .left)
 
 pub settle-spec : {M : Type 1} → statement M
 settle-spec =

@@ -7,7 +7,7 @@ use Rattle.case_faces.proofs.FaceLaws.{at-first}
 use Rattle.mesh_area.specs.Layout.{pointsIn}
 use Rattle.mesh_measure.specs.Contracts.{facesAt}
 use Rattle.arith.specs.Lists.{fold}
-use Rattle.mesh_volumes.specs.Geometry.{weightless, addTriangle}
+use Rattle.mesh_volumes.specs.Geometry.{noWeight, addTriangle}
 use Rattle.mesh_measure.proofs.Laws.{sum-next, facesAt-end}
 use borrow.Author.Needs.{needs}
 use native.Mathlib.Omega.{arith}
@@ -15,7 +15,7 @@ use Rattle.mesh_measure.proofs.add_edges.Statement.{statement}
 use Rattle.mesh_measure.proofs.add_edges.Tie as tie
 
 abbrev Inv-loop : tie.InvT-loop
-Inv-loop case points words h reference sum₀ c₀ sum c = AtFace (wordsIn words) h c × (c .face ≤ h .faces) × (fold (addTriangle (pointsIn case points) reference) sum (drop (c .face) (facesAt (wordsIn words) h)) ≡ fold (addTriangle (pointsIn case points) reference) weightless (facesAt (wordsIn words) h))
+Inv-loop case points words h reference sum₀ c₀ sum c = AtFace (wordsIn words) h c × (c .face ≤ h .faces) × (fold (addTriangle (pointsIn case points) reference) sum (drop (c .face) (facesAt (wordsIn words) h)) ≡ fold (addTriangle (pointsIn case points) reference) noWeight (facesAt (wordsIn words) h))
 
 abbrev μ-loop : tie.MeasureT-loop
 μ-loop case points words h reference sum₀ c₀ sum c = h .faces - c .face
@@ -23,7 +23,7 @@ abbrev μ-loop : tie.MeasureT-loop
 loop-holds : tie.Need-loop-holds Inv-loop μ-loop
 loop-holds c =
     let first = c .first-face .ensures in
-    (at-first _ _ _ (c .before .before .before .before .pre .1) (first .0) (first .1), rw (first .0) (search needs), rw (first .0, c .before .weightless .ensures))
+    (at-first _ _ _ (c .before .before .before .before .pre .1) (first .0) (first .1), rw (first .0) (search needs), rw (first .0, c .before .no-weight .ensures))
 
 add-edge-requires : tie.Need-add-edge-requires Inv-loop μ-loop
 add-edge-requires c κs = (search needs, record { at-face = c .before .before .before .loop .inv .0; more = c .if1 .taken })

@@ -1,5 +1,5 @@
 use Rattle.mesh_volumes.specs.Geometry.{centre2D, cellOf}
-use Rattle.mesh_measure.specs.Contracts.{fansOf}
+use Rattle.mesh_measure.specs.Contracts.{weightOf}
 use Rattle.mesh_measure.proofs.Laws.{flat-cell, solid-cell, no-cell}
 use mathlib.Core.Path.{sym, _∙_, ap}
 use borrow.Author.Needs.{needs}
@@ -10,12 +10,12 @@ returns : tie.Need-returns
 returns c = c .centre-2d .ensures ∙ ap (centre2D _) (c .before .add-edges .ensures) ∙ flat-cell _ _ _ _ (c .before .before .if1 .taken)
 
 returns-2 : tie.Need-returns-2
-unfolding fansOf
-returns-2 c = c .centre-3d .ensures ∙ solid-cell _ _ _ _ (c .before .before .before .before .before .if1 .left) _ (sym (c .before .before .before .before .add-faces-3d .ensures) ∙ ap fansOf (c .before .before .w .given .1))
+unfolding weightOf
+returns-2 c = c .centre-3d .ensures ∙ solid-cell _ _ _ _ (c .before .before .before .before .before .if1 .left) _ (sym (c .before .before .before .before .add-faces-3d .ensures) ∙ ap weightOf (c .before .before .w .given .1))
 
 returns-3 : tie.Need-returns-3
-unfolding fansOf cellOf
-returns-3 c = no-cell _ _ _ _ (c .before .before .before .if1 .left) (sym (c .before .before .add-faces-3d .ensures) ∙ ap fansOf (c .enum-told .given .1))
+unfolding weightOf cellOf
+returns-3 c = no-cell _ _ _ _ (c .before .before .before .if1 .left) (sym (c .before .before .add-faces-3d .ensures) ∙ ap weightOf (c .enum-told .given .1))
 
 pub cell-geometry-spec : {M : Type 1} → statement M
 cell-geometry-spec =

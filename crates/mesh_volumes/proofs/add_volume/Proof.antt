@@ -7,7 +7,7 @@ returns : tie.Need-returns
 unfolding addVolume
 returns c =
     let b = c .before .before .before in
-    rw (c .add-part .ensures, c .before .scale .ensures, c .before .before .add3 .ensures, b .add2 .ensures, b .before .add .ensures, b .before .before .sixth .ensures)
+    rw (c .add-part .ensures, c .before .scale .ensures, c .before .before .add3 .ensures, b .add2 .ensures, b .before .add .ensures, b .before .before .tetrahedron-volume .ensures)
 
 pub add-volume-spec : {M : Type 1} → statement M
 add-volume-spec =

@@ -4,15 +4,15 @@ use borrow.Author.Needs.{needs}
 use Rattle.lines.proofs.integrate.integrate.Statement.{statement}
 use Rattle.lines.proofs.integrate.integrate.Tie as tie
 
-are-good-requires : tie.Need-are-good-requires
-are-good-requires c κs = search needs
+are-accepted-requires : tie.Need-are-accepted-requires
+are-accepted-requires c κs = search needs
 
 is-nowhere-requires : tie.Need-is-nowhere-requires
 is-nowhere-requires c κs = search needs
 
 returns : tie.Need-returns
 unfolding integrate
-returns c = answered-refused 35 (is-lost _ _ (c .before .before .before .are-good .ensures) (c .before .before .if1 .taken) (c .before .is-nowhere .ensures) (c .if2 .taken))
+returns c = answered-refused 35 (is-lost _ _ (c .before .before .before .are-accepted .ensures) (c .before .before .if1 .taken) (c .before .is-nowhere .ensures) (c .if2 .taken))
 
 trace-requires : tie.Need-trace-requires
 trace-requires c κs = search needs
@@ -25,17 +25,17 @@ same-length-2 c = search needs
 
 returns-2 : tie.Need-returns-2
 unfolding integrate
-returns-2 c = answered-fine _ (is-fine _ _ (c .before .before .before .before .before .before .before .before .before .before .are-good .ensures) (c .before .before .before .before .before .before .before .before .before .if1 .taken) (c .before .before .before .before .before .before .before .before .is-nowhere .ensures) (c .before .before .before .before .before .before .before .if2 .left)) (c .before .before .before .before .trace .ensures .0)
+returns-2 c = answered-fine _ (is-fine _ _ (c .before .before .before .before .before .before .before .before .before .before .are-accepted .ensures) (c .before .before .before .before .before .before .before .before .before .if1 .taken) (c .before .before .before .before .before .before .before .before .is-nowhere .ensures) (c .before .before .before .before .before .before .before .if2 .left)) (c .before .before .before .before .trace .ensures .0)
 
 returns-3 : tie.Need-returns-3
 unfolding integrate
-returns-3 c = answered-refused 34 (not-good _ _ (c .before .are-good .ensures) (c .if1 .left))
+returns-3 c = answered-refused 34 (not-good _ _ (c .before .are-accepted .ensures) (c .if1 .left))
 
 pub integrate-spec : {M : Type 1} → statement M
 integrate-spec =
     tie.close
     (tie.spec
-    are-good-requires
+    are-accepted-requires
     is-nowhere-requires
     returns
     trace-requires

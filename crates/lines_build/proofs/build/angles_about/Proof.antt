@@ -1,5 +1,5 @@
 use Rattle.lines_field.proofs.PolygonLaws.{angles-start, angles-turn}
-use Rattle.lines_field.specs.Contracts.{AnglesAbout}
+use Rattle.lines_field.specs.Contracts.{AnglesAboutExit}
 use lib.ListN.{length, length-set}
 use mathlib.Core.Path.{_≡_}
 use Prim.Native.Nat.{_≤_, _-_}
@@ -9,7 +9,7 @@ use Rattle.lines_build.proofs.build.angles_about.Statement.{statement}
 use Rattle.lines_build.proofs.build.angles_about.Tie as tie
 
 abbrev Inv-loop : tie.InvT-loop
-Inv-loop xs ys n centre quarters₀ slopes₀ k₀ quarters slopes k = (k ≤ n) × (AnglesAbout centre xs ys quarters slopes k) × (length quarters ≡ length quarters₀) × (length slopes ≡ length slopes₀)
+Inv-loop xs ys n centre quarters₀ slopes₀ k₀ quarters slopes k = (k ≤ n) × (AnglesAboutExit centre xs ys quarters slopes k) × (length quarters ≡ length quarters₀) × (length slopes ≡ length slopes₀)
 
 abbrev μ-loop : tie.MeasureT-loop
 μ-loop xs ys n centre quarters₀ slopes₀ k₀ quarters slopes k = n - k

@@ -7,8 +7,8 @@ use Rattle.lines_build.proofs.build.store_polygon.Tie as tie
 floats-at-requires : tie.Need-floats-at-requires
 floats-at-requires c κs = search needs
 
-store-corners-requires : tie.Need-store-corners-requires
-store-corners-requires c κs = search needs
+store-vertices-requires : tie.Need-store-vertices-requires
+store-vertices-requires c κs = search needs
 
 words-at-requires : tie.Need-words-at-requires
 words-at-requires c κs = search needs
@@ -32,14 +32,14 @@ same-length-2 : tie.Need-same-length-2
 same-length-2 c = search needs
 
 returns : tie.Need-returns
-returns c = store-polygon _ _ _ _ _ _ _ _ _ (c .before .before .before .before .floats-at .ensures) (c .words-at .ensures) (c .before .before .before .store-corners .ensures .0) (c .before .before .before .store-corners .ensures .1) (omega arith) (omega arith)
+returns c = store-polygon _ _ _ _ _ _ _ _ _ (c .before .before .before .before .floats-at .ensures) (c .words-at .ensures) (c .before .before .before .store-vertices .ensures .0) (c .before .before .before .store-vertices .ensures .1) (omega arith) (omega arith)
 
 pub store-polygon-spec : {M : Type 1} → statement M
 store-polygon-spec =
     tie.close
     (tie.spec
     floats-at-requires
-    store-corners-requires
+    store-vertices-requires
     words-at-requires
     cast-words
     add-words

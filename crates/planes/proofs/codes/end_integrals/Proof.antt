@@ -7,8 +7,8 @@ use Rattle.planes.proofs.codes.end_integrals.Tie as tie
 enum-known-r : tie.Need-enum-known-r
 enum-known-r c = search needs
 
-is-vacant-requires : tie.Need-is-vacant-requires
-is-vacant-requires c κs = search needs
+lacks-integrals-requires : tie.Need-lacks-integrals-requires
+lacks-integrals-requires c κs = search needs
 
 put-integrals-requires : tie.Need-put-integrals-requires
 put-integrals-requires c κs = search needs
@@ -17,13 +17,13 @@ enum-told : tie.Need-enum-told
 enum-told c = search needs
 
 returns : tie.Need-returns
-returns c = integrals-refused _ [] _ _ _ (c .before .before .before .r .given .1) (c .before .is-vacant .ensures) (c .if1 .taken)
+returns c = integrals-refused _ [] _ _ _ (c .before .before .before .r .given .1) (c .before .lacks-integrals .ensures) (c .if1 .taken)
 
 same-length : tie.Need-same-length
 same-length c = search needs
 
 returns-2 : tie.Need-returns-2
-returns-2 c = integrals-put _ _ _ _ _ (c .before .before .before .before .before .before .before .r .given .1) (c .before .before .before .before .before .is-vacant .ensures) (c .before .before .before .before .if1 .left) (c .before .before .put-integrals .ensures)
+returns-2 c = integrals-put _ _ _ _ _ (c .before .before .before .before .before .before .before .r .given .1) (c .before .before .before .before .before .lacks-integrals .ensures) (c .before .before .before .before .if1 .left) (c .before .before .put-integrals .ensures)
 
 returns-3 : tie.Need-returns-3
 returns-3 c = integrals-none (c .before .before .before .args .answers .now) [] _ (c .enum-told .given .1)
@@ -33,7 +33,7 @@ end-integrals-spec =
     tie.close
     (tie.spec
     enum-known-r
-    is-vacant-requires
+    lacks-integrals-requires
     put-integrals-requires
     enum-told
     returns

@@ -1,5 +1,5 @@
 use native.Mathlib.Omega.{arith}
-use Rattle.planes_sums.specs.Kept.{sizeOf, keptOf}
+use Rattle.planes_sums.specs.Kept.{sizeOf, sampleSumsOf}
 use Rattle.planes.proofs.TreeLaws.{probe-reply}
 use borrow.Author.Needs.{needs}
 use Rattle.planes.proofs.codes.probe.Statement.{statement}
@@ -12,7 +12,7 @@ project-requires : tie.Need-project-requires
 project-requires c κs = search needs
 
 sample-all-requires : tie.Need-sample-all-requires
-unfolding sizeOf keptOf
+unfolding sizeOf sampleSumsOf
 sample-all-requires c κs = (c .before .before .before .before .before .before .before .before .pre, omega arith)
 
 unless-off-requires : tie.Need-unless-off-requires
@@ -28,7 +28,7 @@ same-length-2 : tie.Need-same-length-2
 same-length-2 c = search needs
 
 returns : tie.Need-returns
-unfolding keptOf
+unfolding sampleSumsOf
 returns c = λ floats. probe-reply _ _ _ _ _ _ _ _ _ _ _ _ _ _ _ (c .before .before .before .before .before .before .before .before .before .before .before .before .before .off .ensures) (c .before .before .before .before .before .before .before .before .before .before .before .before .project .ensures) (c .before .before .before .before .before .before .before .before .before .sample-all .ensures floats) (c .before .before .before .before .unless-off .ensures) (c .before .before .finish .ensures)
 
 pub probe-spec : {M : Type 1} → statement M

@@ -1,12 +1,12 @@
 use native.Mathlib.Omega.{arith}
-use Rattle.planes_sums.specs.Kept.{sizeOf, keptOf}
+use Rattle.planes_sums.specs.Kept.{sizeOf, sampleSumsOf}
 use Rattle.planes.proofs.SectionLaws.{section-reply}
 use borrow.Author.Needs.{needs}
 use Rattle.planes.proofs.codes.section.Statement.{statement}
 use Rattle.planes.proofs.codes.section.Tie as tie
 
 sample-all-requires : tie.Need-sample-all-requires
-unfolding sizeOf keptOf
+unfolding sizeOf sampleSumsOf
 sample-all-requires c κs = (c .before .before .before .before .before .before .pre, omega arith)
 
 finish-requires : tie.Need-finish-requires
@@ -19,7 +19,7 @@ same-length-2 : tie.Need-same-length-2
 same-length-2 c = search needs
 
 returns : tie.Need-returns
-unfolding keptOf
+unfolding sampleSumsOf
 returns c = λ floats. section-reply _ _ _ _ _ _ _ _ _ _ _ (c .before .before .before .before .before .before .before .before .sample-all .ensures floats) (c .before .before .finish .ensures)
 
 pub section-spec : {M : Type 1} → statement M

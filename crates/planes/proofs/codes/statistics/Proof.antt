@@ -1,7 +1,7 @@
 use native.Mathlib.Omega.{arith}
 use lib.Ieee.{ofBits, neg, nanBits}
 use Rattle.planes_sums.specs.Statistics.{noSums}
-use Rattle.planes_sums.specs.Kept.{sizeOf, usedOf, keptOf, sumsOf}
+use Rattle.planes_sums.specs.Kept.{sizeOf, usedOf, sampleSumsOf, sumsOf}
 use Rattle.planes.proofs.TreeLaws.{statistics-reply}
 use borrow.Author.Needs.{needs}
 use Rattle.planes.proofs.codes.statistics.Statement.{statement}
@@ -12,7 +12,7 @@ unfolding ofBits neg nanBits
 float-from-bits-top c = tt
 
 sample-all-requires : tie.Need-sample-all-requires
-unfolding sizeOf usedOf keptOf sumsOf
+unfolding sizeOf usedOf sampleSumsOf sumsOf
 sample-all-requires c κs = (c .before .before .before .before .before .before .pre, omega arith)
 
 finish-requires : tie.Need-finish-requires
@@ -25,7 +25,7 @@ same-length-2 : tie.Need-same-length-2
 same-length-2 c = search needs
 
 returns : tie.Need-returns
-unfolding noSums keptOf sumsOf ofBits neg nanBits
+unfolding noSums sampleSumsOf sumsOf ofBits neg nanBits
 returns c = λ floats. statistics-reply _ _ _ _ _ _ _ _ _ _ _ _ (c .before .before .before .before .before .before .before .before .sample-all .ensures floats) (c .before .before .finish .ensures)
 
 pub statistics-spec : {M : Type 1} → statement M

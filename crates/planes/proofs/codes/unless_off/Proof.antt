@@ -1,5 +1,5 @@
-use Rattle.planes_samples.specs.Contracts.{talliedOf}
-use Rattle.planes_sums.specs.Kept.{keptOf}
+use Rattle.planes_samples.specs.Contracts.{accumulatedOf}
+use Rattle.planes_sums.specs.Kept.{sampleSumsOf}
 use Rattle.planes.specs.Contracts.{missing}
 use borrow.Author.Needs.{needs}
 use Rattle.planes.proofs.codes.unless_off.Statement.{statement}
@@ -12,11 +12,11 @@ enum-told-2 : tie.Need-enum-told-2
 enum-told-2 c = search needs
 
 returns : tie.Need-returns
-unfolding missing talliedOf keptOf
+unfolding missing accumulatedOf sampleSumsOf
 returns c = rw (c .before .before .if1 .taken, c .enum-told .given .1)
 
 returns-2 : tie.Need-returns-2
-unfolding missing talliedOf
+unfolding missing accumulatedOf
 returns-2 c = rw (c .before .before .if1 .taken, c .enum-told2 .given .1)
 
 returns-3 : tie.Need-returns-3

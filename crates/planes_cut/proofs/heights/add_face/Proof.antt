@@ -4,7 +4,7 @@ use mathlib.Core.List.{[]}
 use lib.ListN.{drop}
 use Rattle.arith.specs.Lists.{fold}
 use Rattle.mesh_area.specs.Tables.{faceAt}
-use Rattle.planes_cut.specs.Contracts.{bare, signWith, addSign, faceSigns, cornerOf}
+use Rattle.planes_cut.specs.Contracts.{bare, signWith, addSign, faceSigns, faceVertex}
 use Rattle.planes_cut.proofs.Turns.{fold-turn, fold-done}
 use Rattle.planes_cut.proofs.MeshLaws.{vertices-left, vertices-past}
 use borrow.Author.Needs.{needs}
@@ -21,10 +21,10 @@ loop-holds : tie.Need-loop-holds Inv-loop μ-loop
 loop-holds c = (search needs, refl)
 
 loop-again : tie.Need-loop-again Inv-loop μ-loop
-unfolding addSign cornerOf
+unfolding addSign faceVertex
 loop-again c =
     let here = vertices-left (c .before .before .before .before .before .before .before .args .case .now) (c .before .before .before .before .before .before .before .args .points) (c .before .before .before .before .before .before .before .args .s) (c .before .before .before .before .before .before .before .args .words .now) (c .before .before .before .before .before .before .before .args .f) _ (c .before .before .before .before .vertex-count .ensures .0 []) (c .before .before .before .loop .k) (c .before .before .loop-test .taken) in
-    (search needs, fold-turn here _ _ (c .before .before .before .loop .inv .1) (c .add-sign .ensures ∙ ap (λ p. signWith (c .before .before .before .before .before .before .before .args .cut) (c .before .before .before .loop .g) p) (c .before .corner .ensures)))
+    (search needs, fold-turn here _ _ (c .before .before .before .loop .inv .1) (c .add-sign .ensures ∙ ap (λ p. signWith (c .before .before .before .before .before .before .before .args .cut) (c .before .before .before .loop .g) p) (c .before .face-vertex .ensures)))
 
 returns : tie.Need-returns Inv-loop μ-loop
 unfolding faceSigns

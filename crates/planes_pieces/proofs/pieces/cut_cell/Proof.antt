@@ -7,7 +7,7 @@ returns : tie.Need-returns
 returns c = piece-foreign _ _ _ _ _ _ _ (c .before .has-foreign .ensures) (c .if1 .taken)
 
 returns-2 : tie.Need-returns-2
-returns-2 c = piece-met _ _ _ _ _ _ (c .before .before .before .before .before .before .before .before .before .before .before .before .before .before .before .before .before .before .before .before .before .has-foreign .ensures) (c .before .before .before .before .before .before .before .before .before .before .before .before .before .before .before .before .before .before .before .before .if1 .left) (c .before .before .before .before .before .before .before .before .before .before .before .before .before .before .before .before .meetings .ensures .list) (c .before .before .before .before .before .before .piece-about .ensures)
+returns-2 c = piece-met _ _ _ _ _ _ (c .before .before .before .before .before .before .before .before .before .before .before .before .before .before .before .before .before .before .before .before .before .has-foreign .ensures) (c .before .before .before .before .before .before .before .before .before .before .before .before .before .before .before .before .before .before .before .before .if1 .left) (c .before .before .before .before .before .before .before .before .before .before .before .before .before .before .before .before .crossings .ensures .list) (c .before .before .before .before .before .before .piece-about .ensures)
 
 pub cut-cell-spec : {M : Type 1} → statement M
 cut-cell-spec =

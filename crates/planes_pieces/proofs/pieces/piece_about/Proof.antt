@@ -9,10 +9,10 @@ returns : tie.Need-returns
 returns c = piece-few _ _ _ (sym (length-held _ _ _ _)) _ _ _ (c .if1 .taken)
 
 returns-2 : tie.Need-returns-2
-returns-2 c = piece-wide _ _ _ (sym (length-held _ _ _ _)) _ (c .before .before .before .before .before .before .before .before .before .before .before .before .before .before .before .average .ensures) (c .before .before .before .before .before .before .before .before .before .before .before .arrange .ensures .0) (c .before .before .before .before .before .before .before .before .before .before .before .arrange .ensures .1) (c .before .before .before .before .before .before .before .before .before .before .before .before .before .before .before .before .if1 .left) _ (c .before .is-wide .ensures) (c .if2 .taken) (c .before .before .before .before .before .before .before .before .before .before .before .before .before .before .before .before .before .before .before .before .before .before .before .pre .2)
+returns-2 c = piece-wide _ _ _ (sym (length-held _ _ _ _)) _ (c .before .before .before .before .before .before .before .before .before .before .before .before .before .before .before .section-centre .ensures) (c .before .before .before .before .before .before .before .before .before .before .before .arrange .ensures .0) (c .before .before .before .before .before .before .before .before .before .before .before .arrange .ensures .1) (c .before .before .before .before .before .before .before .before .before .before .before .before .before .before .before .before .if1 .left) _ (c .before .is-wide .ensures) (c .if2 .taken) (c .before .before .before .before .before .before .before .before .before .before .before .before .before .before .before .before .before .before .before .before .before .before .before .pre .2)
 
 returns-3 : tie.Need-returns-3
-returns-3 c = piece-flat _ _ _ (sym (length-held _ _ _ _)) _ (c .before .before .before .before .before .before .before .before .before .before .before .before .before .before .before .average .ensures) (c .before .before .before .before .before .before .before .before .before .before .before .arrange .ensures .0) (c .before .before .before .before .before .before .before .before .before .before .before .arrange .ensures .1) (c .before .before .before .before .before .before .before .before .before .before .before .before .before .before .before .before .if1 .left) _ (c .before .is-wide .ensures) (c .if2 .left)
+returns-3 c = piece-flat _ _ _ (sym (length-held _ _ _ _)) _ (c .before .before .before .before .before .before .before .before .before .before .before .before .before .before .before .section-centre .ensures) (c .before .before .before .before .before .before .before .before .before .before .before .arrange .ensures .0) (c .before .before .before .before .before .before .before .before .before .before .before .arrange .ensures .1) (c .before .before .before .before .before .before .before .before .before .before .before .before .before .before .before .before .if1 .left) _ (c .before .is-wide .ensures) (c .if2 .left)
 
 pub piece-about-spec : {M : Type 1} → statement M
 piece-about-spec =

@@ -6,7 +6,7 @@ use Rattle.case_file.specs.Field.{valuesOf}
 use Rattle.planes_sections.specs.Intersect.{piecesFrom}
 use Rattle.planes_cut.specs.Contracts.{bare}
 use Rattle.planes_samples.specs.Contracts.{stream}
-use Rattle.planes_sums.specs.Kept.{keptOf, sizeOf}
+use Rattle.planes_sums.specs.Kept.{sampleSumsOf, sizeOf}
 use Rattle.planes_samples.proofs.StepLaws.{ready-same, holds-same, turn, turn-size, stopped, all-done}
 use borrow.Author.Needs.{needs}
 use Rattle.planes_samples.proofs.walk.sample_each.Statement.{statement}
@@ -15,14 +15,14 @@ use Rattle.planes_samples.proofs.walk.sample_each.Tie as tie
 abbrev Inv-loop : tie.InvT-loop
 Inv-loop case n words s cut x₀ y₀ z₀ answers₀ marks₀ tally₀ i₀ x y z answers marks tally i =
     (i ≤ s .cells)
-    × (sizeOf (keptOf tally) ≤ 1 + 586 * i)
+    × (sizeOf (sampleSumsOf tally) ≤ 1 + 586 * i)
     × (length x ≡ length x₀)
     × (length y ≡ length y₀)
     × (length z ≡ length z₀)
     × (length answers ≡ length answers₀)
     × (length marks ≡ length marks₀)
-    × (stream cut (valuesOf case) (piecesFrom (bare case (n .points) s words) cut i (drop i (bare case (n .points) s words .cells))) (keptOf tally) answers marks
-    ≡ stream cut (valuesOf case) (piecesFrom (bare case (n .points) s words) cut 0 (bare case (n .points) s words .cells)) (keptOf tally₀) answers₀ marks₀)
+    × (stream cut (valuesOf case) (piecesFrom (bare case (n .points) s words) cut i (drop i (bare case (n .points) s words .cells))) (sampleSumsOf tally) answers marks
+    ≡ stream cut (valuesOf case) (piecesFrom (bare case (n .points) s words) cut 0 (bare case (n .points) s words .cells)) (sampleSumsOf tally₀) answers₀ marks₀)
 
 abbrev μ-loop : tie.MeasureT-loop
 μ-loop case n words s cut x₀ y₀ z₀ answers₀ marks₀ tally₀ i₀ x y z answers marks tally i = s .cells - i

@@ -1,6 +1,6 @@
 use native.Mathlib.Omega.{arith}
 use mathlib.Core.Path.{refl}
-use Rattle.planes_sums.proofs.TallyLaws.{section-size, statistics-size, section-added, statistics-added, integrals-added, probe-added}
+use Rattle.planes_sums.proofs.AccumulatorLaws.{section-size, statistics-size, section-added, statistics-added, integrals-added, probe-added}
 use borrow.Author.Needs.{needs}
 use Rattle.planes_sums.proofs.keep.add.Statement.{statement}
 use Rattle.planes_sums.proofs.keep.add.Tie as tie

@@ -6,11 +6,11 @@ use Rattle.planes_sums.proofs.keep.add_integral.Tie as tie
 
 returns : tie.Need-returns
 unfolding integralOf weighingOf
-returns c = rw (c .weighing .ensures, sym (c .before .before .fit .ensures) ∙ c .before .if1 .taken)
+returns c = rw (c .weighing .ensures, sym (c .before .before .is-valid .ensures) ∙ c .before .if1 .taken)
 
 returns-2 : tie.Need-returns-2
 unfolding integralOf weighingOf
-returns-2 c = rw (sym (c .before .fit .ensures) ∙ c .if1 .left)
+returns-2 c = rw (sym (c .before .is-valid .ensures) ∙ c .if1 .left)
 
 pub add-integral-spec : {M : Type 1} → statement M
 add-integral-spec =

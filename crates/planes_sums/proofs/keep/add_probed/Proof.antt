@@ -1,4 +1,4 @@
-use Rattle.planes_sums.proofs.TallyLaws.{probed-hit, probed-here, probed-not}
+use Rattle.planes_sums.proofs.AccumulatorLaws.{probed-hit, probed-here, probed-not}
 use borrow.Author.Needs.{needs}
 use Rattle.planes_sums.proofs.keep.add_probed.Statement.{statement}
 use Rattle.planes_sums.proofs.keep.add_probed.Tie as tie

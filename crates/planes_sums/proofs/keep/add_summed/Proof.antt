@@ -1,5 +1,5 @@
 use mathlib.Core.Path.{refl}
-use Rattle.planes_sums.proofs.TallyLaws.{summed-total, summed-none, used-total}
+use Rattle.planes_sums.proofs.AccumulatorLaws.{summed-total, summed-none, used-total}
 use borrow.Author.Needs.{needs}
 use Rattle.planes_sums.proofs.keep.add_summed.Statement.{statement}
 use Rattle.planes_sums.proofs.keep.add_summed.Tie as tie

@@ -1,5 +1,5 @@
 use mathlib.Core.Path.{refl}
-use Rattle.planes_sums.proofs.TallyLaws.{weighed-whole, weighed-none}
+use Rattle.planes_sums.proofs.AccumulatorLaws.{weighed-whole, weighed-none}
 use borrow.Author.Needs.{needs}
 use Rattle.planes_sums.proofs.keep.add_weighed.Statement.{statement}
 use Rattle.planes_sums.proofs.keep.add_weighed.Tie as tie

@@ -3,7 +3,7 @@ use native.Mathlib.Omega.{arith}
 use mathlib.Core.Path.{_≡_}
 use lib.ListN.{drop}
 use Rattle.arith.specs.Lists.{fold, windows}
-use Rattle.planes_crossings.specs.Contracts.{heldIn}
+use Rattle.planes_crossings.specs.Contracts.{slicePoints}
 use Rattle.planes_cut.proofs.Turns.{window-done}
 use Rattle.planes_crossings.proofs.HeldLaws.{held-window, held-past}
 use Rattle.planes_sums.specs.Sample.{addVector, vectorOf}
@@ -13,7 +13,7 @@ use Rattle.planes_sums.proofs.measures.area_vector.Statement.{statement
 use Rattle.planes_sums.proofs.measures.area_vector.Tie as tie
 
 abbrev Inv-loop : tie.InvT-loop
-Inv-loop x y z n o total₀ i₀ total i = (1 ≤ i) × (i ≤ n) × (fold (addVector o) total (windows (drop i (heldIn x y z n))) ≡ vectorOf (heldIn x y z n))
+Inv-loop x y z n o total₀ i₀ total i = (1 ≤ i) × (i ≤ n) × (fold (addVector o) total (windows (drop i (slicePoints x y z n))) ≡ vectorOf (slicePoints x y z n))
 
 abbrev μ-loop : tie.MeasureT-loop
 μ-loop x y z n o total₀ i₀ total i = n - i
@@ -21,7 +21,7 @@ abbrev μ-loop : tie.MeasureT-loop
 loop-holds : tie.Need-loop-holds Inv-loop μ-loop
 loop-holds c =
     let a = c .before .before .before .before .before .args in
-    (search needs, search needs, vector-start (a .x .now) (a .y .now) (a .z .now) (a .n) _ _ (c .before .before .before .before .before .pre .1) (c .before .held .ensures) (c .new .ensures))
+    (search needs, search needs, vector-start (a .x .now) (a .y .now) (a .z .now) (a .n) _ _ (c .before .before .before .before .before .pre .1) (c .before .point-in .ensures) (c .new .ensures))
 
 add-i : tie.Need-add-i Inv-loop μ-loop
 add-i c = omega (arith, c .before .before .before .loop-test .taken, c .before .before .before .before .before .before .before .before .before .before .fits .n .fits)
@@ -29,12 +29,12 @@ add-i c = omega (arith, c .before .before .before .loop-test .taken, c .before .
 loop-again : tie.Need-loop-again Inv-loop μ-loop
 loop-again c =
     let a = c .before .before .before .before .before .before .before .before .before .before .args in
-    (search needs, search needs, held-window _ (a .x .now) (a .y .now) (a .z .now) _ _ (c .before .before .before .loop-test .taken) _ _ (c .before .before .held2 .ensures) (c .before .held3 .ensures) _ (c .before .before .before .before .loop .inv .2) (c .add-vector .ensures))
+    (search needs, search needs, held-window _ (a .x .now) (a .y .now) (a .z .now) _ _ (c .before .before .before .loop-test .taken) _ _ (c .before .before .point-in2 .ensures) (c .before .point-in3 .ensures) _ (c .before .before .before .before .loop .inv .2) (c .add-vector .ensures))
 
 returns : tie.Need-returns Inv-loop μ-loop
 returns c =
     let a = c .before .before .before .before .before .before .before .args in
-    window-done _ (heldIn (a .x .now) (a .y .now) (a .z .now) (a .n)) (c .before .loop .i) _ (held-past (a .x .now) (a .y .now) (a .z .now) _ _ (c .loop-test .left) .end) (c .before .loop .inv .2)
+    window-done _ (slicePoints (a .x .now) (a .y .now) (a .z .now) (a .n)) (c .before .loop .i) _ (held-past (a .x .now) (a .y .now) (a .z .now) _ _ (c .loop-test .left) .end) (c .before .loop .inv .2)
 
 pub area-vector-spec : {M : Type 1} → statement M
 area-vector-spec =

@@ -1,7 +1,7 @@
 use Prim.Native.Nat.{_≤_, _-_}
 use mathlib.Core.Path.{_≡_}
 use mathlib.Core.Logic.{⊎-elim}
-use Rattle.planes_crossings.specs.Contracts.{heldIn}
+use Rattle.planes_crossings.specs.Contracts.{slicePoints}
 use Rattle.planes_sums.specs.Probe.{covers}
 use Rattle.planes_sums.proofs.InsideLaws.{rest, rest-start, rest-end, rest-toggled, rest-kept}
 use borrow.Author.Needs.{needs}
@@ -9,7 +9,7 @@ use Rattle.planes_sums.proofs.measures.covers.Statement.{statement}
 use Rattle.planes_sums.proofs.measures.covers.Tie as tie
 
 abbrev Inv-loop : tie.InvT-loop
-Inv-loop plane q x y z n inside₀ i₀ inside i = (i ≤ n) × (rest plane q x y z n inside i ≡ covers plane q (heldIn x y z n))
+Inv-loop plane q x y z n inside₀ i₀ inside i = (i ≤ n) × (rest plane q x y z n inside i ≡ covers plane q (slicePoints x y z n))
 
 abbrev μ-loop : tie.MeasureT-loop
 μ-loop plane q x y z n inside₀ i₀ inside i = n - i

@@ -1,11 +1,11 @@
 use Rattle.planes_cut.specs.Plane.{normalOf}
-use Rattle.planes_sums.specs.Probe.{off}
+use Rattle.planes_sums.specs.Probe.{offPlane}
 use borrow.Author.Needs.{needs}
 use Rattle.planes_sums.proofs.measures.off.Statement.{statement}
 use Rattle.planes_sums.proofs.measures.off.Tie as tie
 
 returns : tie.Need-returns
-unfolding off normalOf
+unfolding offPlane normalOf
 returns c = rw (c .abs .ensures, c .before .dot .ensures, c .before .before .sub .ensures, c .before .before .before .cross .ensures)
 
 pub off-spec : {M : Type 1} → statement M

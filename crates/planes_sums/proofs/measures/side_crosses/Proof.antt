@@ -3,7 +3,7 @@ use Rattle.planes_sums.proofs.measures.side_crosses.Statement.{statemen
 use Rattle.planes_sums.proofs.measures.side_crosses.Tie as tie
 
 returns : tie.Need-returns
-returns c = rw (c .crosses .ensures, c .before .project2 .ensures, c .before .before .held2 .ensures, c .before .before .before .project .ensures, c .before .before .before .before .held .ensures, c .before .before .before .before .before .next-of .ensures .0)
+returns c = rw (c .crosses .ensures, c .before .project2 .ensures, c .before .before .point-in2 .ensures, c .before .before .before .project .ensures, c .before .before .before .before .point-in .ensures, c .before .before .before .before .before .next-of .ensures .0)
 
 pub side-crosses-spec : {M : Type 1} → statement M
 side-crosses-spec =
