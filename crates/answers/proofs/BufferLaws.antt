@@ -12,7 +12,8 @@ use Rattle.reading.specs.Result.{Result, refused, fine}
 use Rattle.reading.specs.Marks.{cleared}
 use Rattle.answers.specs.declared.Answered.{Answered}
 use Rattle.answers.specs.declared.Answered.the-variants.{Words, Refused}
-use Rattle.answers.specs.Contracts.{answerOf, lengthOf, Behind, StoredWords, CloseExit}
+use Rattle.answers.specs.Contracts.{answerOf, lengthOf, StoredWords, CloseExit}
+use Rattle.answers.proofs.Behind.{Behind}
 use Rattle.answers.specs.Answer.{fitting, answerWords, headerOf}
 
 -- ---- zeros

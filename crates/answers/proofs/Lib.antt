@@ -1,3 +1,4 @@
+pub mod Behind
 pub mod WordLaws
 pub mod BufferLaws
 pub mod BehindLaws

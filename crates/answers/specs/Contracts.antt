@@ -2,7 +2,7 @@
 use Prim.Native.Nat.{ℕ, _+_, _*_, _≤_}
 use mathlib.Core.Path.{_≡_}
 use mathlib.Core.List.{List, [], _++_}
-use lib.ListN.{length, set, take, drop}
+use lib.ListN.{length, set, take}
 use lib.Seq.{sets}
 use Rattle.reading.specs.declared.Values.{Values}
 use Rattle.reading.specs.Result.{Result, refused, fine}
@@ -42,10 +42,6 @@ pub record Reply (tree : Asks (Result (List ℕ))) (f : ℕ → Values) (left : 
   pub result : answerOf r ≡ lengthOf (run tree f)
   pub answers : o′ ≡ replied o left (run tree f)
   pub marks : m′ ≡ markAll m (reads tree f)
-
--- the words of the reply stand behind the place of its header, if they have room there
-pub record Behind (reply : Result (List ℕ)) (o : List ℕ) (at : ℕ) : Type 0 where
-  pub words : (ws : List ℕ) → reply ≡ fine ws → at + 2 + length ws ≤ length o → take (length ws) (drop (at + 2) o) ≡ ws
 
 -- the words ws stand from `at` on and end at r; those before are as they were; the later answers have room
 pub record StoredWords (ws o o′ : List ℕ) (at later r : ℕ) : Type 0 where

@@ -1,3 +1,4 @@
+pub mod WeakOrder
 pub mod PlaceLaws
 pub mod OrderLaws
 pub mod StableLaws

@@ -12,7 +12,7 @@ use Rattle.lines_field.specs.Bins.{listedIn}
 use Rattle.lines_locate.specs.Field.{StreamlineField}
 use Rattle.lines_field.specs.Field.{polygonsOf, fieldOf}
 use Rattle.lines_velocity.specs.Velocity.{neighboursOf}
-use Rattle.job_reads.specs.Within.{Numbers, Sound, FieldFrom}
+use Rattle.job_reads.proofs.Within.{Numbers, Sound, FieldFrom}
 
 pub field-from : (m : Mesh) (f : StreamlineField) → fieldOf m ≡ fine f → FieldFrom m f
 unfolding fieldOf polygonsOf

@@ -23,7 +23,7 @@ use Rattle.job_requests.specs.declared.Request.{Request}
 use Rattle.job_requests.specs.declared.Request.the-variants as requests
 use Rattle.job_room.specs.Room.{Room, flat, solid, Lent, roomFrom, roomOf, prepared}
 use Rattle.job_serve.specs.Serve.{serveFlat, serveSolid, serve}
-use Rattle.job_reads.specs.Within.{Numbers, Sound, RoomWithin}
+use Rattle.job_reads.proofs.Within.{Numbers, Sound, RoomWithin}
 use Rattle.job_reads.proofs.LineLaws.{velocity-within, integrate-within, rake-within}
 use Rattle.job_reads.proofs.PlaneLaws.{section-within, statistics-within, integrals-within, probe-within}
 use Rattle.job_reads.proofs.MeshLaws.{mesh-numbers}

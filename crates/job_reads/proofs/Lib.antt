@@ -1,3 +1,4 @@
+pub mod Within
 pub mod LineLaws
 pub mod PlaneLaws
 pub mod MeshLaws

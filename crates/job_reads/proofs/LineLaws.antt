@@ -32,7 +32,7 @@ use Rattle.lines.specs.declared.StreamlineSettings.{StreamlineSettings}
 use Rattle.lines.specs.Line.{signedStep, onward, lineFrom, pointsAfter, line, lineAnswer, integrate}
 use Rattle.lines.specs.Rake.{linesWords, integrateRake}
 use Rattle.answers.specs.Contracts.{decided}
-use Rattle.job_reads.specs.Within.{Sound}
+use Rattle.job_reads.proofs.Within.{Sound}
 
 -- the first that passes is one of the list
 first-below : {A : Type 0} (p : A → Bool) (k : ℕ) (l : List A) (i : ℕ) → firstFrom p k l ≡ At i → i < k + length l

@@ -26,7 +26,7 @@ use Rattle.mesh_neighbours.specs.Neighbours.{otherCell, beyond, addFound, addNe
 use Rattle.mesh_centres.specs.Finish.{finished}
 use Rattle.mesh_coordinates.specs.Coordinates.{acceptable}
 use Rattle.mesh.specs.Mesh.{joined, completed, filled, fromCells}
-use Rattle.job_reads.specs.Within.{Beside, Numbered, Numbers}
+use Rattle.job_reads.proofs.Within.{Beside, Numbered, Numbers}
 
 -- ---- the cells of a face are below n
 

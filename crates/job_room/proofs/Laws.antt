@@ -1,5 +1,5 @@
 -- Laws of `prepared` and of what `prepare` promises. Assumes nothing.
-use Prim.Native.Nat.{ℕ, _%_, _≤_}
+use Prim.Native.Nat.{ℕ, _%_, _≤_, _*_, _/_}
 use native.Mathlib.Omega.{arith}
 use mathlib.Core.Path.{_≡_, refl, ap, sym, _∙_, subst}
 use mathlib.Core.Bool.{Bool, true, false, not, cond, _||_}
@@ -15,15 +15,22 @@ use Rattle.case_file.specs.Field.{outside}
 use Rattle.case_file.specs.Trailer.{countsOf, trailerRight, overLimit, opened, openedCase, wordsOf}
 use Rattle.case_file.specs.declared.Counts.{Counts}
 use Rattle.case_file.specs.declared.Opened.{Opened}
-use Rattle.case_file.specs.declared.Opened.the-variants as Opened
 use Rattle.case_file.proofs.OutsideLaws.{outside-opened, outside-words}
 use Rattle.mesh.specs.Case.{CaseSurvey, surveyOf, meshOf}
 use Rattle.mesh.proofs.Laws.{survey-shut, survey-wrong, survey-right, outside-points}
 use Rattle.job_room.specs.Room.{Room, Lent, roomOf, requestsWrong, shortage, prepared}
-use Rattle.job_room.specs.Contracts.{roomIn, RoomStands, PrepareExit, standing, barred, Fits}
+use Rattle.job_room.specs.Contracts.{roomIn, RoomStands, PrepareExit, standing, barred}
 use Rattle.job_room.specs.declared.Place.{Place}
 use Rattle.job_room.specs.declared.Prepared.{Prepared}
+use Rattle.case_file.specs.declared.Opened.the-variants as Opened
 use Rattle.job_room.specs.declared.Prepared.the-variants as Prepared
+
+-- 5, 6 and 7 were not due
+pub record Fits (cells requests : ℕ) (lent : Lent) : Type 0 where
+  pub marks : cells ≤ lent .marks
+  pub whole : requests % 128 ≡ 0
+  pub few : requests ≤ 524288
+  pub answers : 2 * (requests / 128) ≤ lent .answers
 
 -- ---- what `prepare` answers
 

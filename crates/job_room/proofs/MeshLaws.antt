@@ -24,7 +24,7 @@ use Rattle.mesh_coordinates.specs.Coordinates.{acceptable}
 use Rattle.mesh.specs.Mesh.{joined, completed, filled, fromCells}
 use Rattle.lines_field.specs.Contracts.{VertexLimit}
 use Rattle.planes_crossings.specs.Contracts.{MeshLimits}
-use Rattle.lines_vertices.specs.Shapes.{Limited, Over}
+use Rattle.lines_vertices.proofs.Shapes.{Limited, Over}
 use Rattle.lines_vertices.proofs.CellLaws.{cells-counted, faces-of-cells, limited-faces, eight-vertices}
 use Rattle.lines_vertices.proofs.VertexLaws.{few-polygon-vertices}
 use Rattle.lines_vertices.proofs.LimitLaws.{all-limited}

@@ -1,5 +1,5 @@
 -- The contracts of `prepare` and its parts: a room that stands in the work area.
-use Prim.Native.Nat.{ℕ, _*_, _/_, _%_, _≤_}
+use Prim.Native.Nat.{ℕ, _≤_}
 use mathlib.Core.Path.{_≡_}
 use mathlib.Core.List.{List}
 use lib.ListN.{length}
@@ -46,13 +46,6 @@ pub record RoomStands (file words : List ℕ) (floats : List Float) (p : Place) 
 pub data PrepareExit (r : Result Room) (file words : List ℕ) (floats : List Float) : Prepared → Type 0 where
   standing : {p : Place} → r ≡ fine (roomIn file words floats p) → RoomStands file words floats p → PrepareExit r file words floats (Prepared.Ready p)
   barred : {k : ℕ} → r ≡ refused k → PrepareExit r file words floats (Prepared.Refused k)
-
--- 5, 6 and 7 were not due
-pub record Fits (cells requests : ℕ) (lent : Lent) : Type 0 where
-  pub marks : cells ≤ lent .marks
-  pub whole : requests % 128 ≡ 0
-  pub few : requests ≤ 524288
-  pub answers : 2 * (requests / 128) ≤ lent .answers
 
 -- the refusal of a case with these counts and as many faces
 unfoldable pub Shortage : Counts → ℕ → ℕ → Lent → ℕ → Type 0

@@ -13,7 +13,8 @@ use Rattle.arith.specs.declared.Vec3.{Vec3}
 use Rattle.reading.specs.declared.Values.{Values}
 use Rattle.reading.specs.Asks.{Asks, give, run, reads, _>>=_}
 use Rattle.reading.specs.Marks.{markAll}
-use Rattle.reading.specs.Served.{Served, Going}
+use Rattle.reading.specs.Served.{Served}
+use Rattle.reading.proofs.Going.{Going}
 use Rattle.reading.proofs.AsksLaws.{bind-assoc, bind-give, run-bind, reads-bind}
 use Rattle.reading.proofs.ServedLaws.{going-start, going-part, going-end}
 use Rattle.answers.specs.Words.{vecWords, pointWords}

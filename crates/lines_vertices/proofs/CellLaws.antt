@@ -19,7 +19,7 @@ use Rattle.mesh_geometry.specs.declared.FaceGeometry.{FaceGeometry}
 use Rattle.mesh_faces.specs.Table.{NumberedFace, addFace}
 use Rattle.mesh_cell_parts.specs.Parts.{CellFaces, addFaceOf, measuredFrom}
 use Rattle.mesh_cells.specs.Cells.{PartialCell, PartialMesh, addCell, partialMesh}
-use Rattle.lines_vertices.specs.Shapes.{keyIn, Turned, Later, Placing, Naming, Named, FacesNamed, Limited}
+use Rattle.lines_vertices.proofs.Shapes.{keyIn, Turned, Later, Placing, Naming, Named, FacesNamed, Limited}
 use Rattle.lines_vertices.proofs.TableLaws.{turned, later-self, later-more, all-at, AllFaces, placing, placing-all}
 
 -- ---- numbers name the same faces in a later table

@@ -1,3 +1,4 @@
+pub mod Shapes
 pub mod LimitLaws
 pub mod TableLaws
 pub mod CellLaws

@@ -13,7 +13,7 @@ use Rattle.case_definitions.specs.Faces.{Definition, solid, tetrahedron, hexahe
 use Rattle.case_definitions.specs.Definitions.{Taken, faceLists, definition, definitions}
 use Rattle.case_definitions.proofs.WalkLaws.{face-first, faces-read}
 use Rattle.case_definitions.proofs.RecordLaws.{IsSolid, is-tetrahedron, is-hexahedron, is-prism, is-pyramid, RecordCase, a-polygon, a-solid, a-polyhedron, record-case}
-use Rattle.lines_vertices.specs.Shapes.{Limited}
+use Rattle.lines_vertices.proofs.Shapes.{Limited}
 
 -- a side has two numbers
 sides-short : (ss : List (Side ℕ)) → All (λ l. length l ≤ 8) (map ends ss)

@@ -21,7 +21,7 @@ use Rattle.mesh_keys.proofs.KeyLaws.{same-true}
 use Rattle.mesh_geometry.specs.declared.FaceGeometry.{FaceGeometry}
 use Rattle.mesh_faces.specs.Table.{hasKey, faceWithKey, newFace, withNeighbour, joining, settled, useFace, NumberedFace, numberedFace, addFace}
 use Rattle.mesh_faces.proofs.AnswerLaws.{first-below}
-use Rattle.lines_vertices.specs.Shapes.{keyIn, Turned, Later, Placing}
+use Rattle.lines_vertices.proofs.Shapes.{keyIn, Turned, Later, Placing}
 
 -- ---- the vertices of a face that is turned outward
 

@@ -26,7 +26,7 @@ use Rattle.mesh_cells.specs.Cells.{PartialCell, PartialMesh, partialMesh}
 use Rattle.lines_locate.specs.Locate.{xyOf}
 use Rattle.lines_field.specs.Vertices.{alike, addVertex, addVertices, cellVertices}
 use Rattle.lines_field.specs.Contracts.{VertexLimit}
-use Rattle.lines_vertices.specs.Shapes.{keyIn, Naming, Named, Over}
+use Rattle.lines_vertices.proofs.Shapes.{keyIn, Naming, Named, Over}
 use Rattle.lines_vertices.proofs.TableLaws.{all-at, AllFaces}
 use Rattle.lines_vertices.proofs.CellLaws.{cells-named, all-two}
 

@@ -15,7 +15,8 @@ use Rattle.mesh_area.specs.Layout.{listAt, vecFrom, cellIn, meshWords, meshFloa
 use Rattle.mesh_volumes.specs.declared.CellGeometry.{CellGeometry}
 use Rattle.mesh_cells.specs.Partial.{cellWord, partialCellIn}
 use Rattle.mesh_cells.specs.Contracts.{FaceLists}
-use Rattle.mesh_centres.specs.Contracts.{cellFrom, floatsOf, firstCells}
+use Rattle.mesh_centres.specs.Contracts.{cellFrom, floatsOf}
+use Rattle.mesh_centres.proofs.Going.{firstCells}
 
 -- ---- the words of a cell, which stay
 

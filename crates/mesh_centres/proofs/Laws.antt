@@ -36,7 +36,8 @@ use Rattle.mesh_centres.specs.declared.Finished.the-variants as Finished
 use Rattle.mesh_centres.specs.declared.CellFinished.{CellFinished}
 use Rattle.mesh_centres.specs.declared.CellFinished.the-variants as CellFinished
 use Rattle.mesh_centres.specs.Finish.{finished, finishedAs, definitionsOf}
-use Rattle.mesh_centres.specs.Contracts.{FinishCellsEntry, FinishCellsExit, cellFrom, floatsOf, geometryAt, FinishRecordExit, stored, FinishCellEntry, FinishCellExit, next, firstCells, Going}
+use Rattle.mesh_centres.specs.Contracts.{FinishCellsEntry, FinishCellsExit, cellFrom, floatsOf, geometryAt, FinishRecordExit, stored, FinishCellEntry, FinishCellExit, next}
+use Rattle.mesh_centres.proofs.Going.{firstCells, Going}
 use Rattle.mesh_centres.specs.Contracts as Contracts
 use Rattle.mesh_centres.proofs.CellLaws.{later-kept, cells-kept, cell-finished}
 

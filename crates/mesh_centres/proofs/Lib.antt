@@ -1,3 +1,4 @@
+pub mod Going
 pub mod PartialLaws
 pub mod CellLaws
 pub mod Laws

@@ -7,7 +7,8 @@ use native.Mathlib.Omega.{arith}
 use borrow.Author.Tests.{eqb-true}
 use lib.Dec.{eqb}
 use Rattle.arith.proofs.RecordLaws.{getD-tab}
-use Rattle.mesh_connection.specs.Connection.{someBelow, rounds, connectedBy, Reachable, begin, step}
+use Rattle.mesh_connection.specs.Connection.{someBelow, rounds, connectedBy}
+use Rattle.mesh_connection.proofs.Reachable.{Reachable, begin, step}
 use Rattle.mesh_connection.specs.Contracts.{countBelow}
 use Rattle.mesh_connection.proofs.Counting.{some-same, some-out, every-in, every-out, true-or, true-and, count-le, count-grows, full}
 use Rattle.mesh_connection.proofs.Rounds.{reached, reached-start, reached-suc, reached-step, reached-le}

@@ -1,3 +1,4 @@
+pub mod Reachable
 pub mod Counting
 pub mod Rounds
 pub mod Enough

@@ -20,9 +20,13 @@ use Rattle.mesh_area.specs.Layout.{cellIn, cellsIn, meshWords, wordsEnd, LentWo
 use Rattle.mesh_area.proofs.LayoutLaws.{cell-in, cell-out, length-cellsIn}
 use Rattle.arith.proofs.RecordLaws.{lt-or-ge}
 use Rattle.mesh_connection.specs.Connection.{connectedBy, areNeighbours, connectedCells}
-use Rattle.mesh_connection.specs.Contracts.{visitedIn, queueIn, neighboursAt, countBelow, ClearExit, MarkExit, MeetExit, out, was, new, QueuePlace, ReachedPlace, SearchState, EnsureConnectedExit}
+use Rattle.mesh_connection.specs.Contracts.{visitedIn, queueIn, countBelow, ClearExit, MarkExit, MeetExit, out, was, new, QueuePlace, ReachedPlace, SearchState, EnsureConnectedExit}
 use Rattle.mesh_connection.proofs.Counting.{count-none, count-less, count-more, every-count, clash, below-suc}
 use Rattle.mesh_connection.proofs.Rounds.{reached, reached-start, reached-step, reached-le, all-reached, connected-same, connected-few, any-at, any-some}
+
+-- the neighbours of cell i, which stand in the words alone
+abbrev pub neighboursAt : Sizes → List ℕ → ℕ → List ℕ
+neighboursAt s w i = cellAt (cellsIn s w []) i .neighbours
 
 -- ---- stores of flags and of places in the queue
 

@@ -3,8 +3,7 @@
 -- `oneRound`, `rounds`, `connectedBy`: reached by rounds. `Reachable`: without counting them.
 -- `sidesAre`, `joins`, `share`, `connected`: over shared faces.
 -- `areNeighbours`, `connectedCells`: over the cells' neighbours.
-use Prim.Native.Nat.{ℕ, zero, suc, _<_}
-use mathlib.Core.Path.{_≡_}
+use Prim.Native.Nat.{ℕ, zero, suc}
 use mathlib.Core.Bool.{Bool, true, false, _&&_, _||_}
 use mathlib.Core.List.{List}
 use lib.Dec.{eqb}
@@ -39,11 +38,6 @@ rounds touch n (suc k) = oneRound touch n (rounds touch n k)
 -- every cell is reached: as many rounds as cells are enough
 unfoldable pub connectedBy : (ℕ → ℕ → Bool) → ℕ → Bool
 connectedBy touch n = everyBelow (λ j. getD (rounds touch n n) j false) n
-
--- the same without counting rounds: n cells are connected exactly where each of them is reachable (proofs/Enough.antt)
-pub data Reachable (touch : ℕ → ℕ → Bool) (n : ℕ) : ℕ → Type 0 where
-  begin : Reachable touch n 0
-  step : {i j : ℕ} → i < n → j < n → Reachable touch n i → touch i j ≡ true → Reachable touch n j
 
 -- ---- over shared faces
 

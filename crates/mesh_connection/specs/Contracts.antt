@@ -11,7 +11,6 @@ use lib.Dec.{eqb}
 use lib.Ieee.{Float}
 use lib.ListN.{getD, take}
 use Rattle.mesh_area.specs.declared.Sizes.{Sizes}
-use Rattle.mesh_area.specs.Tables.{cellAt}
 use Rattle.mesh_area.specs.Layout.{cellsIn, wordsEnd}
 use Rattle.mesh_connection.specs.Connection.{rounds, areNeighbours, connectedCells}
 
@@ -48,10 +47,6 @@ pub data MeetExit (w w′ : List ℕ) (base n d tail r : ℕ) : Type 0 where
 unfoldable pub countBelow : (ℕ → Bool) → ℕ → ℕ
 countBelow p zero = 0
 countBelow p (suc n) = cond (p n) 1 0 + countBelow p n
-
--- the neighbours of cell i, which stand in the words alone
-abbrev pub neighboursAt : Sizes → List ℕ → ℕ → List ℕ
-neighboursAt s w i = cellAt (cellsIn s w []) i .neighbours
 
 -- the place of cell j in the queue
 pub record QueuePlace (w : List ℕ) (base tail j : ℕ) : Type 0 where

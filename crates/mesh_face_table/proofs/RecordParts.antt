@@ -18,7 +18,15 @@ use Rattle.arith.proofs.RecordLaws.{chunk-other, length-chunk, getD-chunk, leng
 use Rattle.mesh_area.specs.Layout.{faceIn, listAt, vecFrom}
 use Rattle.mesh_keys.proofs.KeyLaws.{sorted-front}
 use Rattle.mesh_geometry.specs.declared.FaceGeometry.{FaceGeometry}
-use Rattle.mesh_face_table.specs.Records.{FaceWords, faceWordsOf, faceWordsIn, measuredOf, measuredIn, faceOf, headIn, fresh, joined, newFaceAt, floatsOf}
+use Rattle.mesh_face_table.specs.Records.{FaceWords, faceWordsOf, faceWordsIn, measuredOf, measuredIn, faceOf, headIn, newFaceAt, floatsOf}
+
+-- the same face with a second one
+abbrev pub joined : FaceWords → ℕ → FaceWords
+joined b other = record { count = b .count; vertices = b .vertices; owner = b .owner; neighbour = other; link = b .link }
+
+-- a face of one cell
+abbrev pub fresh : List ℕ → ℕ → ℕ → FaceWords
+fresh vertices cell link = record { count = length vertices; vertices = vertices; owner = cell; neighbour = 0; link = link }
 
 -- ---- a run of stores
 

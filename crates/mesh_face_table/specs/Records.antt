@@ -68,14 +68,6 @@ tableIn w fl n = tab (λ f. faceOf (faceWordsIn w f) (measuredIn fl f)) n
 unfoldable pub headIn : List ℕ → ℕ → ℕ → ℕ
 headIn w slots b = getD w (12 * slots + b) 0
 
--- a face of one cell
-abbrev pub fresh : List ℕ → ℕ → ℕ → FaceWords
-fresh vertices cell link = record { count = length vertices; vertices = vertices; owner = cell; neighbour = 0; link = link }
-
--- the same face with a second one
-abbrev pub joined : FaceWords → ℕ → FaceWords
-joined b other = record { count = b .count; vertices = b .vertices; owner = b .owner; neighbour = other; link = b .link }
-
 -- ---- a record stored
 
 -- the words of a face of one cell from a place on: its vertices behind their count, then its cell, no second cell, and its link

@@ -22,7 +22,9 @@ use Rattle.mesh_area.proofs.LayoutLaws.{found-none, found-one}
 use Rattle.mesh_keys.specs.Keys.{total}
 use Rattle.mesh_keys.proofs.KeyLaws.{same-true, same-self}
 use Rattle.mesh_geometry.specs.declared.FaceGeometry.{FaceGeometry}
-use Rattle.mesh_face_table.specs.Records.{FaceWords, faceWordsOf, faceWordsIn, measuredIn, faceOf, tableIn, headIn, fresh, joined, newFaceAt, floatsOf}
+use Rattle.mesh_face_table.specs.Records.{FaceWords, faceWordsOf, faceWordsIn, measuredIn, faceOf, tableIn, headIn, newFaceAt, floatsOf}
+use Rattle.mesh_face_table.proofs.RecordParts.{joined}
+use Rattle.mesh_face_table.proofs.RecordParts.{fresh}
 use Rattle.mesh_face_table.specs.Chains.{last, bucketOf, inBucket, keyAt, Chains}
 use Rattle.mesh_face_table.proofs.Last.{last-hit, last-miss, last-same, last-passes, last-none}
 use Rattle.mesh_face_table.proofs.RecordParts.{FaceStored, MeasuredStored, face-stored, other-stored, measured-stored}

@@ -1,3 +1,4 @@
+pub mod Going
 pub mod AsksLaws
 pub mod MarksLaws
 pub mod ServedLaws

@@ -5,7 +5,8 @@ use mathlib.Core.List.{List}
 use Rattle.reading.specs.declared.Values.{Values}
 use Rattle.reading.specs.Asks.{Asks, give, run, reads, _>>=_}
 use Rattle.reading.specs.Marks.{markAll}
-use Rattle.reading.specs.Served.{Served, Going}
+use Rattle.reading.specs.Served.{Served}
+use Rattle.reading.proofs.Going.{Going}
 use Rattle.reading.proofs.AsksLaws.{run-bind, reads-bind}
 use Rattle.reading.proofs.MarksLaws.{markAll-append}
 

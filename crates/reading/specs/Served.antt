@@ -10,8 +10,3 @@ use Rattle.reading.specs.Marks.{markAll}
 pub record Served {A : Type 0} (t : Asks A) (f : ℕ → Values) (m m′ : List ℕ) (r : A) : Type 0 where
   pub answer : r ≡ run t f
   pub marks : m′ ≡ markAll m (reads t f)
-
--- In the middle of serving `whole`, with `rest` to do and the marks m: serving `rest` from here serves `whole` from m₀.
-pub record Going {A : Type 0} (whole : Asks A) (f : ℕ → Values) (m₀ : List ℕ) (rest : Asks A) (m : List ℕ) : Type 0 where
-  pub answer : run rest f ≡ run whole f
-  pub marks : markAll m (reads rest f) ≡ markAll m₀ (reads whole f)

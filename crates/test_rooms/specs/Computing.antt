@@ -72,7 +72,8 @@ use Rattle.mesh_cells.specs.Cells.{addCell, partialMesh}
 use Rattle.mesh_cells.specs.Partial.{partialCellIn, partialCellsIn}
 use Rattle.mesh_cells.specs.Contracts.{read}
 use Rattle.mesh_centres.specs.Finish.{finished, finishedAs}
-use Rattle.mesh_centres.specs.Contracts.{geometryAt, firstCells}
+use Rattle.mesh_centres.specs.Contracts.{geometryAt}
+use Rattle.mesh_centres.proofs.Going.{firstCells}
 use Rattle.mesh.specs.Case.{surveyOf, areaShort, meshOf, caseFaces, meshFrom}
 use Rattle.mesh.specs.Contracts.{builtAs, sizesFor, LaidOut, partialMeshIn}
 use Rattle.mesh.specs.Mesh.{joined, completed, filled, fromCells}
@@ -81,7 +82,7 @@ use Rattle.lines_field.specs.Bounds.{boundless, widened as widened-2, boundsOf}
 use Rattle.lines_field.specs.Corners.{alike, addVertex, addVertices, cellVertices, about, turnsAbout, polygonOf}
 use Rattle.lines_field.specs.Field.{polygonsOf, gridFor, gridOf, fieldOf, builtGrid}
 use Rattle.lines_field.specs.Contracts.{polygonsIn, verticesIn}
-use Rattle.lines_vertices.specs.Shapes.{keyIn}
+use Rattle.lines_vertices.proofs.Shapes.{keyIn}
 use Rattle.lines_velocity.specs.Contracts.{tracerField}
 use Rattle.lines_velocity.specs.Velocity.{locateIn, centreOf, neighboursOf as neighboursOf-2, distanceSquared, nearerOf, nearestOf, blended, apart, besideIf, beside, besideNearest, toward, velocityIn, velocityWhere, velocityAt, from, unit, directionAt}
 use Rattle.lines_step.specs.RungeKutta.{weighed, fourth, third, second, rungeKutta}

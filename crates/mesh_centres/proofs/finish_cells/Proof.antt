@@ -3,7 +3,7 @@ use mathlib.Core.Path.{_≡_}
 use lib.ListN.{length}
 use Rattle.case_file.specs.Trailer.{wordsIn}
 use Rattle.mesh_area.specs.Layout.{pointsIn}
-use Rattle.mesh_centres.specs.Contracts.{Going}
+use Rattle.mesh_centres.proofs.Going.{Going}
 use Rattle.mesh_centres.proofs.Laws.{all-cells, go-stop}
 use borrow.Author.Needs.{needs}
 use Rattle.mesh_centres.proofs.finish_cells.Statement.{statement}

@@ -4,7 +4,7 @@ use Rattle.answers.proofs.WordLaws.{points-more}
 use Rattle.lines.specs.Line.{lineFrom}
 use Rattle.lines_velocity.specs.Contracts.{tracerField}
 use Rattle.case_file.specs.Field.{valuesOf}
-use Rattle.reading.specs.Served.{Going}
+use Rattle.reading.proofs.Going.{Going}
 use Rattle.arith.specs.declared.Vec3.{Vec3}
 use Rattle.arith.specs.F64.{0·0}
 use lib.Seq.{sets}

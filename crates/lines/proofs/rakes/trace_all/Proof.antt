@@ -2,7 +2,7 @@ use Rattle.lines.proofs.JobLaws.{left, lines-begun, lines-turned, lines
 use Rattle.lines.specs.Rake.{seeds, linesWords}
 use Rattle.lines_velocity.specs.Contracts.{tracerField}
 use Rattle.case_file.specs.Field.{valuesOf}
-use Rattle.reading.specs.Served.{Going}
+use Rattle.reading.proofs.Going.{Going}
 use lib.Seq.{sets}
 use lib.ListN.{length, drop, length-append}
 use mathlib.Core.List.{List, [], _++_}
