@@ -8,6 +8,7 @@ ghost use mathlib.Core.Path.{_≡_};
 ghost use Prim.Native.Nat.{_<_};
 ghost use lib.ListN.{set};
 ghost use lib.Seq.{sets};
+ghost use Rattle.arith.specs.Limits.{2^32};
 ghost use Rattle.answers.specs.Words.{vecWords, valuesWords};
 
 // How many words the whole answer has, or its refusal.
@@ -27,7 +28,7 @@ pub fn put(out: &mut [u64], at: usize, w: u64)
 
 // Three floats, from `at` on.
 pub fn put_vec(out: &mut [u64], at: usize, p: Vec3)
-    requires { ⌜ at < 4294967296 ⌝ }
+    requires { ⌜ at < 2^32 ⌝ }
     ensures { λ _. ⌜ now (out .exit) ≡ sets (now (out .entry)) at (vecWords p) ⌝ }
 {
     put(out, at, bytes::bits_of(p.x));
@@ -37,7 +38,7 @@ pub fn put_vec(out: &mut [u64], at: usize, p: Vec3)
 
 // Velocity and pressure, from `at` on.
 pub fn put_values(out: &mut [u64], at: usize, v: Values)
-    requires { ⌜ at < 4294967296 ⌝ }
+    requires { ⌜ at < 2^32 ⌝ }
     ensures { λ _. ⌜ now (out .exit) ≡ sets (now (out .entry)) at (valuesWords v) ⌝ }
 {
     put_vec(out, at, v.velocity);

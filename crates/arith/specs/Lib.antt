@@ -1,3 +1,4 @@
+pub mod Limits
 pub mod F64
 pub mod Bytes
 pub mod Vec

@@ -1,16 +1,17 @@
 // Numbers of 32 bits as counts and back, and the places of a round.
 ghost use mathlib.Core.Path.{_≡_};
 ghost use Prim.Native.Nat.{_<_};
+ghost use Rattle.arith.specs.Limits.{2^32};
 ghost use Rattle.arith.specs.Lists.{after};
 
 pub fn wide(x: u32) -> usize
-    ensures { λ r. ⌜ (r ≡ x) × (r < 4294967296) ⌝ }
+    ensures { λ r. ⌜ (r ≡ x) × (r < 2^32) ⌝ }
 {
     x as usize
 }
 
 pub fn narrow(x: usize) -> u32
-    requires { ⌜ x < 4294967296 ⌝ }
+    requires { ⌜ x < 2^32 ⌝ }
     ensures { λ r. ⌜ r ≡ x ⌝ }
 {
     x as u32

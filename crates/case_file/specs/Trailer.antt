@@ -5,6 +5,7 @@ use mathlib.Core.Bool.{Bool, cond, _&&_, _||_}
 use mathlib.Core.List.{List}
 use lib.Dec.{leb, ltb, eqb}
 use lib.ListN.{length}
+use Rattle.arith.specs.Limits.{mostPoints, mostCells, mostWords}
 use Rattle.arith.specs.Bytes.{le32, readAll}
 use Rattle.reading.specs.Result.{Result, refused, fine}
 use Rattle.case_file.specs.declared.Counts.{Counts}
@@ -58,7 +59,7 @@ trailerRight file = leb 32 (length file) && isDimension (countsOf file .dimensio
 
 -- refusal 2, "count over its limit": "At most 65,536 points, 16,384 cells, 1,048,576 words."
 unfoldable pub overLimit : Counts → Bool
-overLimit n = ltb 65536 (n .points) || ltb 16384 (n .cells) || ltb 1048576 (n .words)
+overLimit n = ltb mostPoints (n .points) || ltb mostCells (n .cells) || ltb mostWords (n .words)
 
 -- refusals 1 and 2, in rising order
 unfoldable pub opened : List ℕ → Opened

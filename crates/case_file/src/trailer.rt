@@ -5,13 +5,14 @@ use arith::bytes;
 ghost use mathlib.Core.Path.{_≡_};
 ghost use Prim.Native.Nat.{_≤_, _<_};
 ghost use lib.ListN.{length};
+ghost use Rattle.arith.specs.Limits.{2^32};
 ghost use Rattle.case_file.specs.Trailer as Trailer;
 ghost use Rattle.case_file.specs.Contracts as Contracts;
 
 // Word k of the trailer.
 fn trailer_word(case: &[u8], k: usize) -> usize
     requires { ⌜ (32 ≤ length (now case)) × (k < 8) ⌝ }
-    ensures { λ r. ⌜ (r ≡ Trailer.trailerWord (now (case .entry)) k) × (r < 4294967296) ⌝ }
+    ensures { λ r. ⌜ (r ≡ Trailer.trailerWord (now (case .entry)) k) × (r < 2^32) ⌝ }
 {
     let at = case.len() - 32 + 4 * k;
     bytes::word_at(case, at) as usize

@@ -5,6 +5,7 @@ use mathlib.Core.List.{List, [], _∷_}
 use lib.Dec.{ltb, eqb}
 use lib.ListN.{length, getD, drop}
 use lib.Ieee.{Float}
+use Rattle.arith.specs.Limits.{mostSteps}
 use Rattle.arith.specs.F64.{float}
 use Rattle.arith.specs.Bytes.{le64, readAll}
 use Rattle.arith.specs.Lists.{anyOf}
@@ -84,11 +85,11 @@ settings r k = record { direction = direction r k; options = options r k }
 
 -- refusal 33: "max_steps above 65,536"
 unfoldable pub streamline : List ℕ → ℕ → Request
-streamline r k = refuseIf 33 (ltb 65536 (settings r k .options .«max_steps»)) (Streamline (point r 1) (settings r k))
+streamline r k = refuseIf 33 (ltb mostSteps (settings r k .options .«max_steps»)) (Streamline (point r 1) (settings r k))
 
 -- the same of a rake with so many seeds
 unfoldable pub rakeOf : List ℕ → ℕ → ℕ → Request
-rakeOf r k count = refuseIf 33 (ltb 65536 (settings r k .options .«max_steps»)) (Rake (record { start = point r 1; end = point r 4; count = count }) (settings r k))
+rakeOf r k count = refuseIf 33 (ltb mostSteps (settings r k .options .«max_steps»)) (Rake (record { start = point r 1; end = point r 4; count = count }) (settings r k))
 
 -- refusal 32: "rake count below 2"; 33: "count above 64 or max_steps above 65,536"
 unfoldable pub rake : List ℕ → ℕ → Request

@@ -8,6 +8,7 @@ ghost use Prim.Native.Nat.{_≤_};
 ghost use mathlib.Core.Path.{_≡_};
 ghost use mathlib.Core.List.{List};
 ghost use lib.ListN.{length};
+ghost use Rattle.arith.specs.Limits.{mostCells, mostWords};
 ghost use Rattle.reading.specs.Result.{fine};
 ghost use Rattle.case_definitions.specs.Faces.{Definition};
 ghost use Rattle.case_definitions.specs.Definitions.{definitions};
@@ -91,7 +92,7 @@ fn shortage(
     requests: usize,
     answers: usize,
 ) -> u64
-    requires { ⌜ (faces ≤ 1048576) × (n .cells ≤ 16384) ⌝ }
+    requires { ⌜ (faces ≤ mostWords) × (n .cells ≤ mostCells) ⌝ }
     ensures { λ r. ⌜ Shortage n faces requests
         (record { words = words; floats = floats; marks = marks; answers = answers }) r ⌝ }
 {

@@ -10,6 +10,7 @@ use lines_velocity::Tracer;
 use lines_velocity::interpolate;
 ghost use mathlib.Core.Path.{_≡_};
 ghost use Prim.Native.Nat.{_≤_};
+ghost use Rattle.arith.specs.Limits.{mostSteps};
 ghost use Rattle.case_file.specs.Field.{valuesOf};
 ghost use Rattle.answers.specs.Contracts.{decided, Reply};
 ghost use Rattle.lines_velocity.specs.Contracts.{tracerField, LocateEntry, TracerEntry};
@@ -66,7 +67,7 @@ pub fn integrate(
     settings: StreamlineSettings,
 ) -> Answered
     requires { ⌜ TracerEntry (now case) (now words) (now floats) t ⌝ }
-    requires { ⌜ settings .options .«max_steps» ≤ 65536 ⌝ }
+    requires { ⌜ settings .options .«max_steps» ≤ mostSteps ⌝ }
     ensures { λ r. ⌜ Reply (decided (Line.integrate (tracerField t (now (words .entry)) (now (floats .entry))) seed
         settings)) (valuesOf (now (case .entry))) (now (out .entry)) r (now (out .entry)) (now (out .exit))
         (now (marks .entry)) (now (marks .exit)) ⌝ }

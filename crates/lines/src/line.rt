@@ -6,6 +6,7 @@ use lines_step::Step;
 use lines_velocity::Tracer;
 ghost use mathlib.Core.Path.{_≡_};
 ghost use Prim.Native.Nat.{_+_, _*_, _<_, _≤_};
+ghost use Rattle.arith.specs.Limits.{mostSteps};
 ghost use Rattle.case_file.specs.Field.{valuesOf};
 ghost use Rattle.lines_velocity.specs.Contracts.{tracerField, TracerEntry};
 ghost use Rattle.lines.specs.Line as Line;
@@ -34,7 +35,7 @@ fn points_after(
     settings: StreamlineSettings,
 ) -> usize
     requires { ⌜ TracerEntry (now case) (now words) (now floats) t ⌝ }
-    requires { ⌜ (at ≤ 16777216) × (settings .options .«max_steps» ≤ 65536) ⌝ }
+    requires { ⌜ (at ≤ 16777216) × (settings .options .«max_steps» ≤ mostSteps) ⌝ }
     ensures { λ r. ⌜ PointsAfterExit (Line.pointsAfter (tracerField t (now (words .entry)) (now (floats .entry))) settings seed)
         (valuesOf (now (case .entry))) (now (marks .entry)) (now (marks .exit)) (now (out .entry)) (now (out .exit)) at
         r × (r ≤ settings .options .«max_steps») ⌝ }
@@ -76,7 +77,7 @@ pub fn trace(
     settings: StreamlineSettings,
 ) -> usize
     requires { ⌜ TracerEntry (now case) (now words) (now floats) t ⌝ }
-    requires { ⌜ (at ≤ 16000000) × (settings .options .«max_steps» ≤ 65536) ⌝ }
+    requires { ⌜ (at ≤ 16000000) × (settings .options .«max_steps» ≤ mostSteps) ⌝ }
     ensures { λ r. ⌜ TraceExit (Line.lineAnswer (tracerField t (now (words .entry)) (now (floats .entry))) settings seed)
         (valuesOf (now (case .entry))) (now (marks .entry)) (now (marks .exit)) (now (out .entry)) (now (out .exit)) at
         r × (r ≤ 196612) ⌝ }

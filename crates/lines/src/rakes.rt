@@ -8,6 +8,7 @@ use arith::Vec3;
 use lines_velocity::Tracer;
 ghost use mathlib.Core.Path.{_≡_};
 ghost use Prim.Native.Nat.{_≤_, _<_, _*_, _+_};
+ghost use Rattle.arith.specs.Limits.{mostSteps};
 ghost use Rattle.arith.specs.Lists.{anyOf};
 ghost use Rattle.case_file.specs.Field.{valuesOf};
 ghost use Rattle.answers.specs.Contracts.{decided, Reply};
@@ -55,7 +56,7 @@ fn trace_all(
     settings: StreamlineSettings,
 ) -> usize
     requires { ⌜ TracerEntry (now case) (now words) (now floats) t ⌝ }
-    requires { ⌜ (2 ≤ rake .count) × (rake .count ≤ 64) × (settings .options .«max_steps» ≤ 65536) ⌝ }
+    requires { ⌜ (2 ≤ rake .count) × (rake .count ≤ 64) × (settings .options .«max_steps» ≤ mostSteps) ⌝ }
     ensures { λ r. ⌜ TraceExit (Rakes.linesWords (tracerField t (now (words .entry)) (now (floats .entry))) settings
         (Rakes.seeds rake)) (valuesOf (now (case .entry))) (now (marks .entry)) (now (marks .exit))
         (now (out .entry)) (now (out .exit)) 1 r × (r ≤ 12583168) ⌝ }
@@ -94,7 +95,7 @@ pub fn integrate_rake(
     settings: StreamlineSettings,
 ) -> Answered
     requires { ⌜ TracerEntry (now case) (now words) (now floats) t ⌝ }
-    requires { ⌜ (2 ≤ rake .count) × (rake .count ≤ 64) × (settings .options .«max_steps» ≤ 65536) ⌝ }
+    requires { ⌜ (2 ≤ rake .count) × (rake .count ≤ 64) × (settings .options .«max_steps» ≤ mostSteps) ⌝ }
     ensures { λ r. ⌜ Reply (decided (Rakes.integrateRake (tracerField t (now (words .entry)) (now (floats .entry)))
         rake settings)) (valuesOf (now (case .entry))) (now (out .entry)) r (now (out .entry)) (now (out .exit))
         (now (marks .entry)) (now (marks .exit)) ⌝ }

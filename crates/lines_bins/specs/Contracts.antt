@@ -5,6 +5,7 @@ use mathlib.Core.List.{List}
 use mathlib.Core.Logic.{_≢_}
 use Prim.Native.Nat.{ℕ, _+_, _*_, _<_, _≤_}
 use lib.ListN.{length}
+use Rattle.arith.specs.Limits.{mostCells}
 use Rattle.lines_bins.specs.Index.{rangeWord, inBin, flagIn, poolIn, headIn, Same, Chain, node, within}
 
 -- one word of the pool stored
@@ -37,7 +38,7 @@ pub record Chains (w : List ℕ) (base n nx ny top : ℕ) (start : ℕ → ℕ �
 pub record BinRanges (w : List ℕ) (base n nx ny : ℕ) : Type 0 where
   pub some : 0 < nx * ny
   pub room : base + 88 * n ≤ length w
-  pub few : n ≤ 16384
+  pub few : n ≤ mostCells
   pub low : base ≤ 16908288
   pub wide : (i : ℕ) → i < n → rangeWord w base i 2 < nx
   pub high : (i : ℕ) → i < n → rangeWord w base i 3 < ny

@@ -6,28 +6,29 @@ use arith::number::wide;
 ghost use mathlib.Core.Path.{_≡_};
 ghost use Prim.Native.Nat.{_+_, _*_, _≤_, _<_};
 ghost use lib.ListN.{length};
+ghost use Rattle.arith.specs.Limits.{mostCells, 2^32};
 ghost use Rattle.lines_bins.specs.Index.{rangeWord, flagIn, poolIn, within};
 ghost use Rattle.lines_bins.specs.Contracts.{SetPoolExit, SetFlagExit, PushExit, Chains, BinRanges, ListCellExit, FillExit, BuildExit};
 
 // Word k of cell i's record.
 fn slot(words: &[u32], base: usize, i: usize, k: usize) -> usize
-    requires { ⌜ (base + 8 * i + 8 ≤ length (now words)) × (base ≤ 16908288) × (i < 16384) × (k < 4) ⌝ }
-    ensures { λ r. ⌜ (r ≡ rangeWord (now (words .entry)) base i k) × (r < 4294967296) ⌝ }
+    requires { ⌜ (base + 8 * i + 8 ≤ length (now words)) × (base ≤ 16908288) × (i < mostCells) × (k < 4) ⌝ }
+    ensures { λ r. ⌜ (r ≡ rangeWord (now (words .entry)) base i k) × (r < 2^32) ⌝ }
 {
     wide(words[base + 8 * i + k])
 }
 
 // Word p of the pool.
 pub fn pool(words: &[u32], base: usize, n: usize, p: usize) -> usize
-    requires { ⌜ (base + 88 * n ≤ length (now words)) × (base ≤ 16908288) × (n ≤ 16384) × (p < 72 * n) ⌝ }
-    ensures { λ r. ⌜ (r ≡ poolIn (now (words .entry)) base n p) × (r < 4294967296) ⌝ }
+    requires { ⌜ (base + 88 * n ≤ length (now words)) × (base ≤ 16908288) × (n ≤ mostCells) × (p < 72 * n) ⌝ }
+    ensures { λ r. ⌜ (r ≡ poolIn (now (words .entry)) base n p) × (r < 2^32) ⌝ }
 {
     wide(words[base + 8 * n + 1 + p])
 }
 
 fn set_pool(words: &mut [u32], base: usize, n: usize, p: usize, v: usize)
-    requires { ⌜ (base + 88 * n ≤ length (now words)) × (base ≤ 16908288) × (n ≤ 16384) × (p < 72 * n)
-        × (v < 4294967296) ⌝ }
+    requires { ⌜ (base + 88 * n ≤ length (now words)) × (base ≤ 16908288) × (n ≤ mostCells) × (p < 72 * n)
+        × (v < 2^32) ⌝ }
     ensures { λ _. ⌜ SetPoolExit (now (words .entry)) (now (words .exit)) base n p v ⌝ }
 {
     words[base + 8 * n + 1 + p] = narrow(v);
@@ -35,14 +36,14 @@ fn set_pool(words: &mut [u32], base: usize, n: usize, p: usize, v: usize)
 
 // 1 where the index stands.
 pub fn flag(words: &[u32], base: usize, n: usize) -> usize
-    requires { ⌜ (base + 88 * n ≤ length (now words)) × (base ≤ 16908288) × (n ≤ 16384) × (0 < n) ⌝ }
+    requires { ⌜ (base + 88 * n ≤ length (now words)) × (base ≤ 16908288) × (n ≤ mostCells) × (0 < n) ⌝ }
     ensures { λ r. ⌜ r ≡ flagIn (now (words .entry)) base n ⌝ }
 {
     wide(words[base + 8 * n])
 }
 
 fn set_flag(words: &mut [u32], base: usize, n: usize, v: u32)
-    requires { ⌜ (base + 88 * n ≤ length (now words)) × (base ≤ 16908288) × (n ≤ 16384) × (0 < n) ⌝ }
+    requires { ⌜ (base + 88 * n ≤ length (now words)) × (base ≤ 16908288) × (n ≤ mostCells) × (0 < n) ⌝ }
     ensures { λ _. ⌜ SetFlagExit (now (words .entry)) (now (words .exit)) base n v ⌝ }
 {
     words[base + 8 * n] = v;
@@ -50,7 +51,7 @@ fn set_flag(words: &mut [u32], base: usize, n: usize, v: u32)
 
 // A node for a cell, before the others of its bin.
 fn push(words: &mut [u32], base: usize, n: usize, bin: usize, cell: usize, top: usize)
-    requires { ⌜ (base + 88 * n ≤ length (now words)) × (base ≤ 16908288) × (n ≤ 16384) × (top + 2 ≤ 72 * n)
+    requires { ⌜ (base + 88 * n ≤ length (now words)) × (base ≤ 16908288) × (n ≤ mostCells) × (top + 2 ≤ 72 * n)
         × (bin < top) × (cell < n) ⌝ }
     ensures { λ _. ⌜ PushExit (now (words .entry)) (now (words .exit)) base n bin cell top ⌝ }
 {

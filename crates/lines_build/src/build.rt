@@ -14,6 +14,7 @@ ghost use mathlib.Core.Path.{_≡_};
 ghost use mathlib.Core.List.{map, [], _∷_};
 ghost use Prim.Native.Nat.{ℕ, _+_, _*_, _<_, _≤_};
 ghost use lib.ListN.{length, take, getD};
+ghost use Rattle.arith.specs.Limits.{mostPoints};
 ghost use Rattle.arith.specs.Lists as Lists;
 ghost use Rattle.arith.specs.Records.{puts};
 ghost use Rattle.mesh_area.specs.Tables.{cellAt};
@@ -93,7 +94,7 @@ fn polygon(
     ys: &mut [f64],
     places: &mut [usize],
 ) -> usize
-    requires { ⌜ (points ≤ 65536) × (24 * points ≤ length (now case)) × LentWords s (now words)
+    requires { ⌜ (points ≤ mostPoints) × (24 * points ≤ length (now case)) × LentWords s (now words)
         × LentFloats s (now floats) ⌝ }
     requires { ⌜ (length (now xs) ≡ 24) × (length (now ys) ≡ 24) × (length (now places) ≡ 24) ⌝ }
     requires { ⌜ length (cellVertices (meshIn (pointsIn (now case) points) s (now words) (now floats))
@@ -138,7 +139,7 @@ fn put_polygon(
     s: Sizes,
     i: usize,
 )
-    requires { ⌜ (points ≤ 65536) × (24 * points ≤ length (now case)) × LentWords s (now words)
+    requires { ⌜ (points ≤ mostPoints) × (24 * points ≤ length (now case)) × LentWords s (now words)
         × LentFloats s (now floats) × (i < s .cells) ⌝ }
     requires { ⌜ length (cellVertices (meshIn (pointsIn (now case) points) s (now words) (now floats))
         (cellAt (cellsIn s (now words) (now floats)) i)) ≤ 24 ⌝ }
@@ -165,7 +166,7 @@ fn put_polygon(
 
 // Stores the polygons of all cells.
 fn put_polygons(case: &[u8], points: usize, words: &mut [u32], floats: &mut [f64], s: Sizes)
-    requires { ⌜ (points ≤ 65536) × (24 * points ≤ length (now case)) × LentWords s (now words)
+    requires { ⌜ (points ≤ mostPoints) × (24 * points ≤ length (now case)) × LentWords s (now words)
         × LentFloats s (now floats) ⌝ }
     requires { ⌜ VertexLimit (meshIn (pointsIn (now case) points) s (now words) (now floats)) ⌝ }
     ensures { λ _. ⌜ (polygonsIn s (now (words .exit)) (now (floats .exit)) ≡ polygonsOf
@@ -216,7 +217,7 @@ fn limit_cells(words: &[u32], floats: &mut [f64], s: Sizes)
 
 // Stores the polygons of all cells, with their limits.
 fn put_cells(case: &[u8], points: usize, words: &mut [u32], floats: &mut [f64], s: Sizes)
-    requires { ⌜ (points ≤ 65536) × (24 * points ≤ length (now case)) × LentWords s (now words)
+    requires { ⌜ (points ≤ mostPoints) × (24 * points ≤ length (now case)) × LentWords s (now words)
         × LentFloats s (now floats) ⌝ }
     requires { ⌜ VertexLimit (meshIn (pointsIn (now case) points) s (now words) (now floats)) ⌝ }
     ensures { λ _. ⌜ (polygonsIn s (now (words .exit)) (now (floats .exit)) ≡ polygonsOf
@@ -236,7 +237,7 @@ pub fn from_dataset(
     floats: &mut [f64],
     s: Sizes,
 ) -> Built
-    requires { ⌜ (points ≤ 65536) × (24 * points ≤ length (now case)) × LentWords s (now words)
+    requires { ⌜ (points ≤ mostPoints) × (24 * points ≤ length (now case)) × LentWords s (now words)
         × LentFloats s (now floats) ⌝ }
     requires { ⌜ VertexLimit (meshIn (pointsIn (now case) points) s (now words) (now floats)) ⌝ }
     ensures { λ r. ⌜ FromDatasetExit (meshIn (pointsIn (now (case .entry)) points) s (now (words .entry))

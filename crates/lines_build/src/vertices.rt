@@ -5,6 +5,7 @@ ghost use mathlib.Core.Path.{_≡_};
 ghost use mathlib.Core.List.{[]};
 ghost use Prim.Native.Nat.{_+_, _*_, _<_, _≤_};
 ghost use lib.ListN.{length};
+ghost use Rattle.arith.specs.Limits.{mostPoints};
 ghost use Rattle.arith.specs.Lists.{anyOf, addNew};
 ghost use Rattle.arith.specs.Vec.{pair};
 ghost use Rattle.mesh_area.specs.Tables.{cellAt};
@@ -54,7 +55,7 @@ fn push(xs: &mut [f64], ys: &mut [f64], n: usize, p: Vec2) -> usize
 
 // The point of a number, without its height.
 fn xy_at(case: &[u8], points: usize, i: usize) -> Vec2
-    requires { ⌜ (points ≤ 65536) × (24 * points ≤ length (now case)) ⌝ }
+    requires { ⌜ (points ≤ mostPoints) × (24 * points ≤ length (now case)) ⌝ }
     ensures { λ r. ⌜ r ≡ xyOf (pointAt (pointsIn (now (case .entry)) points) i) ⌝ }
 {
     let p = mesh_area::point_at(case, points, i);
@@ -72,7 +73,7 @@ fn add_face(
     ys: &mut [f64],
     from: usize,
 ) -> usize
-    requires { ⌜ (points ≤ 65536) × (24 * points ≤ length (now case)) × LentWords s (now words) × (from ≤ 24)
+    requires { ⌜ (points ≤ mostPoints) × (24 * points ≤ length (now case)) × LentWords s (now words) × (from ≤ 24)
         × (length (now xs) ≡ 24) × (length (now ys) ≡ 24) ⌝ }
     requires { ⌜ length (addVertices (meshIn (pointsIn (now case) points) s (now words) [])
         (verticesIn (now xs) (now ys) from) f) ≤ 24 ⌝ }
@@ -101,7 +102,7 @@ pub fn cell_vertices(
     xs: &mut [f64],
     ys: &mut [f64],
 ) -> usize
-    requires { ⌜ (points ≤ 65536) × (24 * points ≤ length (now case)) × LentWords s (now words) × (length (now xs) ≡ 24)
+    requires { ⌜ (points ≤ mostPoints) × (24 * points ≤ length (now case)) × LentWords s (now words) × (length (now xs) ≡ 24)
         × (length (now ys) ≡ 24) ⌝ }
     requires { ⌜ length (cellVertices (meshIn (pointsIn (now case) points) s (now words) [])
         (cellAt (cellsIn s (now words) []) i)) ≤ 24 ⌝ }

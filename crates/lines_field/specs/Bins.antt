@@ -4,6 +4,7 @@ use mathlib.Core.Bool.{Bool, not, _&&_, _||_}
 use mathlib.Core.List.{List}
 use lib.Dec.{ltb}
 use lib.Ieee.{Float}
+use Rattle.arith.specs.Limits.{mostBins}
 use Rattle.arith.specs.F64.{_⊖_, _⊗_, _⊘_, _≺_, finite, ofℕ, ceilℕ}
 use Rattle.arith_root.specs.Root.{root}
 use Rattle.arith.specs.declared.Vec2.{Vec2}
@@ -37,4 +38,4 @@ areFlat b =
 
 -- 19 "a bin count above 65,536"
 unfoldable pub areMany : Bin → Bool
-areMany n = ltb 65536 (n .x) || ltb 65536 (n .y)
+areMany n = ltb mostBins (n .x) || ltb mostBins (n .y)

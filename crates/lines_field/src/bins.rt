@@ -10,6 +10,7 @@ use mesh_area::Sizes;
 ghost use mathlib.Core.Path.{_≡_};
 ghost use mathlib.Core.List.{[], _∷_, map};
 ghost use Prim.Native.Nat.{_+_, _*_, _<_, _≤_, max};
+ghost use Rattle.arith.specs.Limits.{mostCells, mostBins};
 ghost use Rattle.arith.specs.F64.{ceilℕ};
 ghost use Rattle.arith_root.specs.Root.{root};
 ghost use lib.ListN.{length, take};
@@ -45,7 +46,7 @@ fn aspect(b: Box) -> f64
 
 // The bin counts for so many cells in a box.
 pub fn bin_counts(cells: usize, b: Box) -> Bin
-    requires { ⌜ cells ≤ 16384 ⌝ }
+    requires { ⌜ cells ≤ mostCells ⌝ }
     ensures { λ r. ⌜ BinCountsExit cells b r ⌝ }
 {
     let count = at_least_one(cells) as f64;
@@ -93,8 +94,8 @@ pub fn grid_for(b: Box, n: Bin) -> Built
 
 // Stores two bins from `at` on.
 fn put_bins(words: &mut [u32], at: usize, first: Bin, last: Bin)
-    requires { ⌜ (at + 4 ≤ length (now words)) × (first .x < 65536) × (first .y < 65536) × (last .x < 65536)
-        × (last .y < 65536) ⌝ }
+    requires { ⌜ (at + 4 ≤ length (now words)) × (first .x < mostBins) × (first .y < mostBins) × (last .x < mostBins)
+        × (last .y < mostBins) ⌝ }
     ensures { λ _. ⌜ now (words .exit) ≡ puts (now (words .entry)) at (first .x ∷ first .y ∷ last .x ∷ last .y ∷ []) ⌝ }
 {
     words[at] = first.x as u32;

@@ -3,6 +3,7 @@ use Prim.Native.Nat.{ℕ, _+_, _<_, _≤_}
 use mathlib.Core.Path.{_≡_}
 use mathlib.Core.List.{List}
 use lib.Ieee.{Float}
+use Rattle.arith.specs.Limits.{mostBins}
 use Rattle.mesh_area.specs.declared.Sizes.{Sizes}
 use Rattle.mesh_area.specs.Layout.{wordsEnd}
 use Rattle.lines_bins.specs.Index.{flagIn}
@@ -19,8 +20,8 @@ pub record HasLimits (s : Sizes) (words : List ℕ) (floats : List Float) : Type
 pub record HasBins (g : Grid) : Type 0 where
   pub wide : 0 < g .bins .x
   pub high : 0 < g .bins .y
-  pub few-wide : g .bins .x ≤ 65536
-  pub few-high : g .bins .y ≤ 65536
+  pub few-wide : g .bins .x ≤ mostBins
+  pub few-high : g .bins .y ≤ mostBins
 
 -- a grid with bins; the index, where it stands, lists the cells of each bin; the polygons have limits
 pub record LocateCellEntry (g : Grid) (s : Sizes) (words : List ℕ) (floats : List Float) : Type 0 where

@@ -12,6 +12,7 @@ ghost use Prim.Native.Nat.{_+_, _*_, _<_, _≤_};
 ghost use lib.ListN.{length};
 ghost use mathlib.Core.List.{List};
 ghost use lib.Ieee.{Float};
+ghost use Rattle.arith.specs.Limits.{mostCells, mostWords, mostBins};
 ghost use Rattle.arith.specs.Lists.{firstFrom};
 ghost use mathlib.Core.Bool.{true};
 ghost use Rattle.mesh_area.specs.Layout.{wordsEnd, LentWords, LentFloats};
@@ -47,7 +48,7 @@ pub struct Grid {
 
 // The bin of `a` between `low` and `high`, of n.
 fn bin_along(low: f64, high: f64, n: usize, a: f64) -> usize
-    requires { ⌜ (0 < n) × (n ≤ 65536) ⌝ }
+    requires { ⌜ (0 < n) × (n ≤ mostBins) ⌝ }
     ensures { λ r. ⌜ (r ≡ Bins.binAlong low high n a) × (r < n) ⌝ }
 {
     let normalized = float::clamp((a - low) / (high - low));
@@ -58,7 +59,7 @@ fn bin_along(low: f64, high: f64, n: usize, a: f64) -> usize
 // The bin of a point.
 pub fn bin_for(g: Grid, p: Vec2) -> Bin
     requires { ⌜ HasBins g ⌝ }
-    ensures { λ r. ⌜ (r ≡ Bins.binFor g p) × (r .x < 65536) × (r .y < 65536) × (r .x < g .bins .x)
+    ensures { λ r. ⌜ (r ≡ Bins.binFor g p) × (r .x < mostBins) × (r .y < mostBins) × (r .x < g .bins .x)
         × (r .y < g .bins .y) ⌝ }
 {
     Bin {
@@ -69,14 +70,14 @@ pub fn bin_for(g: Grid, p: Vec2) -> Bin
 
 // Where the words, and the floats, of cell i start.
 pub fn words_at(s: Sizes, i: usize) -> usize
-    requires { ⌜ (s .slots ≤ 1048576) × (s .cells ≤ 16384) × (i < s .cells) ⌝ }
+    requires { ⌜ (s .slots ≤ mostWords) × (s .cells ≤ mostCells) × (i < s .cells) ⌝ }
     ensures { λ r. ⌜ r ≡ Layout.wordsAt s i ⌝ }
 {
     16 * s.slots + 8 * s.cells + 8 * i
 }
 
 pub fn floats_at(s: Sizes, i: usize) -> usize
-    requires { ⌜ (s .slots ≤ 1048576) × (s .cells ≤ 16384) × (i < s .cells) ⌝ }
+    requires { ⌜ (s .slots ≤ mostWords) × (s .cells ≤ mostCells) × (i < s .cells) ⌝ }
     ensures { λ r. ⌜ r ≡ Layout.floatsAt s i ⌝ }
 {
     12 * s.slots + 4 * s.cells + 60 * i

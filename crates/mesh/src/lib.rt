@@ -10,6 +10,7 @@ use mesh_centres::Finished;
 ghost use mathlib.Core.Path.{_≡_};
 ghost use Prim.Native.Nat.{_+_, _*_, _<_};
 ghost use lib.ListN.{length};
+ghost use Rattle.arith.specs.Limits.{mostCells, mostWords};
 ghost use Rattle.mesh_area.specs.Layout.{pointsIn};
 ghost use Rattle.case_file.specs.Trailer.{wordsIn, countsOf, wordsOf};
 ghost use mathlib.Core.List.{List};
@@ -50,7 +51,7 @@ pub fn survey(case: &[u8]) -> Surveyed
 
 // Refusal 4: a work area of these lengths is too short for a case with so many faces.
 pub fn is_short(n: Counts, faces: usize, words: usize, floats: usize) -> bool
-    requires { ⌜ (faces ≤ 1048576) × (n .cells ≤ 16384) ⌝ }
+    requires { ⌜ (faces ≤ mostWords) × (n .cells ≤ mostCells) ⌝ }
     ensures { λ r. ⌜ ((defs : List Definition) → faces ≡ facesCounted defs → r ≡ areaShort
         (record { counts = n; definitions = defs }) words floats) ⌝ }
 {

@@ -3,7 +3,6 @@
 -- face lists, from 14F on their neighbour lists. Cell i from 16F + 8i on: its definition's position, where its two lists start, how
 -- many faces and how many neighbours they have. What follows from 16F + 8C on is the tracer's.
 -- Floats: face f from 12f on: centre, area, normal, area vector. Cell i from 12F + 4i on: centre, volume. From 12F + 4C on: the tracer's.
--- `mostPoints`, `mostCells`, `mostSlots`: the limits.
 -- `pointsIn`: the points of a case.
 -- `vertexCount` to `volumeFloat`: the parts of a record, by their offset.
 -- `wordsEnd`, `floatsEnd`, `meshWords`, `meshFloats`: the mesh's part of the area.
@@ -16,6 +15,7 @@ use mathlib.Core.List.{List, []}
 use lib.Dec.{ltb, eqb}
 use lib.ListN.{length, getD, take}
 use lib.Ieee.{Float, nan}
+use Rattle.arith.specs.Limits.{mostCells, mostWords}
 use Rattle.arith.specs.Bytes.{vecAt}
 use Rattle.arith.specs.Records.{tab}
 use Rattle.arith.specs.Vec.{vec}
@@ -24,18 +24,6 @@ use Rattle.arith.specs.declared.Found.{Found}
 use Rattle.arith.specs.declared.Found.the-variants.{At, Nothing}
 use Rattle.mesh_area.specs.declared.Sizes.{Sizes}
 use Rattle.mesh_area.specs.Tables.{Face, Cell, Mesh}
-
--- ---- 01's limits: "At most 65,536 points, 16,384 cells, 1,048,576 words"
-
-abbrev pub mostPoints : ℕ
-mostPoints = 65536
-
-abbrev pub mostCells : ℕ
-mostCells = 16384
-
--- F is at most the number of words, since each face has a word of its own
-abbrev pub mostSlots : ℕ
-mostSlots = 1048576
 
 -- ---- points: "points (3 floats each)", in the case bytes
 
@@ -105,14 +93,14 @@ meshFloats s floats = take (floatsEnd s) floats
 
 -- the words are not "under 16F+96C", and F and C are within 01's limits
 pub record LentWords (s : Sizes) (words : List ℕ) : Type 0 where
-  pub few-slots : s .slots ≤ mostSlots
+  pub few-slots : s .slots ≤ mostWords
   pub few-faces : s .faces ≤ s .slots
   pub few-cells : s .cells ≤ mostCells
   pub long : 16 * s .slots + 96 * s .cells ≤ length words
 
 -- the floats are not under "12F+64C"
 pub record LentFloats (s : Sizes) (floats : List Float) : Type 0 where
-  pub few-slots : s .slots ≤ mostSlots
+  pub few-slots : s .slots ≤ mostWords
   pub few-faces : s .faces ≤ s .slots
   pub few-cells : s .cells ≤ mostCells
   pub long : 12 * s .slots + 64 * s .cells ≤ length floats

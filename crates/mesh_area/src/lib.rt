@@ -8,9 +8,10 @@ ghost use mathlib.Core.List.{List};
 ghost use Prim.Native.Nat.{ℕ, _+_, _*_, _≤_, _<_};
 ghost use lib.ListN.{length, getD, take};
 ghost use lib.Ieee.{Float, nan};
+ghost use Rattle.arith.specs.Limits.{mostPoints, mostCells, mostWords, 2^32};
 ghost use Rattle.mesh_area.specs.Tables.{pointAt, faceAt, cellAt};
 ghost use Rattle.mesh_area.specs.Layout as Layout;
-ghost use Rattle.mesh_area.specs.Layout.{mostPoints, mostCells, mostSlots, pointsIn, facesIn, cellsIn, vecFrom, meshWords, meshFloats, LentWords, LentFloats};
+ghost use Rattle.mesh_area.specs.Layout.{pointsIn, facesIn, cellsIn, vecFrom, meshWords, meshFloats, LentWords, LentFloats};
 
 // The words of a face's record, by their offset: its vertex count, its vertices, its owner, its
 // neighbour + 1 or 0.
@@ -64,7 +65,7 @@ pub fn point_at(case: &[u8], points: usize, i: usize) -> Vec3
 // Word i of the first `end`.
 fn word_in(words: &[u32], end: usize, i: usize) -> usize
     requires { ⌜ end ≤ length (now words) ⌝ }
-    ensures { λ r. ⌜ (r ≡ getD (take end (now (words .entry))) i 0) × (r < 4294967296) ⌝ }
+    ensures { λ r. ⌜ (r ≡ getD (take end (now (words .entry))) i 0) × (r < 2^32) ⌝ }
 {
     if i < end { wide(words[i]) } else { 0 }
 }
@@ -79,7 +80,7 @@ fn float_in(floats: &[f64], end: usize, i: usize) -> f64
 
 // The three floats from i on, of the first `end`.
 fn vec_in(floats: &[f64], end: usize, i: usize) -> Vec3
-    requires { ⌜ (end ≤ length (now floats)) × (i ≤ 4294967296) ⌝ }
+    requires { ⌜ (end ≤ length (now floats)) × (i ≤ 2^32) ⌝ }
     ensures { λ r. ⌜ r ≡ vecFrom (take end (now (floats .entry))) i ⌝ }
 {
     let x = float_in(floats, end, i);
@@ -90,14 +91,14 @@ fn vec_in(floats: &[f64], end: usize, i: usize) -> Vec3
 
 // Where the mesh's part of the words, and of the floats, ends.
 fn words_end(s: Sizes) -> usize
-    requires { ⌜ (s .slots ≤ mostSlots) × (s .cells ≤ mostCells) ⌝ }
+    requires { ⌜ (s .slots ≤ mostWords) × (s .cells ≤ mostCells) ⌝ }
     ensures { λ r. ⌜ r ≡ Layout.wordsEnd s ⌝ }
 {
     16 * s.slots + 8 * s.cells
 }
 
 fn floats_end(s: Sizes) -> usize
-    requires { ⌜ (s .slots ≤ mostSlots) × (s .cells ≤ mostCells) ⌝ }
+    requires { ⌜ (s .slots ≤ mostWords) × (s .cells ≤ mostCells) ⌝ }
     ensures { λ r. ⌜ r ≡ Layout.floatsEnd s ⌝ }
 {
     12 * s.slots + 4 * s.cells
@@ -105,8 +106,8 @@ fn floats_end(s: Sizes) -> usize
 
 // Word k of the record of face f, which there is.
 fn face_word(words: &[u32], s: Sizes, f: usize, k: usize) -> usize
-    requires { ⌜ LentWords s (now words) × (f < s .faces) × (k < 4294967296) ⌝ }
-    ensures { λ r. ⌜ (r ≡ getD (meshWords s (now (words .entry))) (12 * f + k) 0) × (r < 4294967296) ⌝ }
+    requires { ⌜ LentWords s (now words) × (f < s .faces) × (k < 2^32) ⌝ }
+    ensures { λ r. ⌜ (r ≡ getD (meshWords s (now (words .entry))) (12 * f + k) 0) × (r < 2^32) ⌝ }
 {
     word_in(words, words_end(s), 12 * f + k)
 }
@@ -123,7 +124,7 @@ fn face_vec(floats: &[f64], s: Sizes, f: usize, k: usize) -> Vec3
 pub fn vertex_count(words: &[u32], s: Sizes, f: usize) -> usize
     requires { ⌜ LentWords s (now words) ⌝ }
     ensures { λ r. ⌜ ((floats : List Float) → r ≡ length (faceAt (facesIn s (now (words .entry)) floats) f .vertices))
-        × (r < 4294967296) ⌝ }
+        × (r < 2^32) ⌝ }
 {
     if f < s.faces {
         face_word(words, s, f, VERTEX_COUNT)
@@ -136,7 +137,7 @@ pub fn vertex_count(words: &[u32], s: Sizes, f: usize) -> usize
 pub fn vertex(words: &[u32], s: Sizes, f: usize, k: usize) -> usize
     requires { ⌜ LentWords s (now words) ⌝ }
     ensures { λ r. ⌜ ((floats : List Float) → r ≡ getD (faceAt (facesIn s (now (words .entry)) floats) f .vertices) k 0)
-        × (r < 4294967296) ⌝ }
+        × (r < 2^32) ⌝ }
 {
     if f < s.faces {
         if k < face_word(words, s, f, VERTEX_COUNT) {
@@ -153,7 +154,7 @@ pub fn vertex(words: &[u32], s: Sizes, f: usize, k: usize) -> usize
 pub fn owner_of(words: &[u32], s: Sizes, f: usize) -> usize
     requires { ⌜ LentWords s (now words) ⌝ }
     ensures { λ r. ⌜ ((floats : List Float) → r ≡ faceAt (facesIn s (now (words .entry)) floats) f .owner)
-        × (r < 4294967296) ⌝ }
+        × (r < 2^32) ⌝ }
 {
     if f < s.faces {
         face_word(words, s, f, OWNER_WORD)
@@ -230,7 +231,7 @@ pub fn face_area(floats: &[f64], s: Sizes, f: usize) -> f64
 // Word k of the record of cell i, which there is.
 fn cell_word(words: &[u32], s: Sizes, i: usize, k: usize) -> usize
     requires { ⌜ LentWords s (now words) × (i < s .cells) × (k < 8) ⌝ }
-    ensures { λ r. ⌜ (r ≡ getD (meshWords s (now (words .entry))) (16 * s .slots + 8 * i + k) 0) × (r < 4294967296) ⌝ }
+    ensures { λ r. ⌜ (r ≡ getD (meshWords s (now (words .entry))) (16 * s .slots + 8 * i + k) 0) × (r < 2^32) ⌝ }
 {
     word_in(words, words_end(s), 16 * s.slots + 8 * i + k)
 }
@@ -239,7 +240,7 @@ fn cell_word(words: &[u32], s: Sizes, i: usize, k: usize) -> usize
 pub fn face_count(words: &[u32], s: Sizes, i: usize) -> usize
     requires { ⌜ LentWords s (now words) ⌝ }
     ensures { λ r. ⌜ ((floats : List Float) → r ≡ length (cellAt (cellsIn s (now (words .entry)) floats) i .faces))
-        × (r < 4294967296) ⌝ }
+        × (r < 2^32) ⌝ }
 {
     if i < s.cells {
         cell_word(words, s, i, FACE_COUNT)
@@ -252,7 +253,7 @@ pub fn face_count(words: &[u32], s: Sizes, i: usize) -> usize
 pub fn cell_face(words: &[u32], s: Sizes, i: usize, k: usize) -> usize
     requires { ⌜ LentWords s (now words) ⌝ }
     ensures { λ r. ⌜ ((floats : List Float) → r ≡ getD (cellAt (cellsIn s (now (words .entry)) floats) i .faces) k 0)
-        × (r < 4294967296) ⌝ }
+        × (r < 2^32) ⌝ }
 {
     if i < s.cells {
         if k < cell_word(words, s, i, FACE_COUNT) {
@@ -270,7 +271,7 @@ pub fn cell_face(words: &[u32], s: Sizes, i: usize, k: usize) -> usize
 pub fn neighbour_count(words: &[u32], s: Sizes, i: usize) -> usize
     requires { ⌜ LentWords s (now words) ⌝ }
     ensures { λ r. ⌜ ((floats : List Float) → r ≡ length (cellAt (cellsIn s (now (words .entry)) floats) i .neighbours))
-        × (r < 4294967296) ⌝ }
+        × (r < 2^32) ⌝ }
 {
     if i < s.cells {
         cell_word(words, s, i, NEIGHBOUR_COUNT)
@@ -283,7 +284,7 @@ pub fn neighbour_count(words: &[u32], s: Sizes, i: usize) -> usize
 pub fn neighbour(words: &[u32], s: Sizes, i: usize, k: usize) -> usize
     requires { ⌜ LentWords s (now words) ⌝ }
     ensures { λ r. ⌜ ((floats : List Float) → r ≡ getD (cellAt (cellsIn s (now (words .entry)) floats) i .neighbours) k
-        0) × (r < 4294967296) ⌝ }
+        0) × (r < 2^32) ⌝ }
 {
     if i < s.cells {
         if k < cell_word(words, s, i, NEIGHBOUR_COUNT) {

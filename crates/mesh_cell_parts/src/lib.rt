@@ -6,6 +6,7 @@ use mesh_faces::Added;
 use mesh_geometry::TurnedFace;
 ghost use Prim.Native.Nat.{_+_, _*_, _≤_, _<_};
 ghost use lib.ListN.{length};
+ghost use Rattle.arith.specs.Limits.{mostPoints, mostCells, mostWords};
 ghost use Rattle.mesh_area.specs.Layout.{pointsIn};
 ghost use Rattle.mesh_faces.specs.Contracts.{UseFaceEntry};
 ghost use Rattle.mesh_cell_parts.specs.Contracts.{PlaceFaceExit, PutCellExit};
@@ -36,7 +37,7 @@ pub fn place_face(
     cell: NewCell,
     vertices: &mut [u32],
 ) -> FacePlaced
-    requires { ⌜ UseFaceEntry s (now words) (now floats) (now vertices) (cell .number) × (points ≤ 65536)
+    requires { ⌜ UseFaceEntry s (now words) (now floats) (now vertices) (cell .number) × (points ≤ mostPoints)
         × (24 * points ≤ length (now case)) ⌝ }
     ensures { λ r. ⌜ PlaceFaceExit dimension (pointsIn (now (case .entry)) points) cell s (now (words .entry))
         (now (words .exit)) (now (floats .entry)) (now (floats .exit)) (now (vertices .entry)) r ⌝ }
@@ -65,7 +66,7 @@ pub fn put_cell(
     count: u32,
     reference: Vec3,
 )
-    requires { ⌜ (s .slots ≤ 1048576) × (i < 16384) × (16 * s .slots + 8 * i + 8 ≤ length (now words))
+    requires { ⌜ (s .slots ≤ mostWords) × (i < mostCells) × (16 * s .slots + 8 * i + 8 ≤ length (now words))
         × (12 * s .slots + 4 * i + 4 ≤ length (now floats)) ⌝ }
     ensures { λ _. ⌜ PutCellExit s (now (words .entry)) (now (words .exit)) (now (floats .entry)) (now (floats .exit)) i at
         first count reference ⌝ }

@@ -10,6 +10,7 @@ use mathlib.Core.Path.{_≡_}
 use mathlib.Core.List.{List, []}
 use lib.ListN.{length, getD, drop}
 use lib.Ieee.{Float}
+use Rattle.arith.specs.Limits.{mostPoints, mostCells, mostWords}
 use Rattle.arith.specs.declared.Vec3.{Vec3}
 use Rattle.reading.specs.Result.{Result, refused, fine, steps}
 use Rattle.case_definitions.specs.Faces.{Definition, facesOf, addFaceCount, facesCounted}
@@ -82,7 +83,7 @@ pub record AddFaceEntry (ws : List ℕ) (s : Sizes) (words : List ℕ) (floats :
   pub chained : Chained s words
   pub behind : s .faces ≤ cell .first + c .face
   pub room : cell .first + cell .head .faces ≤ s .slots
-  pub cells-few : cell .number < 16384
+  pub cells-few : cell .number < mostCells
 
 -- the table has n faces; from 13F on only `count` words from `first` on have changed, and no float from 12F on
 pub record ListGrowth (s : Sizes) (words words′ : List ℕ) (floats floats′ : List Float) (first count n : ℕ) : Type 0 where
@@ -115,7 +116,7 @@ pub record AddFacesEntry (ws : List ℕ) (s : Sizes) (words : List ℕ) (floats 
   pub chained : Chained s words
   pub behind : s .faces ≤ cell .first
   pub room : cell .first + cell .head .faces ≤ s .slots
-  pub cells-few : cell .number < 16384
+  pub cells-few : cell .number < mostCells
 
 -- all faces of a cell
 abbrev pub addFaces : ℕ → List Vec3 → List ℕ → NewCell → List Face → Result CellFaces
@@ -139,7 +140,7 @@ pub record FillCellEntry (ws : List ℕ) (s : Sizes) (words : List ℕ) (floats 
   pub behind : s .faces ≤ cell .first
   pub room : cell .first + cell .head .faces ≤ s .slots
   pub below : cell .number < s .cells
-  pub position : cell .head .at < 1048576
+  pub position : cell .head .at < mostWords
 
 -- the cell is stored; nothing of the cells before it has changed
 pub record StoredCell (s : Sizes) (words words′ : List ℕ) (floats floats′ : List Float) (cell : NewCell) (n : ℕ) : Type 0 where
@@ -193,9 +194,9 @@ pub record AddCellsEntry (case : List ℕ) (points : ℕ) (ws words : List ℕ) 
   pub lent-words : LentWords s words
   pub lent-floats : LentFloats s floats
   pub empty : s .faces ≡ 0
-  pub points-few : points ≤ 65536
+  pub points-few : points ≤ mostPoints
   pub points-there : 24 * points ≤ length case
-  pub words-few : length ws ≤ 1048576
+  pub words-few : length ws ≤ mostWords
   pub defs : List Definition
   pub right : Words.definitions (s .cells) ws ≡ fine defs
   pub slots : s .slots ≡ facesCounted defs

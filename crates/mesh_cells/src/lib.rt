@@ -13,6 +13,7 @@ ghost use mathlib.Core.Path.{_≡_};
 ghost use mathlib.Core.List.{List};
 ghost use Prim.Native.Nat.{_+_, _*_, _≤_, _<_};
 ghost use lib.ListN.{length};
+ghost use Rattle.arith.specs.Limits.{mostPoints};
 ghost use Rattle.reading.specs.Result.{fine};
 ghost use Rattle.case_file.specs.Trailer.{wordsIn};
 ghost use Rattle.case_definitions.specs.Faces.{Definition};
@@ -67,7 +68,7 @@ fn add_face(
     cell: NewCell,
     c: FaceCursor,
 ) -> FaceAdded
-    requires { ⌜ AddFaceEntry (wordsIn (now ws)) s (now words) (now floats) cell c × (points ≤ 65536)
+    requires { ⌜ AddFaceEntry (wordsIn (now ws)) s (now words) (now floats) cell c × (points ≤ mostPoints)
         × (24 * points ≤ length (now case)) ⌝ }
     ensures { λ r. ⌜ AddFaceExit dimension (pointsIn (now (case .entry)) points) (wordsIn (now (ws .entry))) cell s
         (now (words .entry)) (now (words .exit)) (now (floats .entry)) (now (floats .exit)) c r ⌝ }
@@ -108,7 +109,7 @@ fn add_faces(
     s: Sizes,
     cell: NewCell,
 ) -> CellsAdded
-    requires { ⌜ AddFacesEntry (wordsIn (now ws)) s (now words) (now floats) cell × (points ≤ 65536)
+    requires { ⌜ AddFacesEntry (wordsIn (now ws)) s (now words) (now floats) cell × (points ≤ mostPoints)
         × (24 * points ≤ length (now case)) ⌝ }
     ensures { λ r. ⌜ AddFacesExit dimension (pointsIn (now (case .entry)) points) (wordsIn (now (ws .entry))) cell s
         (now (words .entry)) (now (words .exit)) (now (floats .entry)) (now (floats .exit)) r ⌝ }
@@ -147,7 +148,7 @@ fn fill_cell(
     s: Sizes,
     cell: NewCell,
 ) -> CellsAdded
-    requires { ⌜ FillCellEntry (wordsIn (now ws)) s (now words) (now floats) cell × (points ≤ 65536)
+    requires { ⌜ FillCellEntry (wordsIn (now ws)) s (now words) (now floats) cell × (points ≤ mostPoints)
         × (24 * points ≤ length (now case)) ⌝ }
     ensures { λ r. ⌜ FillCellExit dimension (pointsIn (now (case .entry)) points) (wordsIn (now (ws .entry))) cell s
         (now (words .entry)) (now (words .exit)) (now (floats .entry)) (now (floats .exit)) r ⌝ }
@@ -176,7 +177,7 @@ fn new_cell(
     i: usize,
     p: Progress,
 ) -> CellFound
-    requires { ⌜ (points ≤ 65536) × (24 * points ≤ length (now case)) ⌝ }
+    requires { ⌜ (points ≤ mostPoints) × (24 * points ≤ length (now case)) ⌝ }
     ensures { λ r. ⌜ NewCellExit dimension (pointsIn (now (case .entry)) points) (wordsIn (now (ws .entry))) i p r ⌝ }
 {
     let at = p.at;

@@ -6,6 +6,7 @@ ghost use mathlib.Core.Path.{_≡_};
 ghost use mathlib.Core.Bool.{false};
 ghost use Prim.Native.Nat.{_+_, _*_, _≤_, _<_};
 ghost use lib.ListN.{length};
+ghost use Rattle.arith.specs.Limits.{2^32};
 ghost use Rattle.mesh_area.specs.Layout.{wordsEnd, LentWords};
 ghost use Rattle.mesh_connection.specs.Contracts.{visitedIn, queueIn, ClearExit, MarkExit, MeetExit, SearchState, EnsureConnectedExit};
 
@@ -18,7 +19,7 @@ fn visited(words: &[u32], base: usize, i: usize) -> bool
 
 fn queue_at(words: &[u32], base: usize, k: usize) -> usize
     requires { ⌜ base + 2 * k + 1 < length (now words) ⌝ }
-    ensures { λ r. ⌜ (r ≡ queueIn (now (words .entry)) base k) × (r < 4294967296) ⌝ }
+    ensures { λ r. ⌜ (r ≡ queueIn (now (words .entry)) base k) × (r < 2^32) ⌝ }
 {
     wide(words[base + 2 * k + 1])
 }
@@ -26,7 +27,7 @@ fn queue_at(words: &[u32], base: usize, k: usize) -> usize
 // Cell d is visited, and goes to the queue's end.
 fn mark(words: &mut [u32], base: usize, d: usize, tail: usize)
     requires { ⌜ (base + 2 * d + 2 ≤ length (now words)) × (base + 2 * tail + 2 ≤ length (now words))
-        × (d < 4294967296) ⌝ }
+        × (d < 2^32) ⌝ }
     ensures { λ _. ⌜ MarkExit (now (words .entry)) (now (words .exit)) base d tail ⌝ }
 {
     words[base + 2 * d] = 1;
@@ -35,7 +36,7 @@ fn mark(words: &mut [u32], base: usize, d: usize, tail: usize)
 
 // Cell d goes to the queue's end, unless it was visited; the queue's new end.
 fn meet(words: &mut [u32], base: usize, n: usize, d: usize, tail: usize) -> usize
-    requires { ⌜ (base + 2 * n ≤ length (now words)) × (n < 4294967296) × (tail < 4294967296) ⌝ }
+    requires { ⌜ (base + 2 * n ≤ length (now words)) × (n < 2^32) × (tail < 2^32) ⌝ }
     requires { ⌜ (d < n → visitedIn (now words) base d ≡ false → tail < n) ⌝ }
     ensures { λ r. ⌜ MeetExit (now (words .entry)) (now (words .exit)) base n d tail r ⌝ }
 {

@@ -5,6 +5,7 @@ use mathlib.Core.Bool.{not}
 use mathlib.Core.List.{List}
 use lib.Dec.{eqb}
 use lib.ListN.{length}
+use Rattle.arith.specs.Limits.{mostPoints}
 use Rattle.arith.specs.F64.{finite, within}
 use Rattle.arith.specs.Lists.{allOf}
 use Rattle.arith.specs.Vec.{each3}
@@ -14,7 +15,7 @@ use Rattle.case_definitions.specs.Faces.{Definition}
 
 -- the bytes hold so many points
 pub record PointBytes (case : List ℕ) (points : ℕ) : Type 0 where
-  pub few : points ≤ 65536
+  pub few : points ≤ mostPoints
   pub long : 24 * points ≤ length case
 
 -- 8 "no cells"; 9 "a coordinate not finite"; 10 "one beyond 1,048,576 in size (added)"

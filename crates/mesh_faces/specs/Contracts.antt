@@ -10,6 +10,7 @@ use mathlib.Core.List.{List, [], _∷_, _++_}
 use lib.ListN.{length, drop, set}
 use lib.Seq.{sets}
 use lib.Ieee.{Float}
+use Rattle.arith.specs.Limits.{mostCells, mostWords}
 use Rattle.arith.specs.Lists.{sorted}
 use Rattle.mesh_area.specs.Layout.{facesIn, LentWords, LentFloats}
 use Rattle.mesh_area.specs.declared.Sizes.{Sizes}
@@ -25,8 +26,8 @@ pub record AddEntry (w : List ℕ) (fl : List Float) (slots n : ℕ) (vertices :
   pub chains : Chains w slots n
   pub floats : 12 * slots ≤ length fl
   pub space : n < slots
-  pub slots-few : slots ≤ 1048576
-  pub cells-few : cell < 16384
+  pub slots-few : slots ≤ mostWords
+  pub cells-few : cell < mostCells
   pub short : length vertices ≤ 8
 
 -- the words after the answer: a new face is stored as the last of its bucket, or a face's second cell, + 1, or nothing
@@ -84,7 +85,7 @@ pub record UseFaceEntry (s : Sizes) (words : List ℕ) (floats : List Float) (ve
   pub chained : Chained s words
   pub space : s .faces < s .slots
   pub short : length vertices ≤ 8
-  pub cells-few : cell < 16384
+  pub cells-few : cell < mostCells
 
 -- the answer, the table by its definition, and every word and float of the area: those from 13 F and 12 F on are as they were
 pub record UseFaceExit (s : Sizes) (words words′ : List ℕ) (floats floats′ : List Float) (vertices : List ℕ) (m : FaceGeometry) (cell : ℕ) (r : Added) : Type 0 where

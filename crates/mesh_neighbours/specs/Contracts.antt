@@ -7,6 +7,7 @@ use mathlib.Core.Logic.{_≢_, _⊎_}
 use lib.Dec.{eqb}
 use lib.Ieee.{Float}
 use lib.ListN.{getD}
+use Rattle.arith.specs.Limits.{2^32}
 use Rattle.arith.specs.Lists.{addNew}
 use Rattle.arith.specs.declared.Found.{Found}
 use Rattle.arith.specs.declared.Found.the-variants.{At}
@@ -35,7 +36,7 @@ pub record FillNeighboursExit (s : Sizes) (words words′ : List ℕ) : Type 0 w
 -- the cell beyond face f, which fits a word
 pub record BeyondExit (s : Sizes) (w : List ℕ) (cell f : ℕ) (r : Found) : Type 0 where
   pub found : (floats : List Float) → r ≡ beyond cell (faceAt (facesIn s w floats) f)
-  pub small : (d : ℕ) → r ≡ At d → d < 4294967296
+  pub small : (d : ℕ) → r ≡ At d → d < 2^32
 
 -- the list of n words at a place, with d added unless it is there
 pub record AddNewExit (w w′ : List ℕ) (at n d r : ℕ) : Type 0 where

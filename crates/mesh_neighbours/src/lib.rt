@@ -7,6 +7,7 @@ ghost use mathlib.Core.Path.{_≡_};
 ghost use Prim.Native.Nat.{_+_, _*_, _≤_, _<_};
 ghost use lib.Dec.{eqb};
 ghost use lib.ListN.{length};
+ghost use Rattle.arith.specs.Limits.{2^32};
 ghost use Rattle.arith.specs.Lists.{anyOf};
 ghost use Rattle.mesh_area.specs.Layout.{listAt, LentWords};
 ghost use Rattle.mesh_neighbours.specs.Neighbours.{firstIn};
@@ -29,7 +30,7 @@ fn beyond(words: &[u32], s: Sizes, cell: usize, f: usize) -> Found
 
 // d is one of the n words at a place.
 fn listed(words: &[u32], at: usize, n: usize, d: usize) -> bool
-    requires { ⌜ (at + n ≤ length (now words)) × (n < 4294967296) ⌝ }
+    requires { ⌜ (at + n ≤ length (now words)) × (n < 2^32) ⌝ }
     ensures { λ r. ⌜ r ≡ anyOf (eqb d) (listAt (now (words .entry)) at n) ⌝ }
 {
     let mut k = 0;
@@ -44,7 +45,7 @@ fn listed(words: &[u32], at: usize, n: usize, d: usize) -> bool
 
 // Adds d to the list of n words at a place, unless it is there; how many words it has then.
 fn add_new(words: &mut [u32], at: usize, n: usize, d: usize) -> usize
-    requires { ⌜ (at + n < length (now words)) × (n < 4294967296) × (d < 4294967296) ⌝ }
+    requires { ⌜ (at + n < length (now words)) × (n < 2^32) × (d < 2^32) ⌝ }
     ensures { λ r. ⌜ AddNewExit (now (words .entry)) (now (words .exit)) at n d r ⌝ }
 {
     if listed(words, at, n, d) {
@@ -56,7 +57,7 @@ fn add_new(words: &mut [u32], at: usize, n: usize, d: usize) -> usize
 
 // Adds the cell beyond face f.
 fn add_beyond(words: &mut [u32], s: Sizes, cell: usize, f: usize, at: usize, n: usize) -> usize
-    requires { ⌜ LentWords s (now words) × (at + n < length (now words)) × (n < 4294967296) ⌝ }
+    requires { ⌜ LentWords s (now words) × (at + n < length (now words)) × (n < 2^32) ⌝ }
     ensures { λ r. ⌜ AddBeyondExit s (now (words .entry)) (now (words .exit)) cell f at n r ⌝ }
 {
     let Found::At(d) = beyond(words, s, cell, f) else {

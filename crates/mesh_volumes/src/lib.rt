@@ -7,6 +7,7 @@ ghost use mathlib.Core.Path.{_≡_};
 ghost use mathlib.Core.List.{[], _∷_};
 ghost use Prim.Native.Nat.{_+_, _*_, _≤_, _<_};
 ghost use lib.ListN.{length, getD};
+ghost use Rattle.arith.specs.Limits.{mostPoints};
 ghost use Rattle.mesh_area.specs.Tables.{pointAt};
 ghost use Rattle.mesh_area.specs.Layout.{pointsIn};
 ghost use Rattle.mesh_volumes.specs.Geometry as Geometry;
@@ -57,7 +58,7 @@ pub fn add_triangle(
     a: usize,
     b: usize,
 ) -> Weight
-    requires { ⌜ (points ≤ 65536) × (24 * points ≤ length (now case)) ⌝ }
+    requires { ⌜ (points ≤ mostPoints) × (24 * points ≤ length (now case)) ⌝ }
     ensures { λ r. ⌜ r ≡ Geometry.addTriangle (pointsIn (now (case .entry)) points) reference weight (a ∷ b ∷ []) ⌝ }
 {
     let p = mesh_area::point_at(case, points, a).sub(reference);
@@ -109,7 +110,7 @@ fn add_tetrahedron(
     vertices: &[u32],
     j: usize,
 ) -> Weight
-    requires { ⌜ (points ≤ 65536) × (24 * points ≤ length (now case)) × (j + 2 < length (now vertices)) ⌝ }
+    requires { ⌜ (points ≤ mostPoints) × (24 * points ≤ length (now case)) × (j + 2 < length (now vertices)) ⌝ }
     ensures { λ r. ⌜ r ≡ Geometry.addTetrahedron (pointsIn (now (case .entry)) points) reference
         (pointAt (pointsIn (now (case .entry)) points) (getD (now (vertices .entry)) 0 0)) weight
         (record { from = getD (now (vertices .entry)) (j + 1) 0; to = getD (now (vertices .entry)) (j + 2) 0 }) ⌝ }
@@ -128,7 +129,7 @@ pub fn add_tetrahedra(
     weight: Weight,
     vertices: &[u32],
 ) -> Weight
-    requires { ⌜ (points ≤ 65536) × (24 * points ≤ length (now case)) ⌝ }
+    requires { ⌜ (points ≤ mostPoints) × (24 * points ≤ length (now case)) ⌝ }
     ensures { λ r. ⌜ r ≡ Geometry.addTetrahedra (pointsIn (now (case .entry)) points) reference weight
         (now (vertices .entry)) ⌝ }
 {

@@ -3,6 +3,7 @@ use Prim.Native.Nat.{ℕ, _*_, _≤_}
 use mathlib.Core.Bool.{Bool, false, _&&_, _||_}
 use mathlib.Core.List.{List, []}
 use lib.ListN.{length, getD}
+use Rattle.arith.specs.Limits.{mostPoints}
 use Rattle.arith.specs.Lists.{fold}
 use Rattle.arith.specs.declared.Vec3.{Vec3}
 use Rattle.mesh_area.specs.declared.Sizes.{Sizes}
@@ -20,7 +21,7 @@ bare case points s words = meshIn (pointsIn case points) s words []
 
 -- what is lent, as the area's functions want it
 pub record MeshLent (case : List ℕ) (points : ℕ) (s : Sizes) (words : List ℕ) : Type 0 where
-  pub few-points : points ≤ 65536
+  pub few-points : points ≤ mostPoints
   pub long-case : 24 * points ≤ length case
   pub long-words : LentWords s words
 

@@ -7,6 +7,7 @@ use arith::float;
 ghost use mathlib.Core.Path.{_≡_};
 ghost use Prim.Native.Nat.{_*_, _≤_};
 ghost use lib.ListN.{length};
+ghost use Rattle.arith.specs.Limits.{mostPoints};
 ghost use Rattle.arith.specs.F64.{0·0};
 ghost use Rattle.arith.specs.Lists.{fold};
 ghost use Rattle.arith.specs.Vec.{norm};
@@ -76,7 +77,7 @@ pub fn validate(plane: Plane) -> u64
 // How far the points reach, from the origin of the plane and from (0, 0, 0): the roots of the
 // largest squares.
 fn reach_of(case: &[u8], points: usize, origin: Vec3) -> Reach
-    requires { ⌜ (points ≤ 65536) × (24 * points ≤ length (now case)) ⌝ }
+    requires { ⌜ (points ≤ mostPoints) × (24 * points ≤ length (now case)) ⌝ }
     ensures { λ r. ⌜ (r .span ≡ fold (Cuts.widest origin) 0·0 (pointsIn (now (case .entry)) points))
         × (r .location ≡ fold Cuts.farthest (norm origin) (pointsIn (now (case .entry)) points)) ⌝ }
 {
@@ -105,7 +106,7 @@ fn eps_of(span: f64, location: f64) -> f64
 
 // The plane with its normal and its tolerance.
 pub fn cut_of(case: &[u8], points: usize, plane: Plane) -> Cut
-    requires { ⌜ (points ≤ 65536) × (24 * points ≤ length (now case)) ⌝ }
+    requires { ⌜ (points ≤ mostPoints) × (24 * points ≤ length (now case)) ⌝ }
     ensures { λ r. ⌜ r ≡ Cuts.cutOf (pointsIn (now (case .entry)) points) plane ⌝ }
 {
     let reach = reach_of(case, points, plane.origin);

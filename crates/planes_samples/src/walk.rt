@@ -17,6 +17,7 @@ ghost use mathlib.Core.Path.{_≡_};
 ghost use mathlib.Core.List.{List, [], _∷_};
 ghost use Prim.Native.Nat.{_+_, _*_, _<_, _≤_};
 ghost use lib.Ieee.{Float};
+ghost use Rattle.arith.specs.Limits.{mostCells};
 ghost use Rattle.mesh_area.specs.Tables.{cellAt};
 ghost use Rattle.mesh_area.specs.Layout.{pointsIn, meshIn};
 ghost use Rattle.planes_cut.specs.Cut.{cutOf};
@@ -102,7 +103,7 @@ fn sample_each(
     answers: &mut [u64],
     marks: &mut [u8],
 ) -> Accumulated
-    requires { ⌜ SampleEntry (now case) n s (now words) (now marks) × (s .cells ≤ 16384) ⌝ }
+    requires { ⌜ SampleEntry (now case) n s (now words) (now marks) × (s .cells ≤ mostCells) ⌝ }
     requires { ⌜ SliceLengths (now x) (now y) (now z) 192 × (sizeOf (sampleSumsOf t) ≤ 1) ⌝ }
     ensures { λ r. ⌜ SampleAllExit (stream cut (valuesOf (now (case .entry)))
         (piecesFrom (bare (now (case .entry)) (n .points) s (now (words .entry))) cut 0

@@ -3,6 +3,7 @@ use arith::Vec3;
 use planes_crossings::slices;
 ghost use mathlib.Core.Path.{_≡_};
 ghost use Prim.Native.Nat.{_≤_};
+ghost use Rattle.arith.specs.Limits.{2^32};
 ghost use Rattle.arith.specs.Lists.{fold};
 ghost use Rattle.arith.specs.Vec.{origin, plus};
 ghost use Rattle.planes_crossings.specs.Contracts.{slicePoints, SliceLengths};
@@ -24,7 +25,7 @@ fn sum(x: &[f64], y: &[f64], z: &[f64], n: usize) -> Vec3
 
 // The sum, times one over the number.
 pub fn section_centre(x: &[f64], y: &[f64], z: &[f64], n: usize) -> Vec3
-    requires { ⌜ SliceLengths (now x) (now y) (now z) n × (n ≤ 4294967296) ⌝ }
+    requires { ⌜ SliceLengths (now x) (now y) (now z) n × (n ≤ 2^32) ⌝ }
     ensures { λ r. ⌜ r ≡ sectionCentre (slicePoints (now (x .entry)) (now (y .entry)) (now (z .entry)) n) ⌝ }
 {
     sum(x, y, z, n).scale(1.0 / (n as f64))

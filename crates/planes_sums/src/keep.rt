@@ -14,6 +14,7 @@ use planes_cut::Cut;
 use reading::Values;
 ghost use mathlib.Core.Path.{_≡_};
 ghost use Prim.Native.Nat.{ℕ, _≤_, _<_};
+ghost use Rattle.arith.specs.Limits.{2^32};
 ghost use Rattle.planes_sums.specs.Statistics as Statistics;
 ghost use Rattle.planes_sums.specs.Integrals as Integrals;
 ghost use Rattle.planes_sums.specs.Kept.{sampleSumsOf, sumsOf, integralOf, summingOf, weighingOf, addSummed, addWeighed, addProbed, sampleIn, usedOf, sizeOf, AddExit};
@@ -36,7 +37,7 @@ fn counted(measure: f64, value: f64) -> bool
 
 // The sums with a sample of this measure, value and flux.
 fn including(t: Sums, measure: f64, value: f64, flux: f64) -> Sums
-    requires { ⌜ t .used < 4294967296 ⌝ }
+    requires { ⌜ t .used < 2^32 ⌝ }
     ensures { λ r. ⌜ r ≡ Statistics.including t measure value flux ⌝ }
 {
     let least = float::min(t.least, value);
@@ -59,7 +60,7 @@ fn including(t: Sums, measure: f64, value: f64, flux: f64) -> Sums
 
 // The sums with a sample of this measure and these values.
 fn add_sample(normal: Vec3, field: u64, t: Sums, measure: f64, v: Values) -> Summed
-    requires { ⌜ t .used < 4294967296 ⌝ }
+    requires { ⌜ t .used < 2^32 ⌝ }
     ensures { λ r. ⌜ sumsOf r ≡ summingOf normal field t measure v ⌝ }
 {
     let value = measures::sample_scalar(normal, field, v);
@@ -126,7 +127,7 @@ fn add_summed(
     y: &[f64],
     z: &[f64],
 ) -> Summed
-    requires { ⌜ SliceLengths (now x) (now y) (now z) n × (1 ≤ n) × (usedOf (sumsOf t) < 4294967296) ⌝ }
+    requires { ⌜ SliceLengths (now x) (now y) (now z) n × (1 ≤ n) × (usedOf (sumsOf t) < 2^32) ⌝ }
     ensures { λ r. ⌜ ((cell : ℕ) (centre : Vec3) → sumsOf r ≡ addSummed normal field (sumsOf t)
         (sampleIn cell centre n v (now (x .entry)) (now (y .entry)) (now (z .entry)))) ⌝ }
 {

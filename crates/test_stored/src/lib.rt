@@ -9,13 +9,14 @@ use libc::STDOUT_FILENO;
 ghost use Prim.Native.Nat.{_≤_, _<_, _-_};
 ghost use mathlib.Core.Path.{_≡_};
 ghost use lib.ListN.{length};
+ghost use Rattle.arith.specs.Limits.{2^32};
 ghost use Rattle.test_stored.specs.Pieces.{repeated, PieceExit, AssembleExit, ShowNameExit};
 
 pub mod fnv;
 
 // The next number of the file, or `most` if it is above that.
 pub fn number(fd: i32, most: usize) -> usize
-    ensures { λ r. ⌜ (r ≤ most) × (r < 4294967296) ⌝ }
+    ensures { λ r. ⌜ (r ≤ most) × (r < 2^32) ⌝ }
 {
     let mut four = [0u8; 4];
     io::read_full(fd, &mut four);
