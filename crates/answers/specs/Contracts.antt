@@ -1,4 +1,7 @@
 -- What a function that answers promises, and where the words of an answer stand in the answer buffer.
+-- `answerOf`: what an answer stands for. `lengthOf`, `wordsOf`: how many words a definition gives, and the words.
+-- `decided`: an answer, or a refusal before any value is read. `replied`, `Reply`: the answer words, and the whole promise.
+-- `StoredWords`: where the words of answers stand. `close`: `CloseExit`.
 use Prim.Native.Nat.{ℕ, _+_, _*_, _≤_}
 use mathlib.Core.Path.{_≡_}
 use mathlib.Core.List.{List, [], _++_}

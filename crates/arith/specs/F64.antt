@@ -1,4 +1,9 @@
 -- Rust's f64 under short names: a circled sign is IEEE 754's operation on binary64, rounded once.
+-- `_⊕_`, `_⊖_`, `_⊗_`, `_⊘_`: the operations. `_≺_`, `_≼_`, `_≈_`: the comparisons.
+-- `float`, `word`: a float by its bits, and the bits of a float.
+-- `0·0`, `0·5`, `1·0`, `-1·0`, `2·0`, `3·0`, `4·0`, `6·0`, `32·0`, `far`, `1e-12`, `1e-10`, `1e-8`, `1e-7`, `2^-52`, `+∞`, `-∞`: the constants.
+-- `finite`, `abs`, `signed`, `fmin`, `fmax`, `clamp`, `nearer`: Rust's methods. `within`: a size of at most 1,048,576.
+-- `ofℕ`, `floorℕ`, `ceilℕ`: a count as a float, and a float as a count.
 use Prim.Native.Nat.{ℕ, _+_, _-_, _*_, _/_, _^_, min}
 use mathlib.Core.Bool.{Bool, true, false, not, cond, _&&_, _||_}
 use lib.IntN.{pos}

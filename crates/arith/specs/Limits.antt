@@ -1,4 +1,5 @@
 -- 01's limits: "At most 65,536 points, 16,384 cells, 1,048,576 words", and those of its refusals.
+-- `mostPoints`, `mostCells`, `mostWords`: of a case. `mostBins`, `mostSteps`: of refusals 19 and 33. `2^32`: of a u32.
 use Prim.Native.Nat.{ℕ}
 
 -- points of a case

@@ -1,4 +1,6 @@
 -- Lists as the contracts of a lent area speak of them.
+-- `tab`: a list by what stands at each place. `part`, `chunk`: the elements from a place on, and a record. `patch`: a list with a part replaced.
+-- `putsFrom`, `puts`: a list with values stored in a row. `upTo`: the numbers below n.
 use Prim.Native.Nat.{ℕ, zero, suc, _+_, _*_}
 use mathlib.Core.List.{List, [], _∷_, _++_}
 use lib.ListN.{take, drop, set}

@@ -1,4 +1,8 @@
 -- "Vec3 as a struct of three floats": sums and products in the Rust's order, each rounded once.
+-- `vec`, `pair`, `origin`: a vector and a pair by their coordinates, and the zero vector.
+-- `plus`, `minus`, `times`, `over`: sum and difference, and a vector times or over a number.
+-- `dot`, `normSquared`, `norm`, `cross`: the products and the length.
+-- `each3`: all three coordinates pass.
 use mathlib.Core.Bool.{Bool, _&&_}
 use lib.Ieee.{Float}
 use Rattle.arith.specs.F64.{_⊕_, _⊖_, _⊗_, _⊘_, 0·0}

@@ -1,4 +1,6 @@
 -- "Angle order replaces atan2 (added)."
+-- `leftward`, `quarter`: the quarter of a direction. `slope`: its slope. `angleOf`: its angle, of the two.
+-- `precedes`, `turnsBefore`: the order of angles, and of directions.
 use Prim.Native.Nat.{ℕ, _%_}
 use mathlib.Core.Bool.{Bool, not, cond, _&&_, _||_}
 use lib.Dec.{ltb, eqb}

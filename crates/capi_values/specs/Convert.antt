@@ -1,4 +1,5 @@
 -- The values of the exported functions as those of the crates below.
+-- `vectorOf`, `planeOf`: a vector, a plane. `directionOf`, `optionsOf`, `settingsOf`: the settings of a line. `rakeOf`: a rake.
 use Prim.Native.Nat.{ℕ}
 use mathlib.Core.Bool.{Bool, true, false}
 use Rattle.arith.specs.declared.Vec3.{Vec3}
@@ -35,8 +36,10 @@ optionsOf o =
       «stagnation_speed» = o .«stagnation_speed»;
     }
 
+-- its direction and its options
 unfoldable pub settingsOf : Bool → LineOptions → StreamlineSettings
 settingsOf backward o = record { direction = directionOf backward; options = optionsOf o }
 
+-- a rake by its two ends and its number of seeds
 unfoldable pub rakeOf : Vector → Vector → ℕ → Rake
 rakeOf start end count = record { start = vectorOf start; end = vectorOf end; count = count }

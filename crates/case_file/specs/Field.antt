@@ -1,4 +1,6 @@
 -- The field of a case, and the case without it: "Reading follows from the case bytes and the requests".
+-- `blank`, `outside`: the case without its field. `cellsOf`: how many cells it has.
+-- `zeroValues`, `valuesIn`, `valuesOf`: the values of a cell.
 use Prim.Native.Nat.{ℕ, _+_, _*_}
 use mathlib.Core.Bool.{true, false, cond}
 use mathlib.Core.List.{List, _++_}

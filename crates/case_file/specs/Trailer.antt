@@ -1,5 +1,9 @@
 -- "Case file: points (3 floats each), definition words (u32), velocities (3 floats per cell), pressures (one per cell), then a 32-byte trailer that
 -- points back"
+-- `trailerWord`, `countsOf`: a word of the trailer, and its counts.
+-- `wordsFrom`, `fieldFrom`, `pressuresFrom`, `trailerFrom`: where the parts of the file start.
+-- `isDimension`, `hasOffsets`, `hasParts`, `trailerRight`: refusal 1. `overLimit`: refusal 2. `opened`, `openedCase`: the counts, or the refusal.
+-- `wordsIn`, `wordsOf`: the definition words.
 use Prim.Native.Nat.{ℕ, _+_, _-_, _*_, _/_}
 use mathlib.Core.Bool.{Bool, cond, _&&_, _||_}
 use mathlib.Core.List.{List}

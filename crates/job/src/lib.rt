@@ -54,8 +54,8 @@ fn answer(
     requires { ⌜ RoomStands (now case) (now words) (now floats) place × (countsIn place .cells ≤ length (now marks)) ⌝ }
     requires { ⌜ (i < length (now requests) / 128)
         × (at + 2 + 2 * laterThan (now requests) i ≤ length (now answers)) ⌝ }
-    ensures { λ r. ⌜ ServeAllExit (answerTo (roomIn (now (case .entry)) (now (words .entry)) (now (floats .entry)) place)
-        (length (now (answers .entry)) - at) (laterThan (now (requests .entry)) i)
+    ensures { λ r. ⌜ ServeAllExit (answerTo (roomIn (now (case .entry)) (now (words .entry)) (now (floats .entry))
+        place) (length (now (answers .entry)) - at) (laterThan (now (requests .entry)) i)
         (wordsAt (now (requests .entry)) (128 * i))) (valuesOf (now (case .entry))) (now (marks .entry))
         (now (marks .exit)) (now (answers .entry)) (now (answers .exit)) at (laterThan (now (requests .entry)) i) r ⌝ }
 {
@@ -77,8 +77,8 @@ fn serve_all(
 ) -> usize
     requires { ⌜ RoomStands (now case) (now words) (now floats) place × (countsIn place .cells ≤ length (now marks)) ⌝ }
     requires { ⌜ 2 * (length (now requests) / 128) ≤ length (now answers) ⌝ }
-    ensures { λ r. ⌜ ServeAllExit (serveAll (roomIn (now (case .entry)) (now (words .entry)) (now (floats .entry)) place)
-        (length (now (answers .entry))) (requestsIn (now (requests .entry)))) (valuesOf (now (case .entry)))
+    ensures { λ r. ⌜ ServeAllExit (serveAll (roomIn (now (case .entry)) (now (words .entry)) (now (floats .entry))
+        place) (length (now (answers .entry))) (requestsIn (now (requests .entry)))) (valuesOf (now (case .entry)))
         (now (marks .entry)) (now (marks .exit)) (now (answers .entry)) (now (answers .exit)) 0 0 r ⌝ }
 {
     let count = requests.len() / 128;

@@ -1,4 +1,6 @@
 -- The words of one request, for each code. "Request: 16 words of 8 bytes, the code first, then the arguments; words not used are zero."
+-- `padded`: all 16 words. `directionWord`, `lineWords`: the settings of a line. `planeWords`: a plane.
+-- `locateWords`, `velocityWords`, `streamlineWords`, `rakeWords`, `sectionWords`, `statisticsWords`, `integralsWords`, `probeWords`: codes 1 to 8.
 use Prim.Native.Nat.{ℕ, _-_}
 use mathlib.Core.List.{List, [], _∷_, _++_}
 use lib.ListN.{length, replicate}

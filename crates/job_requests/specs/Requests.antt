@@ -1,4 +1,10 @@
 -- "Request: 16 words of 8 bytes, the code first, then the arguments; words not used are zero." Refusals 30 to 33 and 36 to 38.
+-- `wordsAt`, `requestsIn`: the words of one request, and all requests.
+-- `number`, `real`, `point`: an argument as a whole number or a float, and three as a point. `refuseIf`: a refusal, where a test holds.
+-- `unusedSet`, `badDirection`, `illFormed`: refusal 30. `wrongDimension`: refusal 31.
+-- `direction`, `options`, `settings`: the settings of a line. `streamline`: code 3. `rakeOf`, `rake`: code 4.
+-- `planeOf`: the plane. `statistics`: code 6. `overPlane`, `planar`: codes 5 to 8.
+-- `byCode`, `requestOf`: all codes.
 use Prim.Native.Nat.{ℕ, _+_, _/_}
 use mathlib.Core.Bool.{Bool, not, cond, _&&_, _||_}
 use mathlib.Core.List.{List, [], _∷_}
@@ -80,6 +86,7 @@ options r k =
       «stagnation_speed» = real r (k + 4);
     }
 
+-- all five
 unfoldable pub settings : List ℕ → ℕ → StreamlineSettings
 settings r k = record { direction = direction r k; options = options r k }
 

@@ -1,4 +1,6 @@
 -- The contracts of `prepare` and its parts: a room that stands in the work area.
+-- `roomIn`, `countsIn`: the room at a place, and the counts of its case. `Servable`, `RoomStands`: it can be served over.
+-- `add_field`, `build_room` and `prepare`: `PrepareExit`. `shortage`: `Shortage`. `add_field`: `AddFieldEntry`.
 use Prim.Native.Nat.{ℕ, _≤_}
 use mathlib.Core.Path.{_≡_}
 use mathlib.Core.List.{List}

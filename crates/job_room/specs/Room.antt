@@ -1,4 +1,6 @@
 -- The room that requests are served over, and the refusals 1 to 19.
+-- `Room`: the room. `Lent`: how much is lent.
+-- `roomFrom`, `roomOf`: the room, or 8 to 19. `requestsWrong`: 6. `shortage`: 4 to 7. `prepared`: the room, or the first refusal of all.
 use Prim.Native.Nat.{ℕ, _+_, _*_, _/_, _%_}
 use mathlib.Core.Bool.{Bool, true, false, not, _||_}
 use mathlib.Core.List.{List}

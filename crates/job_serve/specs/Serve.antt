@@ -1,4 +1,5 @@
 -- The answer of each code, whatever room there is for it. Refusals 34, 35 and 39 to 43.
+-- `foundWords`, `velocityWords`: the words of codes 1 and 2. `serveFlat`, `serveSolid`, `serve`: the answers in 2D, in 3D, and in any room.
 use Prim.Native.Nat.{ℕ, _-_, _^_}
 use mathlib.Core.List.{List, [], _∷_}
 use Rattle.arith.specs.declared.Found.{Found}

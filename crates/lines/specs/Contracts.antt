@@ -1,4 +1,5 @@
--- The contracts of the functions that trace lines: "equate result, answers and marks with a definition, refusals too".
+-- The contracts of the parts of `integrate` and `integrate_rake`: how many words there are, the words as far as they fit, and the marks.
+-- `trace` and `trace_all`: `TraceExit`. `points_after`: `PointsAfterExit`.
 use Prim.Native.Nat.{ℕ}
 use mathlib.Core.Path.{_≡_}
 use mathlib.Core.List.{List}

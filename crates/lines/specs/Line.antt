@@ -1,4 +1,8 @@
 -- `integrate`: the line from a seed, with the refusals 34 and 35, and its answer words.
+-- `sign`, `signedStep`: the step, forward or backward.
+-- `onward`, `lineFrom`, `pointsAfter`, `line`: the points of a line.
+-- `isLength`, `isSpeed`, `areAccepted`: refusal 34. `isNowhere`, `nowhere`: refusal 35.
+-- `lineWords`, `lineAnswer`: the answer. `integrate`: the answer, or the refusal.
 use Prim.Native.Nat.{ℕ, zero, suc}
 use mathlib.Core.Path.{_≡_}
 use mathlib.Core.Bool.{Bool, true, false, not, _&&_}

@@ -36,9 +36,9 @@ fn points_after(
 ) -> usize
     requires { ⌜ TracerEntry (now case) (now words) (now floats) t ⌝ }
     requires { ⌜ (at ≤ 16777216) × (settings .options .«max_steps» ≤ mostSteps) ⌝ }
-    ensures { λ r. ⌜ PointsAfterExit (Line.pointsAfter (tracerField t (now (words .entry)) (now (floats .entry))) settings seed)
-        (valuesOf (now (case .entry))) (now (marks .entry)) (now (marks .exit)) (now (out .entry)) (now (out .exit)) at
-        r × (r ≤ settings .options .«max_steps») ⌝ }
+    ensures { λ r. ⌜ PointsAfterExit (Line.pointsAfter (tracerField t (now (words .entry)) (now (floats .entry)))
+        settings seed) (valuesOf (now (case .entry))) (now (marks .entry)) (now (marks .exit)) (now (out .entry))
+        (now (out .exit)) at r × (r ≤ settings .options .«max_steps») ⌝ }
 {
     let direction = settings.direction;
     let options = settings.options;
@@ -78,9 +78,9 @@ pub fn trace(
 ) -> usize
     requires { ⌜ TracerEntry (now case) (now words) (now floats) t ⌝ }
     requires { ⌜ (at ≤ 16000000) × (settings .options .«max_steps» ≤ mostSteps) ⌝ }
-    ensures { λ r. ⌜ TraceExit (Line.lineAnswer (tracerField t (now (words .entry)) (now (floats .entry))) settings seed)
-        (valuesOf (now (case .entry))) (now (marks .entry)) (now (marks .exit)) (now (out .entry)) (now (out .exit)) at
-        r × (r ≤ 196612) ⌝ }
+    ensures { λ r. ⌜ TraceExit (Line.lineAnswer (tracerField t (now (words .entry)) (now (floats .entry))) settings
+        seed) (valuesOf (now (case .entry))) (now (marks .entry)) (now (marks .exit)) (now (out .entry))
+        (now (out .exit)) at r × (r ≤ 196612) ⌝ }
 {
     answers::put_vec(out, at + 1, seed);
     let count = points_after(case, words, floats, t, marks, out, at + 4, seed, settings);

@@ -1,4 +1,7 @@
--- The words of the contracts.
+-- The contracts of `build` and its parts: what each needs and leaves of the index of bins.
+-- `set_pool`: `SetPoolExit`. `set_flag`: `SetFlagExit`. `push`: `PushExit`.
+-- `Chains`: the chains of all bins. `BinRanges`: the cells' ranges of bins, as the functions below need them. `BinIndex`: the whole index.
+-- `clear`, `list_row` and `list_cell`: `ListCellExit`. `fill` and `chain_all`: `FillExit`. `build`: `BuildExit`.
 use mathlib.Core.Path.{_≡_}
 use mathlib.Core.Bool.{Bool, true, false}
 use mathlib.Core.List.{List}

@@ -1,6 +1,8 @@
 -- An index of bins in a work area. From `base` on there are n records of 8 words, which start with the bins of a cell: first x and y,
 -- last x and y. After them: a word that says whether the index stands, and a pool of 72n words: the head of each bin, then nodes of two
 -- words, a cell and the next node's place or 0.
+-- `rangeWord`, `reaches`, `inBin`: the bins of a cell. `flagIn`: whether the index stands. `poolPlace`, `poolIn`, `headIn`: the words of the pool.
+-- `Same`: the records are as they were. `Chain`: the chain of a bin. `passed`, `within`: how far a cell was put into its bins.
 use mathlib.Core.Path.{_≡_}
 use mathlib.Core.Bool.{Bool, true, false, cond, _&&_, _||_}
 use mathlib.Core.List.{List}

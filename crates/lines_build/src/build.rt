@@ -36,8 +36,8 @@ fn angles_about(
 )
     requires { ⌜ (n ≤ 24) × (length (now xs) ≡ 24) × (length (now ys) ≡ 24) × (length (now quarters) ≡ 24)
         × (length (now slopes) ≡ 24) ⌝ }
-    ensures { λ _. ⌜ AnglesAboutExit centre (now (xs .entry)) (now (ys .entry)) (now (quarters .exit)) (now (slopes .exit))
-        n ⌝ }
+    ensures { λ _. ⌜ AnglesAboutExit centre (now (xs .entry)) (now (ys .entry)) (now (quarters .exit))
+        (now (slopes .exit)) n ⌝ }
 {
     let mut k = 0;
     while k < n {
@@ -122,8 +122,8 @@ fn store_polygon(
     requires { ⌜ LentWords s (now words) × LentFloats s (now floats) × (i < s .cells) ⌝ }
     requires { ⌜ (length (now xs) ≡ 24) × (length (now ys) ≡ 24) × (length (now places) ≡ 24) × (n ≤ 24)
         × ((k : ℕ) → k < n → getD (now places) k 0 < n) ⌝ }
-    ensures { λ _. ⌜ PutPolygonExit (map (vertexIn (now (xs .entry)) (now (ys .entry))) (take n (now (places .entry)))) s
-        (now (words .entry)) (now (words .exit)) (now (floats .entry)) (now (floats .exit)) i ⌝ }
+    ensures { λ _. ⌜ PutPolygonExit (map (vertexIn (now (xs .entry)) (now (ys .entry))) (take n (now (places .entry))))
+        s (now (words .entry)) (now (words .exit)) (now (floats .entry)) (now (floats .exit)) i ⌝ }
 {
     store_vertices(floats, lines_locate::floats_at(s, i), xs, ys, places, n);
     let at = lines_locate::words_at(s, i);

@@ -102,8 +102,8 @@ pub fn cell_vertices(
     xs: &mut [f64],
     ys: &mut [f64],
 ) -> usize
-    requires { ⌜ (points ≤ mostPoints) × (24 * points ≤ length (now case)) × LentWords s (now words) × (length (now xs) ≡ 24)
-        × (length (now ys) ≡ 24) ⌝ }
+    requires { ⌜ (points ≤ mostPoints) × (24 * points ≤ length (now case)) × LentWords s (now words)
+        × (length (now xs) ≡ 24) × (length (now ys) ≡ 24) ⌝ }
     requires { ⌜ length (cellVertices (meshIn (pointsIn (now case) points) s (now words) [])
         (cellAt (cellsIn s (now words) []) i)) ≤ 24 ⌝ }
     ensures { λ r. ⌜ VerticesExit (cellVertices (meshIn (pointsIn (now (case .entry)) points) s (now (words .entry)) [])

@@ -1,4 +1,8 @@
--- The contracts of the functions that build the tracer's part of the work area.
+-- The contracts of the functions that build the tracer's part of the work area, here and in lines_build.
+-- `polygonsIn`: the polygons in the area. `vertexIn`, `verticesIn`: points in two lists.
+-- `push`, `add_face` and `cell_vertices`: `VerticesExit`. `MeshKept`: the mesh is as it was. `angles_about`: `AnglesAboutExit`.
+-- `polygon`: `PolygonExit`. `store_polygon` and `put_polygon`: `PutPolygonExit`. `list_cell`: `ListCellExit`. `limit_cell`: `LimitCellExit`.
+-- `from_dataset`: `FromDatasetExit`. `bin_counts`: `BinCountsExit`. `VertexLimit`: what the mesh promises.
 use Prim.Native.Nat.{ℕ, _+_, _≤_, _<_}
 use mathlib.Core.Path.{_≡_}
 use mathlib.Core.List.{List, map}

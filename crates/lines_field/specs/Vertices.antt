@@ -1,4 +1,6 @@
 -- A cell's polygon: the distinct (x, y) of its faces, in angle order about its centre.
+-- `alike`, `addVertex`, `addVertices`, `cellVertices`: the distinct points of a cell.
+-- `about`, `turnsAbout`, `polygonOf`: the same in angle order.
 use Prim.Native.Nat.{ℕ}
 use mathlib.Core.Bool.{Bool, _&&_}
 use mathlib.Core.List.{List, []}

@@ -149,7 +149,8 @@ fn list_cells(words: &mut [u32], floats: &[f64], s: Sizes, g: Grid)
 
 // Lists every cell, and builds the index of the bins.
 pub fn index_cells(words: &mut [u32], floats: &[f64], s: Sizes, g: Grid)
-    requires { ⌜ LentWords s (now words) × LentFloats s (now floats) × HasBins g × HasLimits s (now words) (now floats) ⌝ }
+    requires { ⌜ LentWords s (now words) × LentFloats s (now floats) × HasBins g
+        × HasLimits s (now words) (now floats) ⌝ }
     ensures { λ _. ⌜ (cellPolygonsIn s (now (words .exit)) (now (floats .entry)) ≡ map (listedIn g)
         (polygonsIn s (now (words .entry)) (now (floats .entry))))
         × (take (wordsEnd s) (now (words .exit)) ≡ take (wordsEnd s) (now (words .entry)))

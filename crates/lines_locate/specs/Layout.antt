@@ -1,6 +1,8 @@
--- Where the tracer's part of the work area holds the polygons, and what `locate_cell` needs of it.
+-- Where the tracer's part of the work area holds the polygons.
 -- Words: cell i from 16F + 8C + 8i on: its first bin x, y, its last bin x, y, its vertex count; from 16F + 16C on the index of the bins, where
 -- it fits. Floats: from 12F + 4C + 60i on the x and y of its vertices, of which at most 24 are read, and from the 49th on its limits.
+-- `wordsAt`, `floatsAt`: where a cell's words and floats start. `countIn`, `polygonIn`: its polygon.
+-- `binFrom`, `cellPolygonIn`, `cellPolygonsIn`: the polygons with their bins. `fieldIn`: the whole field.
 use Prim.Native.Nat.{ℕ, _+_, _*_, min}
 use mathlib.Core.List.{List}
 use lib.ListN.{getD}

@@ -157,7 +157,8 @@ fn holds(words: &[u32], floats: &[f64], s: Sizes, b: Bin, q: Vec2, i: usize) -> 
 
 // The lowest cell that is listed in bin b and contains q: over all cells.
 fn first_holding(words: &[u32], floats: &[f64], s: Sizes, b: Bin, q: Vec2) -> Found
-    requires { ⌜ LentWords s (now words) × LentFloats s (now floats) × Contracts.HasLimits s (now words) (now floats) ⌝ }
+    requires { ⌜ LentWords s (now words) × LentFloats s (now floats)
+        × Contracts.HasLimits s (now words) (now floats) ⌝ }
     ensures { λ r. ⌜ r ≡ firstFrom (Locate.holds b q) 0
         (Layout.cellPolygonsIn s (now (words .entry)) (now (floats .entry))) ⌝ }
 {

@@ -1,4 +1,7 @@
 -- Where a polygon contains no point: what may be stored with it, so that most points need no look at its sides.
+-- `Outside`, `limitsFrom`, `misses`: what limits promise, where they stand, and a point that lies outside of them.
+-- `endWithin`, `run`, `isLevel`, `crossingWithin`, `sideWithin`: what a side is tested for.
+-- `reach`, `sideless`, `widened`, `narrowest`, `unlimited`, `limitsOf`: the limits that are stored.
 use Prim.Native.Nat.{ℕ, _+_}
 use mathlib.Core.Path.{_≡_}
 use mathlib.Core.Bool.{Bool, true, false, cond, _&&_, _||_}

@@ -1,4 +1,9 @@
 -- `velocity_at` and `direction_at`: the located cell's velocity, blended toward the nearest neighbour's.
+-- `locateIn`: the cell of a point. `centreOf`, `neighboursOf`: a cell's centre and its neighbours.
+-- `distanceSquared`, `nearerOf`, `nearestOf`: the nearest of some cells.
+-- `blended`, `apart`, `besideIf`, `beside`, `besideNearest`, `toward`: a cell's velocity, blended toward that of a neighbour.
+-- `velocityIn`, `velocityWhere`, `velocityAt`: the velocity at a point.
+-- `from`: what goes on from a vector, where there is one. `unit`, `directionAt`: the direction at a point.
 use Prim.Native.Nat.{ℕ}
 use mathlib.Core.Path.{_≡_}
 use mathlib.Core.Bool.{Bool, true, false, not, cond, _&&_}
@@ -64,6 +69,7 @@ unfoldable pub besideNearest : StreamlineField → Vec3 → ℕ → Vec3 → Lis
 besideNearest f p i base [] = give base
 besideNearest f p i base (n ∷ ns) = beside f p i base (nearestOf (f .cells) p (n ∷ ns))
 
+-- cell i's velocity, blended with that of its nearest neighbour, if it has one
 unfoldable pub toward : StreamlineField → Vec3 → ℕ → Vec3 → Asks Vec3
 toward f p i base = besideNearest f p i base (neighboursOf (f .cells) i)
 

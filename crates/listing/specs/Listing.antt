@@ -1,4 +1,6 @@
 -- 01, "The program `airjob`": what it prints, in ASCII. Quoted lines are 01's.
+-- `decimalWithin`, `decimalText`, `hexText`: a number. `wordsText`, `answerText`, `answersText`: the answers.
+-- `marksFrom`, `marksText`: the marked cells. `doneText`, `refusedText`: the text of a job that is done, or refused.
 use Prim.Native.Nat.{ℕ, zero, suc, _/_, _%_}
 use mathlib.Core.Bool.{cond}
 use mathlib.Core.List.{List, [], _∷_, _++_}

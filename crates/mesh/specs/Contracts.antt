@@ -1,5 +1,7 @@
 -- The contracts of `from_cells` and its parts.
--- `SurveyExit`, `builtAs`, `sizesFor`, `LaidOut`, `BuildExit`: what the answers stand for.
+-- `survey`: `SurveyExit`. `builtAs`, `sizesFor`, `LaidOut`: what an answer stands for, the sizes of a mesh, and an area that fits them.
+-- `join`, `complete`, `fill`, `build` and `from_cells`: `BuildExit`. `partialMeshIn`: the partial cells in the area.
+-- `join`: `JoinEntry`. `complete`: `CompleteEntry`. `build`: `BuildEntry`.
 use Prim.Native.Nat.{ℕ, _+_, _*_, _≤_, _<_}
 use mathlib.Core.Path.{_≡_}
 use mathlib.Core.List.{List}

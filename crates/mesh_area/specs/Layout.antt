@@ -37,12 +37,15 @@ pointsIn case n = tab (λ i. vecAt case (24 * i)) n
 abbrev pub vertexCount : ℕ
 vertexCount = 0
 
+-- the first of its vertices, of which there are at most eight
 abbrev pub firstVertex : ℕ
 firstVertex = 1
 
+-- its owner
 abbrev pub ownerWord : ℕ
 ownerWord = 9
 
+-- its neighbour + 1, or 0 for none
 abbrev pub neighbourWord : ℕ
 neighbourWord = 10
 
@@ -50,12 +53,15 @@ neighbourWord = 10
 abbrev pub centreFloats : ℕ
 centreFloats = 0
 
+-- its area
 abbrev pub areaFloat : ℕ
 areaFloat = 3
 
+-- the first of the three of its normal
 abbrev pub normalFloats : ℕ
 normalFloats = 4
 
+-- the first of the three of its area vector
 abbrev pub vectorFloats : ℕ
 vectorFloats = 7
 
@@ -63,9 +69,11 @@ vectorFloats = 7
 abbrev pub listStart : ℕ
 listStart = 1
 
+-- how many faces it has
 abbrev pub faceCount : ℕ
 faceCount = 2
 
+-- how many neighbours it has
 abbrev pub neighbourCount : ℕ
 neighbourCount = 3
 

@@ -1,7 +1,6 @@
 -- What a mesh is: points, faces and cells, with mesh.rs's fields.
 -- `Face`, `Cell`, `Mesh`: what each has.
--- `pointAt`, `faceAt`, `cellAt`: a point, a face, a cell by number.
--- `noFace`, `noCell`: what stands past the last one.
+-- `pointAt`: a point by number. `noFace`, `faceAt`: a face by number, and what stands past the last one. `noCell`, `cellAt`: the same of a cell.
 use Prim.Native.Nat.{ℕ}
 use mathlib.Core.List.{List, []}
 use lib.ListN.{getD}

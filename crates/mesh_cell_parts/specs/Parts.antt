@@ -1,7 +1,6 @@
--- The parts of a cell's partial cell: refusals 13 and 14 of a face of the cell, and the cell's record.
+-- The faces of a partial cell: refusals 13 and 14, "face by face".
 -- `measuredFrom`: the geometry of a face that is turned outward.
 -- `CellFaces`, `addFaceOf`: the faces of a cell, one after another.
--- `place_face`: `Grew`, `Placing`. `put_cell`: `CellPut`.
 use Prim.Native.Nat.{ℕ, _+_}
 use mathlib.Core.List.{List, [], _∷_, _++_}
 use Rattle.arith.specs.declared.Vec3.{Vec3}

@@ -68,8 +68,8 @@ pub fn put_cell(
 )
     requires { ⌜ (s .slots ≤ mostWords) × (i < mostCells) × (16 * s .slots + 8 * i + 8 ≤ length (now words))
         × (12 * s .slots + 4 * i + 4 ≤ length (now floats)) ⌝ }
-    ensures { λ _. ⌜ PutCellExit s (now (words .entry)) (now (words .exit)) (now (floats .entry)) (now (floats .exit)) i at
-        first count reference ⌝ }
+    ensures { λ _. ⌜ PutCellExit s (now (words .entry)) (now (words .exit)) (now (floats .entry)) (now (floats .exit)) i
+        at first count reference ⌝ }
 {
     let w = 16 * s.slots + 8 * i;
     words[w] = at;

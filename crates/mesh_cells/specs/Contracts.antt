@@ -1,10 +1,9 @@
 -- The contracts of `add_cells` and its parts: what each needs, what it leaves in the area, and what its answer means.
--- `cellWord`, `partialCellIn`, `partialCellsIn`: the partial cells in the area.
--- `FaceLists`: where their lists stand. `PartialMeshHeld`: all of it.
--- `add_face`: `AddFaceEntry`, `ListGrowth`, `addFaceAt`, `AddFaceExit`.
--- `add_faces`: `AddFacesEntry`, `addFaces`, `AddFacesExit`. `cellFacesIn`: the table and a cell's list, in the area.
--- `fill_cell`: `FillCellEntry`, `StoredCell`, `FillCellExit`. `new_cell`: `NewCellExit`.
--- `add_cell`: `AddCellEntry`, `AddCellExit`. `fill_cells` and `add_cells`: `CellsSoFar`, `read`, `definedIn`, `AddCellsEntry`.
+-- `FaceLists`: where the cells' lists stand. `PartialMeshHeld`: all partial cells, in the area. `fill_cells` and `add_cells`: `AddCellsExit`.
+-- `cellFacesIn`: the table and a cell's list, in the area. `add_face`: `AddFaceEntry`, `ListGrowth`, `addFaceAt`, `AddFaceExit`.
+-- `add_faces`: `AddFacesEntry`, `addFaces`, `AddFacesExit`. `fill_cell`: `FillCellEntry`, `StoredCell`, `FillCellExit`. `new_cell`: `NewCellExit`.
+-- `CellsSoFar`: the first cells, in the area. `read`, `definedIn`: the definitions of all cells.
+-- `fill_cells` and `add_cells`: `AddCellsEntry`. `add_cell`: `AddCellEntry`, `AddCellExit`.
 use Prim.Native.Nat.{ℕ, _+_, _*_, _≤_, _<_, _-_}
 use mathlib.Core.Path.{_≡_}
 use mathlib.Core.List.{List, []}

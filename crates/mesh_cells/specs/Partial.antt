@@ -1,6 +1,5 @@
 -- How the area holds the cells before their centres are known.
--- `cellWord`, `partialCellIn`, `partialCellsIn`: the partial cells in the area.
--- `Lists`: where their lists stand. `Held`: all of it.
+-- `cellWord`: a word of a cell's record. `partialCellIn`, `partialCellsIn`: a partial cell, and the first n of them.
 use Prim.Native.Nat.{ℕ, _+_, _*_}
 use mathlib.Core.List.{List}
 use lib.ListN.{getD, drop}

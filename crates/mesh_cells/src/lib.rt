@@ -257,9 +257,9 @@ fn fill_cells(
 ) -> CellsAdded
     requires { ⌜ AddCellsEntry (now case) points (wordsIn (now ws)) (now words) (now floats) s
         × Chained (withFaces s 0) (now words) ⌝ }
-    ensures { λ r. ⌜ ((defs : List Definition) → definitions (s .cells) (wordsIn (now (ws .entry))) ≡ fine defs → AddCellsExit
-        dimension (pointsIn (now (case .entry)) points) (wordsIn (now (ws .entry))) defs s (now (words .exit))
-        (now (floats .exit)) r) ⌝ }
+    ensures { λ r. ⌜ ((defs : List Definition) → definitions (s .cells) (wordsIn (now (ws .entry))) ≡ fine defs
+        → AddCellsExit dimension (pointsIn (now (case .entry)) points) (wordsIn (now (ws .entry))) defs s
+        (now (words .exit)) (now (floats .exit)) r) ⌝ }
 {
     let mut p = Progress {
         at: 0,
@@ -289,9 +289,9 @@ pub fn add_cells(
     s: Sizes,
 ) -> CellsAdded
     requires { ⌜ AddCellsEntry (now case) points (wordsIn (now ws)) (now words) (now floats) s ⌝ }
-    ensures { λ r. ⌜ ((defs : List Definition) → definitions (s .cells) (wordsIn (now (ws .entry))) ≡ fine defs → AddCellsExit
-        dimension (pointsIn (now (case .entry)) points) (wordsIn (now (ws .entry))) defs s (now (words .exit))
-        (now (floats .exit)) r) ⌝ }
+    ensures { λ r. ⌜ ((defs : List Definition) → definitions (s .cells) (wordsIn (now (ws .entry))) ≡ fine defs
+        → AddCellsExit dimension (pointsIn (now (case .entry)) points) (wordsIn (now (ws .entry))) defs s
+        (now (words .exit)) (now (floats .exit)) r) ⌝ }
 {
     mesh_faces::clear(words, s);
     fill_cells(case, points, dimension, ws, words, floats, s)

@@ -1,7 +1,6 @@
 -- The contracts of `finish_cells` and its parts.
--- `cellFrom`, `floatsOf`: a cell's floats. `geometryAt`: its geometry.
+-- `finish_cells`: `FinishCellsEntry`, `FinishCellsExit`. `cellFrom`, `floatsOf`: a cell's floats. `geometryAt`: its geometry.
 -- `finish_record`: `FinishRecordEntry`, `FinishRecordExit`. `finish_cell`: `FinishCellEntry`, `FinishCellExit`.
--- `finish_cells`: `firstCells`, `Going`.
 use Prim.Native.Nat.{ℕ, _*_, _≤_, _+_, _-_, _<_}
 use mathlib.Core.Path.{_≡_}
 use mathlib.Core.List.{List, [], _∷_}

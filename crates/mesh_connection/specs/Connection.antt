@@ -1,6 +1,6 @@
 -- `ensure_connected`: "17 not connected". Every cell can be reached from cell 0 over faces that two cells share.
--- `someBelow`, `everyBelow`: of the numbers below n.
--- `oneRound`, `rounds`, `connectedBy`: reached by rounds. `Reachable`: without counting them.
+-- `someBelow`, `everyBelow`: some number below n passes, or every one.
+-- `oneRound`, `rounds`, `connectedBy`: reached by rounds.
 -- `sidesAre`, `joins`, `share`, `connected`: over shared faces.
 -- `areNeighbours`, `connectedCells`: over the cells' neighbours.
 use Prim.Native.Nat.{ℕ, zero, suc}

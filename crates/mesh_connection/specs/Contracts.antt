@@ -1,7 +1,6 @@
--- What the functions of this crate need, and what they leave in the words.
--- `visitedIn`, `queueIn`, `ClearExit`: the flags and the queue.
--- `MarkExit`, `MeetExit`: one cell met. `countBelow`, `neighboursAt`: what is counted, and over what.
--- `QueuePlace`, `ReachedPlace`, `SearchState`: the invariant. `EnsureConnectedExit`: what `ensure_connected` promises.
+-- The contracts of `ensure_connected` and its parts: what each needs, and what it leaves in the words.
+-- `visitedIn`, `queueIn`: the flags and the queue. `clear`: `ClearExit`. `mark`: `MarkExit`. `meet`: `MeetExit`.
+-- `spread`, `start` and `reach`: `countBelow`, `QueuePlace`, `ReachedPlace`, `SearchState`. `ensure_connected`: `EnsureConnectedExit`.
 use Prim.Native.Nat.{ℕ, zero, suc, _+_, _*_, _<_, _≤_}
 use mathlib.Core.Path.{_≡_}
 use mathlib.Core.Bool.{Bool, true, false, cond}

@@ -1,5 +1,4 @@
--- What the search for a face needs.
--- `FindEntry`: what a search needs.
+-- The contracts of `walk` and `find`: what the search for a face needs.
 use Prim.Native.Nat.{ℕ, _<_, _≤_}
 use mathlib.Core.List.{List}
 use lib.ListN.{length}

@@ -1,9 +1,7 @@
 -- The record of a face in the lent area, and what is stored there.
--- `FaceWords`, `faceWordsOf`, `faceWordsIn`: the words of a face.
--- `measuredOf`, `measuredIn`, `floatsOf`: the floats of a face.
--- `faceOf`, `tableIn`: the face that they hold, and the first n faces.
--- `headIn`: the head of a bucket.
--- `fresh`, `joined`, `newFaceAt`: a face of one cell, of two, and the first of them stored.
+-- `FaceWords`, `faceWordsOf`, `faceWordsIn`: the words of a face. `measuredOf`, `measuredIn`: its floats.
+-- `faceOf`, `tableIn`: the face that they hold, and the first n faces. `headIn`: the head of a bucket.
+-- `newFaceAt`, `floatsOf`: the words and the floats of a new face, as they are stored.
 use Prim.Native.Nat.{ℕ, _+_, _*_}
 use mathlib.Core.List.{List, [], _∷_}
 use lib.ListN.{length, getD, take}

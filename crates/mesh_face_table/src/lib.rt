@@ -144,7 +144,8 @@ fn walk(words: &[u32], slots: usize, n: usize, key: &[u32]) -> usize
 // The number + 1 of the face with these numbers, in any order; 0 where there is none.
 pub fn find(words: &[u32], slots: usize, n: usize, vertices: &[u32]) -> usize
     requires { ⌜ FindEntry (now words) slots n (now vertices) ⌝ }
-    ensures { λ r. ⌜ (r ≡ last (keyAt (faceWordsIn (now (words .entry))) (sorted (now (vertices .entry)))) n) × (r ≤ n) ⌝ }
+    ensures { λ r. ⌜ (r ≡ last (keyAt (faceWordsIn (now (words .entry))) (sorted (now (vertices .entry)))) n)
+        × (r ≤ n) ⌝ }
 {
     let k = vertices.len();
     let mut key = [0u32; 8];

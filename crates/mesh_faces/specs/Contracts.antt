@@ -1,9 +1,7 @@
 -- What the use of a face by a cell needs and leaves.
--- `AddEntry`, `AddExit`: what `add` needs and leaves.
--- `wordsAfter`, `floatsAfter`, `facesAfter`, `storedAt`: the area after an answer.
--- `SettleExit`: what `settle` leaves.
--- `withFaces`: the sizes with another number of faces.
--- `UseFaceEntry`, `UseFaceExit`: what `use_face` needs and leaves.
+-- `add` and `settle`: `AddEntry`. `wordsAfter`, `floatsAfter`: the area after an answer. `add`: `AddExit`.
+-- `facesAfter`, `storedAt`: the number of faces after it, and of the face that was stored to. `settle`: `SettleExit`.
+-- `withFaces`: the sizes with another number of faces. `use_face`: `UseFaceEntry`, `UseFaceExit`.
 use Prim.Native.Nat.{ℕ, _+_, _*_, _<_, _≤_}
 use mathlib.Core.Path.{_≡_}
 use mathlib.Core.List.{List, [], _∷_, _++_}

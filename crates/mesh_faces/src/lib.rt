@@ -50,8 +50,8 @@ fn settle(
     cell: u32,
 ) -> Added
     requires { ⌜ AddEntry (now words) (now floats) slots n (now vertices) cell ⌝ }
-    ensures { λ r. ⌜ SettleExit (now (words .entry)) (now (words .exit)) (now (floats .entry)) (now (floats .exit)) slots n
-        (now (vertices .entry)) m cell r ⌝ }
+    ensures { λ r. ⌜ SettleExit (now (words .entry)) (now (words .exit)) (now (floats .entry)) (now (floats .exit))
+        slots n (now (vertices .entry)) m cell r ⌝ }
 {
     let at = mesh_face_table::find(words, slots, n, vertices);
     if at == 0 {

@@ -1,7 +1,7 @@
--- The words of the contracts.
+-- The contracts of `cell_geometry` and its parts.
 -- `facesAt`: the faces of a record.
 -- `FaceEntry`, `NextFace`: a face, and the next one.
--- `AddEdgeExit`, `AddFaceExit`, `weightOf`: what an edge or a face adds.
+-- `add_edge`: `AddEdgeExit`. `add_face_3d`: `AddFaceExit`. `add_turned` and `add_faces_3d`: `weightOf`.
 use Prim.Native.Nat.{ℕ, _+_, _<_}
 use mathlib.Core.Path.{_≡_}
 use mathlib.Core.List.{List}

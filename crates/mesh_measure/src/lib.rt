@@ -54,8 +54,8 @@ fn add_edge(
 ) -> Weighed
     requires { ⌜ PointBytes (now case) points ⌝ }
     requires { ⌜ FaceEntry (wordsIn (now words)) h c ⌝ }
-    ensures { λ r. ⌜ AddEdgeExit (pointsIn (now (case .entry)) points) (wordsIn (now (words .entry))) h c reference weight
-        r ⌝ }
+    ensures { λ r. ⌜ AddEdgeExit (pointsIn (now (case .entry)) points) (wordsIn (now (words .entry))) h c reference
+        weight r ⌝ }
 {
     let mut face = [0u32; 8];
     let copied = case_faces::copy_face(words, h, c, &mut face);
@@ -121,8 +121,8 @@ fn add_face_3d(
 ) -> FaceWeight
     requires { ⌜ PointBytes (now case) points ⌝ }
     requires { ⌜ FaceEntry (wordsIn (now words)) h c ⌝ }
-    ensures { λ r. ⌜ AddFaceExit (pointsIn (now (case .entry)) points) (wordsIn (now (words .entry))) h c reference weight
-        r ⌝ }
+    ensures { λ r. ⌜ AddFaceExit (pointsIn (now (case .entry)) points) (wordsIn (now (words .entry))) h c reference
+        weight r ⌝ }
 {
     let mut face = [0u32; 8];
     let copied = case_faces::copy_face(words, h, c, &mut face);

@@ -1,5 +1,7 @@
--- What the functions of this crate need, and what they leave in the words.
--- `BeyondExit`, `AddNewExit`, `AddBeyondExit`: one face. `neighboursIn`, `ListAtExit`, `FillCellExit`: all faces of a cell.
+-- The contracts of `fill_neighbours` and its parts: what each needs, and what it leaves in the words.
+-- `CellLists`: the cells' lists, as they must stand. `fill_neighbours`: `OutsideList`, `FillNeighboursExit`.
+-- `beyond`: `BeyondExit`. `add_new`: `AddNewExit`. `add_beyond`: `AddBeyondExit`.
+-- `list_at`: `neighboursIn`, `ListAtExit`. `fill_cell`: `FillCellExit`.
 use Prim.Native.Nat.{ℕ, _+_, _*_, _≤_, _<_}
 use mathlib.Core.Path.{_≡_}
 use mathlib.Core.List.{List}

@@ -2,8 +2,7 @@
 -- `otherCell`, `beyond`: the cell on the other side of a face.
 -- `addFound`, `addNeighbour`, `neighboursOf`: the neighbours of a cell.
 -- `linkedAt`, `linked`: the cells with their neighbours.
--- `firstIn`, `countIn`, `Laid`: the cells' lists in the area.
--- `Outside`, `Linked`: what `fill_neighbours` leaves.
+-- `firstIn`, `countIn`: where a cell's lists start in the area, and how many faces it has.
 use Prim.Native.Nat.{ℕ, _+_, _*_}
 use mathlib.Core.Bool.{cond}
 use mathlib.Core.List.{List, []}

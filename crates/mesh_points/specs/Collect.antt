@@ -1,6 +1,4 @@
 -- What `from_cells` asks of a cell before its faces: refusals 11 and 12, and the average of its points.
--- `wrongKind`: 11. `missing`: 12. `referenceOf`: the average.
--- `checked`, `referenceCase`: the three together, and what the answer stands for.
 use Prim.Native.Nat.{ℕ}
 use mathlib.Core.Bool.{Bool, not, _||_}
 use mathlib.Core.List.{List}

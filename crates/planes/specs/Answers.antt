@@ -1,4 +1,6 @@
 -- The words of the answers of codes 5 to 8, and their trees.
+-- `sectionWords`, `probeWords`: the words of codes 5 and 8. `sampled`: an answer made of all samples.
+-- `sectionOf`, `statisticsOf`, `integralsOf`, `probeOf`: codes 5 to 8.
 use Prim.Native.Nat.{ℕ, _-_, _^_}
 use mathlib.Core.List.{List, [], _∷_, map}
 use lib.ListN.{length}

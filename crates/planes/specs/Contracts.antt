@@ -1,4 +1,6 @@
--- What the functions of this crate answer: how many words, or the refusal; the words, as far as they fit; the marks.
+-- The contracts of the functions that answer codes 5 to 8: what code 5 leaves under a refusal, and the answer from what was kept of the samples.
+-- `section`: `leftBy`. `statisticsEnd`, `integralsEnd`, `ended`, `lastWords`: from what was kept to the answer.
+-- `end_statistics` and `end_integrals`: `EndExit`. `finish`: `FinishExit`. `unless_off`: `missing`.
 use Prim.Native.Nat.{ℕ}
 use mathlib.Core.Path.{_≡_}
 use mathlib.Core.Bool.{Bool, true, false}

@@ -1,4 +1,7 @@
 -- The words of the contracts: points held in three slices, what the mesh layer promises of a mesh, and the ends of a side.
+-- `pointIn`, `slicePoints`, `SliceLengths`: the points in the slices. `store`: `StoreExit`.
+-- `add_new`, `add_crossing`, `add_face` and `crossings`: `SlicesKept`, `PointList`.
+-- `MeshLimits`: what the mesh layer promises. `sideAt`: a side by its place. `TrueHeight`: the height of an end. `crossing`: `crossingOf`.
 use Prim.Native.Nat.{ℕ, _≤_}
 use mathlib.Core.Path.{_≡_}
 use mathlib.Core.Bool.{cond}

@@ -1,4 +1,8 @@
 -- `intersect`, its first half: where a plane meets the sides of a cell.
+-- `close`: points that are as good as one. `rises`, `parted`, `between`: a side that goes through the plane, and where.
+-- `addEnd`, `addBetween`, `addCrossing`: the points with those of one more side.
+-- `shared`, `onPlane`, `foreign`: a face in the plane that another cell owns.
+-- `addSide`, `addFace`, `crossings`: the points of a side, of a face, and of a cell.
 use Prim.Native.Nat.{ℕ}
 use mathlib.Core.Bool.{Bool, true, false, not, cond, _&&_, _||_}
 use mathlib.Core.List.{List, []}

@@ -86,10 +86,9 @@ fn add_crossing(
     n: usize,
 ) -> usize
     requires { ⌜ TrueHeight cut a × TrueHeight cut b × SliceLengths (now x) (now y) (now z) (n + 1) ⌝ }
-    ensures { λ r. ⌜ PointList (addCrossing cut (slicePoints (now (x .entry)) (now (y .entry)) (now (z .entry)) n) (a .point)
-        (b .point))
-        (now (x .entry)) (now (y .entry)) (now (z .entry)) (now (x .exit)) (now (y .exit)) (now (z .exit)) n r
-        (n + 1) ⌝ }
+    ensures { λ r. ⌜ PointList (addCrossing cut (slicePoints (now (x .entry)) (now (y .entry)) (now (z .entry)) n)
+        (a .point) (b .point)) (now (x .entry)) (now (y .entry)) (now (z .entry)) (now (x .exit)) (now (y .exit))
+        (now (z .exit)) n r (n + 1) ⌝ }
 {
     let m = crossing(cut, a, b);
     match m {

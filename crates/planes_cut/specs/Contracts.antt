@@ -1,4 +1,6 @@
 -- The words of the contracts: a mesh in the area, and what a cell's points show at a glance.
+-- `bare`, `MeshLent`: a mesh in the area, and what is lent. `faceVertex`: a vertex of a face.
+-- `signWith`, `noSigns`, `addSign`, `faceSigns`, `signsOf`: the signs of points, of a face, and of a cell. `mayMeet`: the plane may meet it.
 use Prim.Native.Nat.{ℕ, _*_, _≤_}
 use mathlib.Core.Bool.{Bool, false, _&&_, _||_}
 use mathlib.Core.List.{List, []}

@@ -1,4 +1,6 @@
 -- `intersect`: the tolerance of a plane's sections, and how far a point lies from the plane.
+-- `widest`, `farthest`, `epsOf`, `tolerance`: the tolerance. `cutOf`: the plane with it.
+-- `height`: how far a point lies from the plane. `near`, `below`, `above`: on which side of it.
 use mathlib.Core.Bool.{Bool}
 use mathlib.Core.List.{List}
 use lib.Ieee.{Float, neg}

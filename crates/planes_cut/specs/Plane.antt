@@ -1,4 +1,6 @@
 -- A plane by its origin and two axes. Refusals 36 and 37.
+-- `finiteAxes`, `notUnit`, `notOrthogonal`, `invalid`: 36. `originBeyond`: 37. `planeRefusal`: the first of the two, or 0.
+-- `normalOf`, `along`: its normal, and a difference along its axes.
 use Prim.Native.Nat.{ℕ}
 use mathlib.Core.Bool.{Bool, not, cond, _&&_, _||_}
 use lib.Ieee.{Float}

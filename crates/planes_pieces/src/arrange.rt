@@ -55,9 +55,10 @@ fn arrange_first(
 )
     requires { ⌜ SliceLengths (now px) (now py) (now pz) n × SliceLengths (now x) (now y) (now z) n ⌝ }
     requires { ⌜ (n ≤ length (now quarters)) × (n ≤ length (now slopes)) × (n ≤ length (now places)) ⌝ }
-    ensures { λ _. ⌜ (slicePoints (now (x .exit)) (now (y .exit)) (now (z .exit)) n
-        ≡ Lists.sort (earlierOn plane centre) (slicePoints (now (px .entry)) (now (py .entry)) (now (pz .entry)) n))
-        × SlicesKept (now (x .entry)) (now (y .entry)) (now (z .entry)) (now (x .exit)) (now (y .exit)) (now (z .exit)) n ⌝ }
+    ensures { λ _. ⌜ (slicePoints (now (x .exit)) (now (y .exit)) (now (z .exit)) n ≡ Lists.sort
+        (earlierOn plane centre) (slicePoints (now (px .entry)) (now (py .entry)) (now (pz .entry)) n))
+        × SlicesKept (now (x .entry)) (now (y .entry)) (now (z .entry)) (now (x .exit)) (now (y .exit)) (now (z .exit))
+        n ⌝ }
 {
     arrange_by(
         plane,
@@ -87,9 +88,10 @@ pub(crate) fn arrange(
     z: &mut [f64],
 )
     requires { ⌜ SliceLengths (now px) (now py) (now pz) n × SliceLengths (now x) (now y) (now z) n × (n ≤ 192) ⌝ }
-    ensures { λ _. ⌜ (slicePoints (now (x .exit)) (now (y .exit)) (now (z .exit)) n
-        ≡ Lists.sort (earlierOn plane centre) (slicePoints (now (px .entry)) (now (py .entry)) (now (pz .entry)) n))
-        × SlicesKept (now (x .entry)) (now (y .entry)) (now (z .entry)) (now (x .exit)) (now (y .exit)) (now (z .exit)) n ⌝ }
+    ensures { λ _. ⌜ (slicePoints (now (x .exit)) (now (y .exit)) (now (z .exit)) n ≡ Lists.sort
+        (earlierOn plane centre) (slicePoints (now (px .entry)) (now (py .entry)) (now (pz .entry)) n))
+        × SlicesKept (now (x .entry)) (now (y .entry)) (now (z .entry)) (now (x .exit)) (now (y .exit)) (now (z .exit))
+        n ⌝ }
 {
     let mut quarters = [0u64; 192];
     let mut slopes = [0.0; 192];

@@ -1,4 +1,7 @@
 -- Sampling, sample by sample: what is kept of the samples so far, the answer words and the marks. No list of samples is held.
+-- `accumulatedOf`: what an answer stands for. `Stream`, `writtenAll`, `stream`: how the reading of samples leaves things.
+-- `sample_each` and `sample_all`: `SampleAllExit`. `step`, `sample_each` and `sample_all`: `SampleEntry`.
+-- `take_sample` and `step`: `Grown`, `StepExit`.
 use Prim.Native.Nat.{ℕ, _+_, _≤_}
 use mathlib.Core.Path.{_≡_}
 use mathlib.Core.List.{List, [], _∷_}

@@ -1,5 +1,7 @@
 -- `plane_monitor::sample`: "A sample reads velocity and pressure of the section's cells in order,
 -- up to and including the first bad one".
+-- `Taken`, `before`, `onward`, `taken`: the samples before the first bad one, and whether that one came.
+-- `complete`, `sample`: all of them, or refusal 39.
 use mathlib.Core.Bool.{Bool, true, false}
 use mathlib.Core.List.{List, [], _∷_}
 use Rattle.reading.specs.Result as result

@@ -45,10 +45,11 @@ fn take_sample(
     marks: &mut [u8],
 ) -> Accumulated
     requires { ⌜ opened (now case) ≡ Opened.Case n ⌝ }
-    requires { ⌜ SliceLengths (now x) (now y) (now z) k × (1 ≤ k) × (k ≤ 192) × (sizeOf (sampleSumsOf t) < 1073741824) ⌝ }
+    requires { ⌜ SliceLengths (now x) (now y) (now z) k × (1 ≤ k) × (k ≤ 192)
+        × (sizeOf (sampleSumsOf t) < 1073741824) ⌝ }
     ensures { λ r. ⌜ StepExit (stream cut (valuesOf (now (case .entry)))
-        (cellIn cell centre k (now (x .entry)) (now (y .entry)) (now (z .entry)) ∷ []) (sampleSumsOf t) (now (answers .entry))
-        (now (marks .entry))) t r (now (answers .exit)) (now (marks .exit)) ⌝ }
+        (cellIn cell centre k (now (x .entry)) (now (y .entry)) (now (z .entry)) ∷ []) (sampleSumsOf t)
+        (now (answers .entry)) (now (marks .entry))) t r (now (answers .exit)) (now (marks .exit)) ⌝ }
 {
     let v = field::read_cell(case, n, marks, cell);
     if measures::has_finite_values(v) {
@@ -149,8 +150,8 @@ pub fn sample_all(
     requires { ⌜ SampleEntry (now case) n s (now words) (now marks) × (sizeOf (sampleSumsOf t) ≤ 1) ⌝ }
     ensures { λ r. ⌜ ((floats : List Float) → SampleAllExit
         (stream (cutOf (pointsIn (now (case .entry)) (n .points)) plane) (valuesOf (now (case .entry)))
-        (intersect (meshIn (pointsIn (now (case .entry)) (n .points)) s (now (words .entry)) floats) plane) (sampleSumsOf t)
-        (now (answers .entry)) (now (marks .entry))) r (now (answers .exit)) (now (marks .exit))) ⌝ }
+        (intersect (meshIn (pointsIn (now (case .entry)) (n .points)) s (now (words .entry)) floats) plane)
+        (sampleSumsOf t) (now (answers .entry)) (now (marks .entry))) r (now (answers .exit)) (now (marks .exit))) ⌝ }
 {
     let cut = axes::cut_of(case, n.points, plane);
     let mut x = [0.0; 192];

@@ -1,4 +1,7 @@
 -- The words of the contracts: a piece with its polygon in three slices, and points sorted by their angles.
+-- `pieceIn`, `verticesOf`, `Full`: the piece that was found. `arrangedAbout`, `arrangedOf`, `FrontPoints`: the points that stand in the slices.
+-- `piece_about`: `PieceAboutExit`. `cut_cell` and `piece_of`: `PieceOfExit`.
+-- `angle_on`: `angleOn`. `angles_of`: `AnglesOfExit`. `gather`: `GatherEntry`.
 use Prim.Native.Nat.{ℕ, _+_, _≤_, _<_}
 use mathlib.Core.Path.{_≡_}
 use mathlib.Core.Bool.{cond}

@@ -1,4 +1,7 @@
 -- `intersect`: the polygons in which a plane meets the cells. It reads no cell's values.
+-- `PlaneCell`: a piece. `earlierOn`: the order of its points. `addArea`, `areaOf`: its area. `sectionCentre`: its centre.
+-- `wide`, `pieceAbout`, `pieceOf`: the piece of a cell, where its area is large enough.
+-- `piecesFrom`, `intersect`: the pieces of all cells.
 use Prim.Native.Nat.{ℕ, suc}
 use mathlib.Core.Bool.{Bool, cond, _&&_}
 use mathlib.Core.List.{List, [], _∷_, _++_}

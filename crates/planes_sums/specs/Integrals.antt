@@ -1,5 +1,7 @@
 -- `plane_integrals::sample`. Refusals 42 and 43. The Rust passes over a polygon of fewer than three vertices; none comes, since a piece has three
 -- points or more (`pieceAbout`, crates/planes_sections/specs/Intersect.antt).
+-- `noIntegral`, `weighing`: the sums. `isValid`, `addIntegral`: with one more sample, or 42.
+-- `finiteIntegral`, `noIntegrals`: 43. `integralWords`, `integralsFrom`: the answer, or 43. `integrals`: all samples in turn.
 use Prim.Native.Nat.{ℕ}
 use mathlib.Core.Bool.{Bool, not, cond, _&&_, _||_}
 use mathlib.Core.List.{List, [], _∷_}

@@ -1,4 +1,8 @@
 -- What is kept of the samples so far, and what is written of each. No list of samples is held.
+-- `sumsOf`, `integralOf`: the sums or 40, the integrals or 42. `SampleSums`, `sampleSumsOf`: what is kept for each code.
+-- `summingOf`, `weighingOf`: the sums and the integrals with a sample of this measure.
+-- `addSummed`, `addWeighed`, `addProbed`, `addTo`: what is kept, with one more sample. `written`: what is written of it.
+-- `cellIn`, `sampleIn`: a piece and a sample in three slices. `usedOf`, `sizeOf`: how large the kept numbers are. `add`: `AddExit`.
 use Prim.Native.Nat.{ℕ, suc, _+_}
 use mathlib.Core.Path.{_≡_}
 use mathlib.Core.Bool.{cond}

@@ -1,5 +1,7 @@
 -- `section_statistics_csv` before formatting. Refusals 40 and 41. The Rust passes over a polygon of fewer than three vertices; none comes, since a
 -- piece has three points or more (`pieceAbout`, crates/planes_sections/specs/Intersect.antt).
+-- `scalarOf`: the value of a sample. `noSums`, `including`: the sums. `counted`, `summing`, `addSample`: with one more sample, or 40.
+-- `finiteSums`, `empty`: 41. `fractionWords`, `statisticsWords`, `statisticsFrom`: the answer, or 41. `statistics`: all samples in turn.
 use Prim.Native.Nat.{ℕ, suc}
 use mathlib.Core.Bool.{Bool, true, false, not, cond, _&&_, _||_}
 use mathlib.Core.List.{List, [], _∷_}

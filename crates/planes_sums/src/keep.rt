@@ -204,7 +204,8 @@ pub fn add(
     z: &[f64],
     answers: &mut [u64],
 ) -> Accumulator
-    requires { ⌜ SliceLengths (now x) (now y) (now z) n × (1 ≤ n) × (n ≤ 192) × (sizeOf (sampleSumsOf t) < 1073741824) ⌝ }
+    requires { ⌜ SliceLengths (now x) (now y) (now z) n × (1 ≤ n) × (n ≤ 192)
+        × (sizeOf (sampleSumsOf t) < 1073741824) ⌝ }
     ensures { λ r. ⌜ AddExit cut t (sampleIn cell centre n v (now (x .entry)) (now (y .entry)) (now (z .entry))) r
         (now (answers .entry)) (now (answers .exit)) ⌝ }
 {

@@ -36,11 +36,15 @@ pub(crate) fn put_sample(
 )
     requires { ⌜ SliceLengths (now x) (now y) (now z) n × (n ≤ 192) × (at < 1073741824) ⌝ }
     ensures { λ _. ⌜ now (answers .exit) ≡ sets (now (answers .entry)) at
-        (sampleWords (record {
-          geometry = record
-              { cell = cell; centre = centre; polygon = slicePoints (now (x .entry)) (now (y .entry)) (now (z .entry)) n };
-          values
-              = v;
+        (sampleWords
+        (record {
+          geometry = record {
+            cell = cell;
+            centre = centre;
+            polygon = slicePoints (now (x .entry))
+                (now (y .entry)) (now (z .entry)) n;
+          };
+          values = v;
         })) ⌝ }
 {
     answers::put(answers, at, cell as u64);

@@ -25,7 +25,8 @@ fn measure(dx: &[f64], dy: &[f64], quarters: &mut [u64], slopes: &mut [f64])
 
 // The places of the directions in angle order; quarters and slopes are work space.
 fn order(dx: &[f64], dy: &[f64], quarters: &mut [u64], slopes: &mut [f64], places: &mut [usize])
-    requires { ⌜ Spec.EqualLengths (now dx) (now dy) (now quarters) (now slopes) ⌝ ∗ ⌜ length (now places) ≡ length (now dx) ⌝ }
+    requires { ⌜ Spec.EqualLengths (now dx) (now dy) (now quarters) (now slopes) ⌝ ∗
+        ⌜ length (now places) ≡ length (now dx) ⌝ }
     ensures { λ _. ⌜ now (places .exit) ≡ Spec.ordered (now (dx .entry)) (now (dy .entry)) ⌝ }
 {
     measure(dx, dy, quarters, slopes);

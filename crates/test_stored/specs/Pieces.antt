@@ -1,5 +1,7 @@
 -- What stands in a room after a text of pieces, or a name, was read into it. Nothing is assumed of the bytes and numbers that a file holds, so
 -- a promise says that there are such.
+-- `repeated`, `Piece`, `copied`, `endWith`, `with-piece`: a piece, and the text and the room with it. `piece`: `PieceExit`.
+-- `Text`: a text of pieces. `assemble`: `AssembleExit`. `show_name`: `ShowNameExit`.
 use Prim.Native.Nat.{ℕ, zero, suc, _+_, _-_, _≤_, max}
 use mathlib.Core.Path.{_≡_}
 use mathlib.Core.List.{List, _++_}
