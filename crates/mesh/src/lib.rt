@@ -8,7 +8,7 @@ use mesh_area::Sizes;
 use mesh_cells::CellsAdded;
 use mesh_centres::Finished;
 ghost use mathlib.Core.Path.{_≡_};
-ghost use Prim.Native.Nat.{_+_, _*_, _<_};
+ghost use Prim.Native.Nat.{_+_, _*_, _<_, _≤_};
 ghost use lib.ListN.{length};
 ghost use Rattle.arith.specs.Limits.{mostCells, mostWords};
 ghost use Rattle.mesh_area.specs.Layout.{pointsIn};

@@ -42,7 +42,6 @@ use Rattle.mesh_cells.specs.Cells.{PartialCell, PartialMesh, addCell, pa
 use Rattle.mesh_cells.specs.Contracts as Contracts
 use Rattle.mesh_cells.specs.Partial.{cellWord, partialCellIn, partialCellsIn}
 use Rattle.mesh_cells.specs.Contracts.{FaceLists, AddCellsExit, cellFacesIn, addFaces, ListGrowth, AddFacesEntry, AddFacesExit, FillCellEntry, StoredCell, FillCellExit, NewCellExit, CellsSoFar, read, definedIn, AddCellsEntry, AddCellEntry, AddCellExit}
-use Rattle.mesh_cells.specs.Contracts as Contracts
 use Rattle.mesh_cells.specs.declared.CellsAdded.{CellsAdded}
 use Rattle.mesh_cells.specs.declared.CellsAdded.the-variants as CellsAdded
 use Rattle.mesh_cells.specs.declared.Progress.{Progress}

@@ -23,7 +23,7 @@ use Rattle.mesh_area.specs.Layout.{LentWords, LentFloats, listAt, facesIn}
 use Rattle.mesh_points.proofs.CollectLaws.{copied-next}
 use Rattle.mesh_faces.specs.Contracts.{withFaces, UseFaceEntry}
 use Rattle.mesh_faces.proofs.AreaLaws.{chained-kept, faces-kept}
-use Rattle.mesh_cell_parts.specs.Contracts as Contracts
+use Rattle.mesh_cell_parts.specs.Contracts as Parts
 use Rattle.mesh_cell_parts.specs.Parts.{addFaceOf}
 use Rattle.mesh_cell_parts.specs.Contracts.{TableGrowth, PlaceFaceExit}
 use Rattle.mesh_cell_parts.specs.declared.NewCell.{NewCell}
@@ -67,8 +67,8 @@ module _ (ws : List ℕ) (s : Sizes) (words : List ℕ) (floats : List Float) (c
   module _ (d : ℕ) (ps : List Vec3) (words₁ : List ℕ) (floats′ : List Float) where
     pub face-refused : (r : FacePlaced) (k : ℕ) → PlaceFaceExit d ps cell s words words₁ floats floats′ (take count vs) r → r ≡ FacePlaced.Refused k
         → AddFaceExit d ps ws cell s words words₁ floats floats′ c (FaceAdded.Refused k)
-    face-refused r k (Contracts.PlaceFaceExit.placed j m e g) q = absurd (let z : _≡_ {A = ℕ} 0 1 = cc in omega arith)
-    face-refused r k (Contracts.PlaceFaceExit.refusing j e) q =
+    face-refused r k (Parts.PlaceFaceExit.placed j m e g) q = absurd (let z : _≡_ {A = ℕ} 0 1 = cc in omega arith)
+    face-refused r k (Parts.PlaceFaceExit.refusing j e) q =
         let z : j ≡ k = cc in
         Contracts.AddFaceExit.refusing k (rw (← z, ← f .front) (e (cellFacesIn s words floats (cell .first) (c .face)) refl))
 
@@ -117,18 +117,18 @@ module _ (ws : List ℕ) (s : Sizes) (words : List ℕ) (floats : List Float) (c
     pub face-added : (r : FacePlaced) (i n x : ℕ) → PlaceFaceExit d ps cell s words words₁ floats floats′ (take count vs) r → r ≡ FacePlaced.Face i n → x ≡ i
         → length words₁ ≡ length words → length floats′ ≡ length floats
         → AddFaceExit d ps ws cell s words (set words₁ (13 * s .slots + cell .first + c .face) x) floats floats′ c (FaceAdded.Next next n)
-    face-added r i n x (Contracts.PlaceFaceExit.placed j m e g) q ex lw lf =
+    face-added r i n x (Parts.PlaceFaceExit.placed j m e g) q ex lw lf =
         let a : j ≡ i = cc in
         let b : m ≡ n = cc in
         face-next i n x ex (rw (a, b) at e) (rw (a, b) at g) lw lf
-    face-added r i n x (Contracts.PlaceFaceExit.refusing j e) q ex lw lf = absurd (let z : _≡_ {A = ℕ} 0 1 = cc in omega arith)
+    face-added r i n x (Parts.PlaceFaceExit.refusing j e) q ex lw lf = absurd (let z : _≡_ {A = ℕ} 0 1 = cc in omega arith)
 
 -- the number of a face is a word
 pub face-number : (d : ℕ) (ps : List Vec3) (cell : NewCell) (s : Sizes) (words words₁ : List ℕ) (floats floats′ : List Float) (vertices : List ℕ) (r : FacePlaced) (i n : ℕ)
     → PlaceFaceExit d ps cell s words words₁ floats floats′ vertices r → r ≡ FacePlaced.Face i n → s .faces < s .slots → s .slots ≤ 1048576 → i < 4294967296
-face-number d ps cell s words words₁ floats floats′ vertices r i n (Contracts.PlaceFaceExit.placed j m e g) q few slots =
+face-number d ps cell s words words₁ floats floats′ vertices r i n (Parts.PlaceFaceExit.placed j m e g) q few slots =
     let a : j ≡ i = cc in omega (arith, g .number, g .more)
-face-number d ps cell s words words₁ floats floats′ vertices r i n (Contracts.PlaceFaceExit.refusing j e) q few slots = absurd (let z : _≡_ {A = ℕ} 0 1 = cc in omega arith)
+face-number d ps cell s words words₁ floats floats′ vertices r i n (Parts.PlaceFaceExit.refusing j e) q few slots = absurd (let z : _≡_ {A = ℕ} 0 1 = cc in omega arith)
 
 -- ---- `add_faces`
 
