@@ -41,7 +41,7 @@ pub enum Dimension {
     Three = 3,
 }
 
-/// A cell by the numbers of its points. The corners of a solid are counted from the bottom up, as in the face tables.
+/// A cell by the numbers of its points. The vertices of a solid are counted from the bottom up, as in the face tables.
 #[derive(Clone, Debug, PartialEq, Eq)]
 pub enum Cell {
     /// The points around, 3 to 24 of them.
