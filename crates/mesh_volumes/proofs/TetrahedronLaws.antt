@@ -17,7 +17,7 @@ use Rattle.mesh_geometry.specs.Contracts.{faceOf, OrientedFaceExit}
 use Rattle.mesh_volumes.specs.declared.Weight.{Weight}
 use Rattle.mesh_volumes.specs.Geometry.{addTetrahedron, addTetrahedra, tetrahedraOf, addFace3D}
 
--- ---- the fan of a face: its first point stays, two more in a row
+-- ---- the tetrahedra of a face: its first point stays, two more in a row
 
 pub tetrahedra-turn : {B : Type 0} (f : B → Side ℕ → B) (l : List ℕ) (j : ℕ) (s s′ r : B) → fold f s (windows (drop (j + 1) l)) ≡ r → j + 2 < length l
     → s′ ≡ f s (record { from = getD l (j + 1) 0; to = getD l (j + 2) 0 }) → fold f s′ (windows (drop (j + 1 + 1) l)) ≡ r

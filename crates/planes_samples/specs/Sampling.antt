@@ -19,7 +19,7 @@ pub record Taken : Type 0 where
 unfoldable pub before : Sample → Taken → Taken
 before s t = record { samples = s ∷ t .samples; bad = t .bad }
 
--- ends at the first one that is not sound
+-- ends at the first one whose values are not finite
 unfoldable pub onward : Bool → Sample → Asks Taken → Asks Taken
 onward false s rest = give (record { samples = []; bad = true })
 onward true s rest = rest >>= λ t. give (before s t)

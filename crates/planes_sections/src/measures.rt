@@ -1,4 +1,4 @@
-// The average and the area of points held in three slices.
+// The centre and the area of points that stand in three slices.
 use arith::Vec3;
 use planes_crossings::slices;
 ghost use mathlib.Core.Path.{_≡_};
