@@ -1,0 +1,5 @@
+pub mod WholeLaws
+pub mod NearestLaws
+pub mod PatternLaws
+pub mod WordLaws
+pub mod Values
