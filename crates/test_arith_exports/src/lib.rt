@@ -1,18 +1,21 @@
-// The root and the leaves of arith for programs in other languages. Each function calls one of
-// root or arith and promises the same definition.
+// The root, the leaves of arith and the millimetres for programs in other languages. Each function
+// calls one of those crates and promises the same definition.
 mod directions;
 
 use arith::Vec2;
 use arith::bytes;
 use arith::float;
 use arith_angles::angles;
+use lines_millimetres::Rounding;
 ghost use mathlib.Core.Path.{_≡_};
-ghost use mathlib.Core.Bool.{cond};
+ghost use mathlib.Core.Bool.{true, cond};
 ghost use Rattle.arith_root.specs.Root.{root, SquareRoot};
 ghost use Rattle.arith.specs.F64 as F64;
 ghost use Rattle.arith.specs.Vec.{pair};
 ghost use Rattle.arith_angles.specs.Angle.{turnsBefore};
+ghost use Rattle.lines_millimetres.specs.Nearest.{under2^53, millimetres};
 ghost use Rattle.test_arith_exports.specs.Directions.{fitting, ordered};
+ghost use Rattle.test_arith_exports.specs.Millimetres.{roundingOf, sheetNumber};
 
 #[no_mangle]
 pub extern "C" fn hookyellow_sqrt(x: f64) -> f64
@@ -103,6 +106,28 @@ pub extern "C" fn hookyellow_turns_before(dx: f64, dy: f64, ex: f64, ey: f64) ->
     let d = angles::angle_of(Vec2 { x: dx, y: dy });
     let e = angles::angle_of(Vec2 { x: ex, y: ey });
     angles::precedes(d, e)
+}
+
+fn rounded(x: f64, even: bool) -> i64
+    requires { ⌜ under2^53 x ≡ true ⌝ }
+    ensures { λ r. ⌜ r ≡ millimetres (roundingOf even) x ⌝ }
+{
+    if even {
+        return lines_millimetres::millimetres(x, Rounding::ToEven);
+    }
+    lines_millimetres::millimetres(x, Rounding::AwayFromZero)
+}
+
+// x metres in whole millimetres, halves to the even neighbour or away from zero; 0 where x is 2^53
+// metres or more in size, or no number.
+#[no_mangle]
+pub extern "C" fn hookyellow_millimetres(x: f64, even: bool) -> i64
+    ensures { λ r. ⌜ r ≡ sheetNumber x even ⌝ }
+{
+    if float::abs(x) < 9007199254740992.0 {
+        return rounded(x, even);
+    }
+    0
 }
 
 // Puts the places of the directions (dx[i], dy[i]) in angle order. Where the slices are not
