@@ -80,7 +80,7 @@ one-from c n d j k p h g =
     let b = to-near c n d k p g in
     sym (a .0) ∙ ap pos (near-one c n d (natAbs j) (natAbs k) p (a .1) (b .1)) ∙ b .0
 
-pub nearest-one : (c : Rounding) (a : ℤ) (d : ℕ) (j k : ℤ) → 0 < d → NearestWhole c a d j → NearestWhole c a d k → j ≡ k
+nearest-one : (c : Rounding) (a : ℤ) (d : ℕ) (j k : ℤ) → 0 < d → NearestWhole c a d j → NearestWhole c a d k → j ≡ k
 nearest-one c (pos n) d j k p h g = one-from c n d j k p h g
 nearest-one c (negsuc n) d j k p h g =
     sym (negℤ-negℤ j)

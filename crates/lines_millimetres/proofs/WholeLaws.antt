@@ -69,7 +69,7 @@ unfolding Picked
 clash AwayFromZero n n′ d k k′ p a b e h = omega arith
 clash ToEven n n′ d k k′ p a b e h = omega arith
 
-pub order : (c : Rounding) (n n′ d k k′ : ℕ) → 0 < d → n ≤ n′ → Near c n d k → Near c n′ d k′ → k ≤ k′
+order : (c : Rounding) (n n′ d k k′ : ℕ) → 0 < d → n ≤ n′ → Near c n d k → Near c n′ d k′ → k ≤ k′
 order c n n′ d k k′ p h a b = le-of-suc-le-suc (lt-of-not-le (λ (g : suc k′ ≤ k).
     let m : suc k′ * d ≤ k * d = mul-le-mul-right d g in
     let s : suc k′ * d ≡ k′ * d + d = ap (λ (x : ℕ). x * d) (omega arith) ∙ next k′ d in
@@ -110,7 +110,7 @@ whole-scale c n d s p q =
     near-one c (n * s) (d * s) (whole c (n * s) (d * s)) (whole c n d) r (whole-near c (n * s) (d * s) r) (scaled c n d s (whole c n d) q (whole-near c n d p))
 
 -- a fraction that is no larger gives no larger number
-pub whole-mono : (c : Rounding) (a b n d : ℕ) → 0 < b → 0 < d → a * d ≤ n * b → whole c a b ≤ whole c n d
+whole-mono : (c : Rounding) (a b n d : ℕ) → 0 < b → 0 < d → a * d ≤ n * b → whole c a b ≤ whole c n d
 whole-mono c a b n d p q h =
     let r : 0 < b * d = mul-pos p q in
     rw (← whole-scale c a b d p q, ← whole-scale c n d b q p, mul-comm d b)

@@ -50,9 +50,6 @@ word-lt (negsuc n) f = omega arith
 
 -- ---- the word of a number, as the code makes it
 
-pub kept : (k : ℤ) → SFits w64 k → toZ w64 (ofZ w64 k) ≡ k
-kept k f = toZ-ofZ w64 k f
-
 turned : (k : ℤ) → ltZ k (pos 0) ≡ true → negsuc 0 -ℤ k ≡ pos (mag k)
 turned (pos n) h = absurd (not-suc-le-zero (ltb-true n 0 h))
 turned (negsuc n) h = rw (le-ltb (suc n) 1 (omega arith)) (ap pos (omega arith))
@@ -69,7 +66,7 @@ plus-word (negsuc n) h = absurd (true≢false h)
 
 module _ (k : ℤ) (f : SFits w64 k) (h : ltZ (toZ w64 (ofZ w64 k)) (pos 0) ≡ true) where
   below-is : negsuc 0 -ℤ toZ w64 (ofZ w64 k) ≡ pos (mag k)
-  below-is = rw (kept k f) (turned k (rw (kept k f) at h))
+  below-is = rw (toZ-ofZ w64 k f) (turned k (rw (toZ-ofZ w64 k f) at h))
 
   pub below-fits : SFits w64 (negsuc 0 -ℤ toZ w64 (ofZ w64 k))
   below-fits = rw below-is (record { sfits = f .sfits })
@@ -78,8 +75,8 @@ module _ (k : ℤ) (f : SFits w64 k) (h : ltZ (toZ w64 (ofZ w64 k)) (pos 0) ≡ 
   below-back = toZ-ofZ w64 _ below-fits ∙ below-is
 
   pub below-word : 2 ^ 64 - 1 - mag k ≡ word64 k
-  below-word = minus-word k (rw (kept k f) at h)
+  below-word = minus-word k (rw (toZ-ofZ w64 k f) at h)
 
 module _ (k : ℤ) (f : SFits w64 k) (h : ltZ (toZ w64 (ofZ w64 k)) (pos 0) ≡ false) where
   pub above-is : T (nonNeg k) × (natAbs k ≡ mag k) × (natAbs k ≡ word64 k)
-  above-is = plus-word k (rw (kept k f) at h)
+  above-is = plus-word k (rw (toZ-ofZ w64 k f) at h)

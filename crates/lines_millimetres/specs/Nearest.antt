@@ -35,7 +35,7 @@ numerator nan = pos 0
 numerator (inf s) = pos 0
 numerator (fin s m e) = withSign s (1000 * (m * up e))
 
--- its other half
+-- what the numerator is divided by
 unfoldable pub denominator : Float → ℕ
 denominator nan = 1
 denominator (inf s) = 1
@@ -81,7 +81,7 @@ unfoldable pub word64 : ℤ → ℕ
 word64 (pos n) = n
 word64 (negsuc n) = 2 ^ 64 - suc n
 
--- whether two whole numbers are "equal"
+-- two whole numbers that are equal
 unfoldable pub sameNumber : ℤ → ℤ → Bool
 sameNumber (pos a) (pos b) = eqb a b
 sameNumber (pos a) (negsuc b) = false

@@ -8,6 +8,22 @@ use borrow.Author.Needs.{needs}
 use Rattle.lines_millimetres.proofs.millimetres.Statement.{statement}
 use Rattle.lines_millimetres.proofs.millimetres.Tie as tie
 
+returns : tie.Need-returns
+returns c =
+    let a = c .before .before .before in
+    let x = a .before .args .x in
+    let s = sym (c .before .before .is-sign-negative .ensures) ∙ c .before .if1 .taken in
+    only-nearest (a .before .args .rounding) x _
+    (minus-result (a .before .args .rounding) x (a .abs .result) (a .abs .ensures) (a .abs .ok) (a .before .pre) (c .times .result) s (c .times .ensures .0) (c .times .ensures .1))
+
+returns-2 : tie.Need-returns-2
+returns-2 c =
+    let a = c .before .before .before in
+    let x = a .before .args .x in
+    let s = sym (c .before .before .is-sign-negative .ensures) ∙ c .before .if1 .left in
+    only-nearest (a .before .args .rounding) x _
+    (plus-result (a .before .args .rounding) x (a .abs .result) (a .abs .ensures) (a .abs .ok) (a .before .pre) (c .times2 .result) s (c .times2 .ensures .0) (c .times2 .ensures .1))
+
 abs-requires : tie.Need-abs-requires
 abs-requires c κs = search needs
 
@@ -34,22 +50,6 @@ times-requires-2 c κs = (small (c .before .before), lit≤ tt)
 
 cast-result-2 : tie.Need-cast-result-2
 cast-result-2 c = search needs
-
-returns : tie.Need-returns
-returns c =
-    let a = c .before .before .before in
-    let x = a .before .args .x in
-    let s = sym (c .before .before .is-sign-negative .ensures) ∙ c .before .if1 .taken in
-    only-nearest (a .before .args .rounding) x _
-    (minus-result (a .before .args .rounding) x (a .abs .result) (a .abs .ensures) (a .abs .ok) (a .before .pre) (c .times .result) s (c .times .ensures .0) (c .times .ensures .1))
-
-returns-2 : tie.Need-returns-2
-returns-2 c =
-    let a = c .before .before .before in
-    let x = a .before .args .x in
-    let s = sym (c .before .before .is-sign-negative .ensures) ∙ c .before .if1 .left in
-    only-nearest (a .before .args .rounding) x _
-    (plus-result (a .before .args .rounding) x (a .abs .result) (a .abs .ensures) (a .abs .ok) (a .before .pre) (c .times2 .result) s (c .times2 .ensures .0) (c .times2 .ensures .1))
 
 pub millimetres-spec : {M : Type 1} → statement M
 millimetres-spec =
