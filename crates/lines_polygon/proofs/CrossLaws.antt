@@ -1,4 +1,5 @@
--- Rounding keeps the order of sums, products and quotients, so a side that ends left of a point is not crossed to the right of it. Assumes nothing.
+-- Rounding keeps the order of sums, products and quotients, so a side that ends left of a point is not crossed to the right of it, and one that
+-- starts right of a point is crossed wherever the point's height parts its ends. Assumes nothing.
 use mathlib.Core.Path.{_≡_, refl, sym, ap, _∙_, subst}
 use mathlib.Core.Bool.{Bool, true, false, not, cond, _&&_, Bool·beq, true≢false, false≢true}
 use Prim.Native.Nat.{ℕ, zero, suc, _+_, _-_, _*_, _^_, _≤_, _<_}
@@ -11,14 +12,14 @@ use lib.Ieee.Fits.{up-pos, down-pos, round-is}
 use lib.Ieee.Order.{round-mono}
 use lib.Ieee.Scale.{round-same}
 use borrow.Author.Tests.{ltb-true, ltb-false, le-ltb}
-use Rattle.arith.specs.F64.{_⊕_, _⊖_, _⊗_, _⊘_, _≺_, _≼_, 0·0, finite, fmax}
+use Rattle.arith.specs.F64.{_⊕_, _⊖_, _⊗_, _⊘_, _≺_, _≼_, 0·0, finite, fmin, fmax}
 use Rattle.arith.specs.Polygon.{crosses}
 use Rattle.arith.specs.declared.Vec2.{Vec2}
 use Rattle.lines_polygon.proofs.OrderLaws.{plus, minus, AtMost, below-false, at-most-true, at-most-is, at-most-by, plus-by, minus-by, below-through, through-below, most-through, below-not-below}
 
 -- ---- rounding and the sign
 
-abbrev nought : Float
+abbrev pub nought : Float
 nought = fin false 0 (pos 0)
 
 is-true : (t : Bool) → T t → t ≡ true
@@ -38,7 +39,7 @@ units-neg q k = by (ltb (q * 2 ^ k) (2 ^ 2098))
     by true = odd-neg 54 q k 1074
     by false = refl
 
-round-neg : (a c : ℕ) → round binary64 true a c ≡ neg (round binary64 false a c)
+pub round-neg : (a c : ℕ) → round binary64 true a c ≡ neg (round binary64 false a c)
 round-neg a c = round-is binary64 true a c ∙ units-neg _ _ ∙ ap neg (sym (round-is binary64 false a c))
 
 round-zero : (s : Bool) (c : ℕ) → 0 < c → round binary64 s 0 c ≡ fin s 0 (pos 0)
@@ -72,10 +73,10 @@ most-neg (fin s m e) (fin t n d) h =
 
 -- ---- rounding keeps the order of fractions with signs
 
-round-plus : (a c b d : ℕ) → 0 < c → 0 < d → a * d ≤ b * c → (round binary64 false a c ≼ round binary64 false b d) ≡ true
+pub round-plus : (a c b d : ℕ) → 0 < c → 0 < d → a * d ≤ b * c → (round binary64 false a c ≼ round binary64 false b d) ≡ true
 round-plus a c b d C D h = is-true _ (round-mono binary64 a c b d C D h)
 
-not-less : (b d : ℕ) → 0 < d → (nought ≼ round binary64 false b d) ≡ true
+pub not-less : (b d : ℕ) → 0 < d → (nought ≼ round binary64 false b d) ≡ true
 not-less b d D =
     subst (λ (x : Float). (x ≼ round binary64 false b d) ≡ true) (round-zero false 1 (zero-lt-suc 0)) (round-plus 0 1 b d (zero-lt-suc 0) D (omega arith))
 
@@ -97,14 +98,14 @@ round-at-most a c b d C D false true h =
 
 -- ---- a sum is (p - q) / c rounded
 
-record Rounded (x : Float) (p q c : ℕ) : Type 0 where
-  sign : Bool
-  size : ℕ
-  is : x ≡ round binary64 sign size c
-  value : plus sign size + q ≡ minus sign size + p
+pub record Rounded (x : Float) (p q c : ℕ) : Type 0 where
+  pub sign : Bool
+  pub size : ℕ
+  pub is : x ≡ round binary64 sign size c
+  pub value : plus sign size + q ≡ minus sign size + p
 
 module _ (a b c : ℕ) where
-  sum-rounded : (s t : Bool) → Rounded (sum binary64 s a t b c) (plus s a + plus t b) (minus s a + minus t b) c
+  pub sum-rounded : (s t : Bool) → Rounded (sum binary64 s a t b c) (plus s a + plus t b) (minus s a + minus t b) c
   unfolding sum
   sum-rounded false false = record { sign = false; size = a + b; is = refl; value = omega arith }
   sum-rounded true true = record { sign = true; size = a + b; is = refl; value = omega arith }
@@ -197,7 +198,7 @@ module _ (s : Bool) (m : ℕ) (e : ℤ) (t : Bool) (n : ℕ) (d : ℤ) (h : (fin
       round-at-most (z * y) (down g * down d) (z * x) (down g * down e) (mul-pos (down-pos g) (down-pos d)) (mul-pos (down-pos g) (down-pos e)) (unlike true t) (unlike true s)
       (at-most-as (left-minus t) (omega arith) (left-minus s) (omega arith) (at-most-neg _ _ s t scaled))
 
-div-is : (s : Bool) (m : ℕ) (e : ℤ) (u : Bool) (o : ℕ) (g : ℤ) → fin s m e ⊘ fin u (suc o) g ≡ round binary64 (unlike s u) (m * up e * down g) (suc o * up g * down e)
+pub div-is : (s : Bool) (m : ℕ) (e : ℤ) (u : Bool) (o : ℕ) (g : ℤ) → fin s m e ⊘ fin u (suc o) g ≡ round binary64 (unlike s u) (m * up e * down g) (suc o * up g * down e)
 unfolding div
 div-is s m e u o g = rw (eqb·suc-zero o)
 
@@ -446,6 +447,26 @@ part-most : (x y z : Float) → Part x y → Larger y z → (x ≼ z) ≡ true
 part-most x y z (rising h k) l = most-through x y z k (l .of-y)
 part-most x y z (falling h k) l = most-through x nought z k (l .of-0)
 
+-- ---- the smaller of y and 0
+
+record Smaller (y z : Float) : Type 0 where
+  is-finite : finite z ≡ true
+  of-y : (z ≼ y) ≡ true
+  of-0 : (z ≼ nought) ≡ true
+
+is-smaller : (y : Float) → finite y ≡ true → Smaller y (fmin y nought)
+is-smaller nan f = absurd (false≢true (unfold finite in f))
+is-smaller (inf s) f = absurd (false≢true (unfold finite in f))
+is-smaller (fin s m e) f = unfold fmin isNan in by (nought ≺ fin s m e) refl
+  where
+    by : (t : Bool) → (nought ≺ fin s m e) ≡ t → Smaller (fin s m e) (cond t nought (fin s m e))
+    by true h = record { is-finite = unfold finite in refl; of-y = below-most nought (fin s m e) h; of-0 = self nought (unfold finite in refl) }
+    by false h = record { is-finite = f; of-y = self (fin s m e) f; of-0 = not-below-most false 0 (pos 0) s m e h }
+
+part-least : (x y z : Float) → Part x y → Smaller y z → (z ≼ x) ≡ true
+part-least x y z (rising h k) l = most-through z nought x (l .of-0) h
+part-least x y z (falling h k) l = most-through z y x (l .of-y) h
+
 -- ---- a sum left of x
 
 nothing-below : (x : Float) → (x ≺ inf true) ≡ false
@@ -461,6 +482,13 @@ nothing-above nan = refl
 nothing-above (inf s) = refl
 nothing-above (fin s m e) = refl
 
+below-nan : (x : Float) → (x ≺ nan) ≡ false
+unfolding lt
+below-nan nan = refl
+below-nan (inf true) = refl
+below-nan (inf false) = refl
+below-nan (fin s m e) = refl
+
 left-of : (r z c right x : Float) → finite r ≡ true → finite z ≡ true → (r ≼ z) ≡ true → (z ⊕ c ≼ right) ≡ true → (right ≺ x) ≡ true → (x ≺ r ⊕ c) ≡ false
 left-of nan z c right x f g h k l = absurd (false≢true (unfold finite in f))
 left-of (inf s) z c right x f g h k l = absurd (false≢true (unfold finite in f))
@@ -472,6 +500,20 @@ left-of (fin s m e) (fin t n d) (inf false) right x f g h k l = absurd (false≢
 left-of (fin s m e) (fin t n d) (fin u o c) right x f g h k l =
     let w = through-below (fin t n d ⊕ fin u o c) right x k l in
     below-not-below (fin s m e ⊕ fin u o c) x (through-below (fin s m e ⊕ fin u o c) (fin t n d ⊕ fin u o c) x (add-most s m e t n d h u o c) w)
+
+-- ---- a sum right of x
+
+right-of : (r z c left x : Float) → finite r ≡ true → finite z ≡ true → (z ≼ r) ≡ true → (left ≼ z ⊕ c) ≡ true → (x ≺ left) ≡ true → (x ≺ r ⊕ c) ≡ true
+right-of nan z c left x f g h k l = absurd (false≢true (unfold finite in f))
+right-of (inf s) z c left x f g h k l = absurd (false≢true (unfold finite in f))
+right-of (fin s m e) nan c left x f g h k l = absurd (false≢true (unfold finite in g))
+right-of (fin s m e) (inf t) c left x f g h k l = absurd (false≢true (unfold finite in g))
+right-of (fin s m e) (fin t n d) nan left x f g h k l =
+    let w : (x ≺ nan) ≡ true = below-through x left nan l (unfold add in k) in
+    absurd (false≢true (sym (below-nan x) ∙ w))
+right-of (fin s m e) (fin t n d) (inf u) left x f g h k l = unfold add in below-through x left (inf u) l (unfold add in k)
+right-of (fin s m e) (fin t n d) (fin u o c) left x f g h k l =
+    below-through x (fin t n d ⊕ fin u o c) (fin s m e ⊕ fin u o c) (below-through x left (fin t n d ⊕ fin u o c) l k) (add-most t n d s m e h u o c)
 
 zero-is : 0·0 ≡ nought
 unfolding ofBits
@@ -495,6 +537,16 @@ module _ (q a b : Vec2) (right : Float) where
       let j = larger w h in
       left-of r (fmax w nought) (a .x) right (q .x) (part-finite r w h i) (j .is-finite) (part-most r w (fmax w nought) i j) (rw zero-is at k) l
 
+module _ (q a b : Vec2) (left : Float) where
+  short : finite (d q a b left ⊗ f q a b left ⊘ f q a b left) ≡ true → (left ≼ fmin (d q a b left ⊗ f q a b left ⊘ f q a b left) 0·0 ⊕ a .x) ≡ true → (q .x ≺ left) ≡ true
+      → Part (q .y ⊖ a .y) (f q a b left) → (q .x ≺ d q a b left ⊗ (q .y ⊖ a .y) ⊘ f q a b left ⊕ a .x) ≡ true
+  short h k l p =
+      let r = d q a b left ⊗ (q .y ⊖ a .y) ⊘ f q a b left in
+      let w = d q a b left ⊗ f q a b left ⊘ f q a b left in
+      let i = part-quotient (d q a b left) (f q a b left) (q .y ⊖ a .y) (operands (d q a b left) (f q a b left) h) h p in
+      let j = is-smaller w h in
+      right-of r (fmin w nought) (a .x) left (q .x) (part-finite r w h i) (j .is-finite) (part-least r w (fmin w nought) i j) (rw zero-is at k) l
+
 -- Where the quotient is finite, so are the width, the height and the ends' heights, and the height is not zero.
 pub crosses-left : (q a b : Vec2) (right : Float)
     → finite ((b .x ⊖ a .x) ⊗ (b .y ⊖ a .y) ⊘ (b .y ⊖ a .y)) ≡ true
@@ -513,13 +565,34 @@ crosses-left q a b right h k l = by (q .y ≺ a .y) refl (q .y ≺ b .y) refl
     by true e false g = beyond q a b right h k l (part-falling (q .y) (a .y) (b .y) (second (b .y) (a .y) ends) (first (b .y) (a .y) ends) e g)
     by false e true g = beyond q a b right h k l (part-rising (q .y) (a .y) (b .y) (second (b .y) (a .y) ends) (first (b .y) (a .y) ends) e g)
 
--- a side whose ends are of one height is never crossed
-pub crosses-level : (q a b : Vec2) → (a .y ≼ b .y) ≡ true → (b .y ≼ a .y) ≡ true → crosses q (record { from = a; to = b }) ≡ false
+-- a side that lies to the right of the point is crossed where its ends lie above and below it
+pub crosses-right : (q a b : Vec2) (left : Float)
+    → finite ((b .x ⊖ a .x) ⊗ (b .y ⊖ a .y) ⊘ (b .y ⊖ a .y)) ≡ true
+    → (left ≼ fmin ((b .x ⊖ a .x) ⊗ (b .y ⊖ a .y) ⊘ (b .y ⊖ a .y)) 0·0 ⊕ a .x) ≡ true
+    → (q .x ≺ left) ≡ true
+    → crosses q (record { from = a; to = b }) ≡ not (Bool·beq (q .y ≺ a .y) (q .y ≺ b .y))
 unfolding crosses
-crosses-level q a b h k = by (q .y ≺ a .y) refl (q .y ≺ b .y) refl
+crosses-right q a b left h k l = by (q .y ≺ a .y) refl (q .y ≺ b .y) refl
   where
-    by : (s : Bool) → (q .y ≺ a .y) ≡ s → (t : Bool) → (q .y ≺ b .y) ≡ t → (not (Bool·beq s t) && (q .x ≺ (b .x ⊖ a .x) ⊗ (q .y ⊖ a .y) ⊘ (b .y ⊖ a .y) ⊕ a .x)) ≡ false
+    ends : finite (b .y ⊖ a .y) ≡ true
+    ends = divisor (b .x ⊖ a .x) (b .y ⊖ a .y) (operands (b .x ⊖ a .x) (b .y ⊖ a .y) h)
+
+    by : (s : Bool) → (q .y ≺ a .y) ≡ s → (t : Bool) → (q .y ≺ b .y) ≡ t → (not (Bool·beq s t) && (q .x ≺ (b .x ⊖ a .x) ⊗ (q .y ⊖ a .y) ⊘ (b .y ⊖ a .y) ⊕ a .x)) ≡ not (Bool·beq s t)
+    by true e true g = refl
+    by false e false g = refl
+    by true e false g = short q a b left h k l (part-falling (q .y) (a .y) (b .y) (second (b .y) (a .y) ends) (first (b .y) (a .y) ends) e g)
+    by false e true g = short q a b left h k l (part-rising (q .y) (a .y) (b .y) (second (b .y) (a .y) ends) (first (b .y) (a .y) ends) e g)
+
+-- a side whose ends are of one height is never crossed, and no height parts them
+pub level-together : (q a b : Vec2) → (a .y ≼ b .y) ≡ true → (b .y ≼ a .y) ≡ true → not (Bool·beq (q .y ≺ a .y) (q .y ≺ b .y)) ≡ false
+level-together q a b h k = by (q .y ≺ a .y) refl (q .y ≺ b .y) refl
+  where
+    by : (s : Bool) → (q .y ≺ a .y) ≡ s → (t : Bool) → (q .y ≺ b .y) ≡ t → not (Bool·beq s t) ≡ false
     by true e true g = refl
     by false e false g = refl
     by true e false g = absurd (true≢false (sym (below-through (q .y) (a .y) (b .y) e h) ∙ g))
     by false e true g = absurd (true≢false (sym (below-through (q .y) (b .y) (a .y) g k) ∙ e))
+
+pub crosses-level : (q a b : Vec2) → (a .y ≼ b .y) ≡ true → (b .y ≼ a .y) ≡ true → crosses q (record { from = a; to = b }) ≡ false
+unfolding crosses
+crosses-level q a b h k = rw (level-together q a b h k)

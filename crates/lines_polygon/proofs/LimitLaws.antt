@@ -21,7 +21,7 @@ use Rattle.lines_polygon.proofs.Laws.{sidesIn, side-at, in-range, sides
 
 -- ---- both of two tests
 
-both : (a b : Bool) → a && b ≡ true → (a ≡ true) × (b ≡ true)
+pub both : (a b : Bool) → a && b ≡ true → (a ≡ true) × (b ≡ true)
 both true true e = (refl, refl)
 both true false e = absurd (false≢true e)
 both false b e = absurd (false≢true e)
@@ -29,13 +29,13 @@ both false b e = absurd (false≢true e)
 not-first : (a b : Bool) → a ≡ false → a && b ≡ false
 not-first a b e = rw e
 
-not-second : (a b : Bool) → b ≡ false → a && b ≡ false
+pub not-second : (a b : Bool) → b ≡ false → a && b ≡ false
 not-second true b e = e
 not-second false b e = refl
 
 -- ---- the lower and the higher of two are among them
 
-min-one : (P : Float → Type 0) (b c : Float) → P b → P c → P (fmin b c)
+pub min-one : (P : Float → Type 0) (b c : Float) → P b → P c → P (fmin b c)
 unfolding fmin
 min-one P b c pb pc = either (isNan b || (c ≺ b))
   where
@@ -43,7 +43,7 @@ min-one P b c pb pc = either (isNan b || (c ≺ b))
     either true = pc
     either false = pb
 
-max-one : (P : Float → Type 0) (b c : Float) → P b → P c → P (fmax b c)
+pub max-one : (P : Float → Type 0) (b c : Float) → P b → P c → P (fmax b c)
 unfolding fmax
 max-one P b c pb pc = either (isNan b || (b ≺ c))
   where
@@ -76,7 +76,7 @@ ends l p e =
 
 -- ---- a side
 
-by-x : (q : Vec2) (s : Side Vec2) → between (q .x) (s .from .x) (s .to .x) ≡ false → onEdge q s ≡ false
+pub by-x : (q : Vec2) (s : Side Vec2) → between (q .x) (s .from .x) (s .to .x) ≡ false → onEdge q s ≡ false
 unfolding onEdge
 by-x q s e =
     not-second (onLine q s) (between (q .x) (s .from .x) (s .to .x) && between (q .y) (s .from .y) (s .to .y))
@@ -89,7 +89,7 @@ by-y q s e =
     (not-second (between (q .x) (s .from .x) (s .to .x)) (between (q .y) (s .from .y) (s .to .y)) e)
 
 -- below two lower ones, or above two higher ones
-under : (q a b : Float) → (q ≺ a ⊖ 1e-12) ≡ true → (q ≺ b ⊖ 1e-12) ≡ true → between q a b ≡ false
+pub under : (q a b : Float) → (q ≺ a ⊖ 1e-12) ≡ true → (q ≺ b ⊖ 1e-12) ≡ true → between q a b ≡ false
 unfolding between
 under q a b ha hb =
     not-first (fmin a b ⊖ 1e-12 ≼ q) (q ≼ fmax a b ⊕ 1e-12)
@@ -150,24 +150,24 @@ module _ (l : Limits) (a b : Vec2) (w : sideWithin l (record { from = a; to = b 
 
 -- ---- all sides
 
-module _ {A : Type 0} (p r : A → Bool) (h : (a : A) → p a ≡ true → r a ≡ false) where
-  all-first : (a : A) (l : List A) → allOf p (a ∷ l) ≡ true → (p a ≡ true) × (allOf p l ≡ true)
-  unfolding allOf
-  all-first a l e = by (p a) refl e
-    where
-      by : (t : Bool) → p a ≡ t → elim t [ true ↦ allOf p l | false ↦ false ] ≡ true → (p a ≡ true) × (allOf p l ≡ true)
-      by true g f = (g, f)
-      by false g f = absurd (false≢true f)
+pub all-first : {A : Type 0} (p : A → Bool) (a : A) (l : List A) → allOf p (a ∷ l) ≡ true → (p a ≡ true) × (allOf p l ≡ true)
+unfolding allOf
+all-first p a l e = by (p a) refl e
+  where
+    by : (t : Bool) → p a ≡ t → elim t [ true ↦ allOf p l | false ↦ false ] ≡ true → (p a ≡ true) × (allOf p l ≡ true)
+    by true g f = (g, f)
+    by false g f = absurd (false≢true f)
 
-  none-any : (l : List A) → allOf p l ≡ true → anyOf r l ≡ false
+module _ {A : Type 0} (p r : A → Bool) (h : (a : A) → p a ≡ true → r a ≡ false) where
+  pub none-any : (l : List A) → allOf p l ≡ true → anyOf r l ≡ false
   unfolding anyOf
   none-any [] e = refl
-  none-any (a ∷ l) e = let k = all-first a l e in rw (anyOf, h a (k .0), anyOf) (none-any l (k .1))
+  none-any (a ∷ l) e = let k = all-first p a l e in rw (anyOf, h a (k .0), anyOf) (none-any l (k .1))
 
   none-count : (l : List A) → allOf p l ≡ true → countWhere r l ≡ 0
   unfolding countWhere
   none-count [] e = refl
-  none-count (a ∷ l) e = let k = all-first a l e in rw (h a (k .0), none-count l (k .1))
+  none-count (a ∷ l) e = let k = all-first p a l e in rw (h a (k .0), none-count l (k .1))
 
 module _ (polygon : List Vec2) (l : Limits) (w : allOf (sideWithin l) (sides polygon) ≡ true) (q : Vec2) where
   none : ((s : Side Vec2) → sideWithin l s ≡ true → onEdge q s ≡ false) → ((s : Side Vec2) → sideWithin l s ≡ true → crosses q s ≡ false) → contains q polygon ≡ false
@@ -176,7 +176,7 @@ module _ (polygon : List Vec2) (l : Limits) (w : allOf (sideWithin l) (sides pol
       rw (none-any (sideWithin l) (onEdge q) a (sides polygon) w, none-count (sideWithin l) (crosses q) b (sides polygon) w)
       (not-second (leb 3 (length polygon)) false refl)
 
-within-outside : (polygon : List Vec2) (l : Limits) → allOf (sideWithin l) (sides polygon) ≡ true → Outside polygon l
+pub within-outside : (polygon : List Vec2) (l : Limits) → allOf (sideWithin l) (sides polygon) ≡ true → Outside polygon l
 within-outside polygon l w =
     record {
       below = λ q k. none polygon l w q (λ s i. edge-below l (s .from) (s .to) i q k) (λ s i. crosses-below l (s .from) (s .to) i q k);
