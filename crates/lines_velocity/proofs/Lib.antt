@@ -1,1 +1,2 @@
 pub mod VelocityLaws
+pub mod ReachLaws

@@ -1,11 +1,14 @@
 -- A tracer: the field that it traces in, and what the functions that take velocities and trace lines need of it.
 use Prim.Native.Nat.{ℕ}
 use mathlib.Core.Path.{_≡_}
+use mathlib.Core.Bool.{Bool}
 use mathlib.Core.List.{List}
 use lib.Ieee.{Float}
+use Rattle.arith.specs.Lists.{allOf}
 use Rattle.case_file.specs.declared.Opened.the-variants.{Case}
 use Rattle.case_file.specs.Trailer.{opened}
 use Rattle.mesh_area.specs.Layout.{LentWords, LentFloats}
+use Rattle.lines_polygon.specs.Vertices.{xyWithin}
 use Rattle.lines_locate.specs.Field.{StreamlineField}
 use Rattle.lines_locate.specs.Layout.{fieldIn}
 use Rattle.lines_locate.specs.Contracts.{LocateCellEntry}
@@ -14,6 +17,10 @@ use Rattle.lines_velocity.specs.declared.Tracer.{Tracer}
 -- the field that the area holds under a tracer
 unfoldable pub tracerField : Tracer → List ℕ → List Float → StreamlineField
 tracerField t words floats = fieldIn (t .grid) (t .sizes) words floats
+
+-- every vertex of every polygon lies within 1,048,576 each way, as refusal 10 leaves it
+unfoldable pub verticesWithin : StreamlineField → Bool
+verticesWithin f = allOf (λ c. allOf xyWithin (c .polygon)) (f .polygons)
 
 -- an area of the right sizes, and a grid whose bins can be searched
 pub record LocateEntry (words : List ℕ) (floats : List Float) (t : Tracer) : Type 0 where
