@@ -1,3 +1,4 @@
 pub mod MeshLaws
+pub mod WithinLaws
 pub mod Laws
 pub mod StepLaws

@@ -7,7 +7,7 @@ use mathlib.Core.List.{List, [], _∷_}
 use mathlib.Core.Logic.{_⊎_, inl, inr}
 use lib.ListN.{length, getD, List·getD-eq-default}
 use borrow.Author.Tests.{not-false}
-use Rattle.arith.specs.F64.{finite}
+use Rattle.arith.specs.F64.{finite, within}
 use Rattle.arith.specs.Lists.{allOf}
 use Rattle.arith.specs.Vec.{each3, origin}
 use Rattle.arith.specs.declared.Vec3.{Vec3}
@@ -29,7 +29,7 @@ use Rattle.lines_vertices.proofs.CellLaws.{cells-counted, faces-of-cells, limit
 use Rattle.lines_vertices.proofs.VertexLaws.{few-polygon-vertices}
 use Rattle.lines_vertices.proofs.LimitLaws.{all-limited}
 
-fine-same : {A : Type 0} {a b : A} → fine a ≡ fine b → a ≡ b
+pub fine-same : {A : Type 0} {a b : A} → fine a ≡ fine b → a ≡ b
 fine-same e = cc
 
 -- the value of each element
@@ -72,6 +72,7 @@ pub record FromDrafts (d : ℕ) (ps : List Vec3) (defs : List Definition) (m : M
   pub t : PartialMesh
   pub partial : partialMesh d ps defs ≡ fine t
   pub whole : allOf (each3 finite) ps ≡ true
+  pub near : allOf (each3 within) ps ≡ true
   pub over : (none : PartialCell) → Over ps t none m
 
 all-finite : (ps : List Vec3) (defs : List Definition) (u : Unit {0}) → acceptable ps defs ≡ fine u → allOf (each3 finite) ps ≡ true
@@ -80,6 +81,13 @@ all-finite ps defs u e =
     let b8 = bound _ _ _ e in
     let b9 = bound _ _ _ (b8 .then) in
     not-false _ (not-due 9 _ _ (b9 .had))
+
+all-within : (ps : List Vec3) (defs : List Definition) (u : Unit {0}) → acceptable ps defs ≡ fine u → allOf (each3 within) ps ≡ true
+unfolding acceptable
+all-within ps defs u e =
+    let b8 = bound _ _ _ e in
+    let b9 = bound _ _ _ (b8 .then) in
+    not-false _ (not-due 10 _ _ (b9 .then))
 
 joined-is : (ps : List Vec3) (fs : List Face) (cs : List Cell) (m : Mesh) → joined ps fs cs ≡ fine m → record { points = ps; faces = fs; cells = linked fs cs } ≡ m
 unfolding joined
@@ -113,6 +121,7 @@ from-drafts d ps defs m e =
       t = b2 .value;
       partial = b2 .had;
       whole = all-finite ps defs (b1 .value) (b1 .had);
+      near = all-within ps defs (b1 .value) (b1 .had);
       over = λ none. completed-over d ps (b2 .value) m none (b2 .then);
     }
 
@@ -133,6 +142,9 @@ module _ (d n : ℕ) (ps : List Vec3) (ws : List ℕ) (defs : List Definition) (
 
   pub mesh-few : d ≡ 2 → VertexLimit m
   mesh-few two = few-polygon-vertices d ps defs (f .t) m none two (f .partial) (f .whole) (λ i h. limited i h .faces) (f .over none)
+
+  pub mesh-within : allOf (each3 within) ps ≡ true
+  mesh-within = f .near
 
   own-few : (i : ℕ) → (i < length (f .t .cells)) ⊎ (length (f .t .cells) ≤ i) → length (cellAt (m .cells) i .faces) ≤ 24
   own-few i (inl h) =

@@ -33,8 +33,9 @@ use Rattle.lines_locate.specs.declared.Grid.{Grid}
 use Rattle.lines_field.specs.declared.Built as polygons
 use Rattle.lines_field.specs.declared.Built.the-variants as Traced
 use Rattle.lines_field.specs.Field.{polygonsOf, gridOf, fieldOf, builtGrid}
+use Rattle.lines_locate.specs.Field.{StreamlineField}
 use Rattle.lines_locate.specs.Layout.{fieldIn}
-use Rattle.lines_velocity.specs.Contracts.{tracerField}
+use Rattle.lines_velocity.specs.Contracts.{tracerField, verticesWithin}
 use Rattle.lines_field.specs.Contracts.{FromDatasetExit}
 use Rattle.lines_field.proofs.BuildLaws.{lent-words, lent-floats}
 use Rattle.planes_cut.specs.Contracts.{bare}
@@ -45,7 +46,8 @@ use Rattle.job_room.specs.declared.Place.the-variants.{Flat, Solid}
 use Rattle.job_room.specs.declared.Prepared.{Prepared}
 use Rattle.job_room.specs.declared.Prepared.the-variants as Prepared
 use Rattle.job_room.proofs.Laws.{prepared-then}
-use Rattle.job_room.proofs.MeshLaws.{mesh-count, mesh-few, mesh-bounded}
+use Rattle.job_room.proofs.MeshLaws.{mesh-count, mesh-few, mesh-within, mesh-bounded}
+use Rattle.job_room.proofs.WithinLaws.{vertex-within, field-within}
 
 -- ---- 6
 
@@ -116,6 +118,10 @@ module _ (case : List ℕ) (n : Counts) (s : Sizes) (w : List ℕ) (f : List Flo
   add-field-solid h =
       let e : roomFrom (n .dimension) m ≡ fine (solid m) = rw (ne-eqb (n .dimension) 2 h, roomFrom) in standing {p = Solid n s} e solid-stands
 
+  mesh-field-within : (k : StreamlineField) → fieldOf m ≡ fine k → verticesWithin k ≡ true
+  unfolding meshIn
+  mesh-field-within k e = field-within m (vertex-within case (n .points) (d .points-within)) k e
+
   module _ (two : n .dimension ≡ 2) (w′ : List ℕ) (f′ : List Float) where
     room-from-flat : roomFrom (n .dimension) m ≡ (fieldOf m >>= λ k. fine (flat k))
     unfolding roomFrom
@@ -148,6 +154,7 @@ module _ (case : List ℕ) (n : Counts) (s : Sizes) (w : List ℕ) (f : List Flo
                 record {
                   opens = d .opens;
                   area = record { lent-words = lent-words s w w′ (d .lent-words) lw; lent-floats = lent-floats s f f′ (d .lent-floats) lf; searchable = t .searchable g e };
+                  within = mesh-field-within (fieldIn g s w′ f′) (t .field g e);
                 };
           })
 
@@ -175,6 +182,7 @@ module _ (case : List ℕ) (n : Counts) (defs : List Definition) (k : ℕ) (w : 
           lent-floats = p .lent-floats;
           cells = sym (length-cellsIn s w f) ∙ mesh-count (n .dimension) (n .cells) (pointsIn case (n .points)) (wordsOf case n) defs (meshIn (pointsIn case (n .points)) s w f) r (p .mesh) ∙ length-definitions (n .cells) (wordsOf case n) defs r;
           few = mesh-few (n .dimension) (n .cells) (pointsIn case (n .points)) (wordsOf case n) defs (meshIn (pointsIn case (n .points)) s w f) r (p .mesh);
+          points-within = mesh-within (n .dimension) (n .cells) (pointsIn case (n .points)) (wordsOf case n) defs (meshIn (pointsIn case (n .points)) s w f) r (p .mesh);
           bounded = mesh-bounded (n .dimension) (n .cells) (pointsIn case (n .points)) (wordsOf case n) defs (meshIn (pointsIn case (n .points)) s w f) r (p .mesh);
         }
 

@@ -3,9 +3,13 @@
 -- `add_field`, `build_room` and `prepare`: `PrepareExit`. `shortage`: `Shortage`. `add_field`: `AddFieldEntry`.
 use Prim.Native.Nat.{ℕ, _≤_}
 use mathlib.Core.Path.{_≡_}
+use mathlib.Core.Bool.{true}
 use mathlib.Core.List.{List}
 use lib.ListN.{length}
 use lib.Ieee.{Float}
+use Rattle.arith.specs.F64.{within}
+use Rattle.arith.specs.Lists.{allOf}
+use Rattle.arith.specs.Vec.{each3}
 use Rattle.reading.specs.Result.{Result, refused, fine}
 use Rattle.case_file.specs.declared.Counts.{Counts}
 use Rattle.case_file.specs.declared.Opened.the-variants.{Case}
@@ -53,7 +57,7 @@ pub data PrepareExit (r : Result Room) (file words : List ℕ) (floats : List Fl
 unfoldable pub Shortage : Counts → ℕ → ℕ → Lent → ℕ → Type 0
 Shortage n faces requests lent r = (defs : List Definition) → faces ≡ facesCounted defs → shortage (record { counts = n; definitions = defs }) requests lent ≡ acceptedAs r
 
--- the mesh of a case stands in the area
+-- the mesh of a case stands in the area, and no point is "beyond 1,048,576 in size"
 pub record AddFieldEntry (case : List ℕ) (n : Counts) (s : Sizes) (words : List ℕ) (floats : List Float) : Type 0 where
   pub opens : opened case ≡ Case n
   pub lent-words : LentWords s words
@@ -61,3 +65,4 @@ pub record AddFieldEntry (case : List ℕ) (n : Counts) (s : Sizes) (words : Lis
   pub cells : s .cells ≡ n .cells
   pub few : n .dimension ≡ 2 → VertexLimit (meshIn (pointsIn case (n .points)) s words floats)
   pub bounded : MeshLimits (meshIn (pointsIn case (n .points)) s words floats)
+  pub points-within : allOf (each3 within) (pointsIn case (n .points)) ≡ true

@@ -1,7 +1,7 @@
 -- A tracer: the field that it traces in, and what the functions that take velocities and trace lines need of it.
 use Prim.Native.Nat.{ℕ}
 use mathlib.Core.Path.{_≡_}
-use mathlib.Core.Bool.{Bool}
+use mathlib.Core.Bool.{Bool, true}
 use mathlib.Core.List.{List}
 use lib.Ieee.{Float}
 use Rattle.arith.specs.Lists.{allOf}
@@ -28,7 +28,8 @@ pub record LocateEntry (words : List ℕ) (floats : List Float) (t : Tracer) : T
   pub lent-floats : LentFloats (t .sizes) floats
   pub searchable : LocateCellEntry (t .grid) (t .sizes) words floats
 
--- the same, and a case that opens
+-- the same, a case that opens, and vertices that are not far out
 pub record TracerEntry (case words : List ℕ) (floats : List Float) (t : Tracer) : Type 0 where
   pub opens : opened case ≡ Case (t .counts)
   pub area : LocateEntry words floats t
+  pub within : verticesWithin (tracerField t words floats) ≡ true
