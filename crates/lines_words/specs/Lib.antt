@@ -1,0 +1,4 @@
+pub mod Sheet
+pub mod Words
+pub mod Pen
+pub mod Contracts
