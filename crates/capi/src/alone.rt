@@ -7,7 +7,7 @@ use job_promise::number_of;
 ghost use lib.ListN.{length};
 ghost use Rattle.job_requests.specs.Encode.{bytesOf};
 ghost use Rattle.job_promise.specs.Promise.{JobPromise};
-ghost use Rattle.job_encoding.specs.Single.{locateWords, velocityWords, streamlineWords, rakeWords, sectionWords, statisticsWords, integralsWords, probeWords};
+ghost use Rattle.job_encoding.specs.Single.{locateWords, velocityWords, streamlineWords, sheetWords, rakeWords, sectionWords, statisticsWords, integralsWords, probeWords};
 ghost use Rattle.capi_values.specs.Convert.{vectorOf, planeOf, settingsOf, rakeOf};
 
 // The cell at a point.
@@ -62,6 +62,34 @@ pub extern "C" fn hookyellow_streamline(
         (record { result = r; answers = now (answers .exit); marks = now (marks .exit) }) ⌝ }
 {
     number_of(job_single::streamline(
+        case,
+        convert::vector(seed),
+        convert::settings(backward, options),
+        words,
+        floats,
+        marks,
+        answers,
+    ))
+}
+
+// The sheet of the line from a seed.
+#[no_mangle]
+pub extern "C" fn hookyellow_sheet(
+    case: &[u8],
+    seed: Vector,
+    backward: bool,
+    options: LineOptions,
+    words: &mut [u32],
+    floats: &mut [f64],
+    marks: &mut [u8],
+    answers: &mut [u64],
+) -> u64
+    ensures { λ r. ⌜ JobPromise (now (case .entry))
+        (bytesOf (sheetWords (vectorOf seed) (settingsOf backward options)))
+        (length (now (words .entry))) (length (now (floats .entry))) (now (answers .entry)) (now (marks .entry))
+        (record { result = r; answers = now (answers .exit); marks = now (marks .exit) }) ⌝ }
+{
+    number_of(job_single::sheet(
         case,
         convert::vector(seed),
         convert::settings(backward, options),

@@ -21,7 +21,7 @@ use Rattle.answers.specs.Words.{vecWords}
 use Rattle.job_requests.specs.Requests.{requestsIn}
 use Rattle.job_requests.specs.Encode.{bytesOf}
 use Rattle.job_requests.proofs.EncodeLaws.{Word, length-bytesOf, one-request}
-use Rattle.job_encoding.specs.Single.{padded, directionWord, lineWords, planeWords, locateWords, velocityWords, streamlineWords, rakeWords, sectionWords, statisticsWords, integralsWords, probeWords}
+use Rattle.job_encoding.specs.Single.{padded, directionWord, lineWords, planeWords, locateWords, velocityWords, oneLineWords, rakeWords, sectionWords, statisticsWords, integralsWords, probeWords}
 
 -- ---- the words that are stored
 
@@ -38,9 +38,9 @@ unfolding velocityWords padded vecWords
 velocity-stored p e = e
 
 module _ (s : StreamlineSettings) where
-  pub streamline-stored : (seed : Vec3) {ws ws′ : List ℕ} → ws ≡ sets (coded 3) 1 (vecWords seed) → ws′ ≡ sets ws 4 (lineWords s) → ws′ ≡ streamlineWords seed s
-  unfolding streamlineWords padded vecWords lineWords
-  streamline-stored seed e f = rw e at f
+  pub one-line-stored : (code : ℕ) (seed : Vec3) {ws ws′ : List ℕ} → ws ≡ sets (coded code) 1 (vecWords seed) → ws′ ≡ sets ws 4 (lineWords s) → ws′ ≡ oneLineWords code seed s
+  unfolding oneLineWords padded vecWords lineWords
+  one-line-stored code seed e f = rw e at f
 
   pub rake-stored : (r : Rake) {ws ws′ ws″ : List ℕ} → ws ≡ sets (coded 4) 1 (vecWords (r .start)) → ws′ ≡ sets ws 4 (vecWords (r .end))
       → ws″ ≡ sets (set ws′ 7 (r .count)) 8 (lineWords s) → ws″ ≡ rakeWords r s
@@ -141,10 +141,10 @@ pub record RakeHeld (r : Rake) : Type 0 where
   pub count : Word (r .count)
 
 module _ (s : StreamlineSettings) (l : OptionsHeld (s .options)) where
-  pub streamline-whole : (seed : Vec3) → F64s seed → Whole (streamlineWords seed s)
-  unfolding streamlineWords vecWords lineWords
-  streamline-whole seed h =
-      padded-whole (3 ∷ (vecWords seed ++ lineWords s)) (omega arith) (omega arith, all-append Word (vecWords seed) (lineWords s) (vec-words seed h) (line-words s l))
+  pub one-line-whole : (code : ℕ) (seed : Vec3) → Word code → F64s seed → Whole (oneLineWords code seed s)
+  unfolding oneLineWords vecWords lineWords
+  one-line-whole code seed w h =
+      padded-whole (code ∷ (vecWords seed ++ lineWords s)) (omega arith) (w, all-append Word (vecWords seed) (lineWords s) (vec-words seed h) (line-words s l))
 
   pub rake-whole : (r : Rake) → RakeHeld r → Whole (rakeWords r s)
   unfolding rakeWords vecWords lineWords
@@ -186,8 +186,8 @@ pub velocity-alone : (p : Vec3) → F64s p → Alone (velocityWords p)
 velocity-alone p h = list-of-one (velocity-whole p h)
 
 module _ (s : StreamlineSettings) (l : OptionsHeld (s .options)) where
-  pub streamline-alone : (seed : Vec3) → F64s seed → Alone (streamlineWords seed s)
-  streamline-alone seed h = list-of-one (streamline-whole s l seed h)
+  pub one-line-alone : (code : ℕ) (seed : Vec3) → Word code → F64s seed → Alone (oneLineWords code seed s)
+  one-line-alone code seed w h = list-of-one (one-line-whole s l code seed w h)
 
   pub rake-alone : (r : Rake) → RakeHeld r → Alone (rakeWords r s)
   rake-alone r h = list-of-one (rake-whole s l r h)

@@ -14,6 +14,8 @@ use Rattle.lines.specs.declared.StreamlineDirection.{StreamlineDirection}
 use Rattle.lines.specs.declared.StreamlineDirection.the-variants.{Forward, Backward}
 use Rattle.lines.specs.declared.StreamlineSettings.{StreamlineSettings}
 use Rattle.lines.specs.declared.Rake as declared
+use Rattle.lines_millimetres.specs.declared.Rounding.the-variants.{AwayFromZero}
+use Rattle.lines_words.specs.declared.Style.the-variants.{Points, Sheet}
 use Rattle.planes_cut.specs.declared.Plane.{Plane}
 use Rattle.planes_cut.specs.Plane.{planeRefusal}
 use Rattle.answers.specs.Words.{vecWords}
@@ -21,7 +23,7 @@ use Rattle.job_requests.specs.Requests.{number, real, point, refuseIf, unusedSe
 use Rattle.job_requests.specs.Codes.{row, unknown, codes, codeOf, isUnknown}
 use Rattle.job_requests.specs.declared.Request.{Request}
 use Rattle.job_requests.specs.declared.Request.the-variants.{Locate, Velocity, Streamline, Rake, Section, Statistics, Integrals, Probe}
-use Rattle.job_encoding.specs.Single.{padded, directionWord, lineWords, planeWords, locateWords, velocityWords, streamlineWords, rakeWords, sectionWords, statisticsWords, integralsWords, probeWords}
+use Rattle.job_encoding.specs.Single.{padded, directionWord, lineWords, planeWords, locateWords, velocityWords, oneLineWords, streamlineWords, sheetWords, rakeWords, sectionWords, statisticsWords, integralsWords, probeWords}
 use Rattle.job_encoding.proofs.Laws.{F64, F64s, OptionsHeld, RakeHeld, PlaneHeld}
 
 -- ---- one float, one point, one plane, and a line's direction and options
@@ -61,12 +63,16 @@ pub velocity-read : (p : Vec3) → F64s p → requestOf true (velocityWords p) �
 unfolding taken-apart velocityWords
 velocity-read p h = ap Velocity (vec-back p h)
 
--- ---- codes 3 and 4: refusals 32 and 33 are by the arguments
+-- ---- codes 3, 4 and 13: refusals 32 and 33 are by the arguments
 
 module _ (s : StreamlineSettings) (l : OptionsHeld (s .options)) where
-  pub streamline-read : (seed : Vec3) → F64s seed → requestOf true (streamlineWords seed s) ≡ refuseIf 33 (ltb 65536 (s .options .«max_steps»)) (Streamline seed s)
-  unfolding taken-apart streamline settings direction options streamlineWords lineWords
+  pub streamline-read : (seed : Vec3) → F64s seed → requestOf true (streamlineWords seed s) ≡ refuseIf 33 (ltb 65536 (s .options .«max_steps»)) (Streamline seed s Points)
+  unfolding taken-apart streamline settings direction options oneLineWords lineWords
   streamline-read seed h = rw (good-direction (s .direction), direction-back (s .direction), vec-back seed h, options-back (s .options) l)
+
+  pub sheet-read : (seed : Vec3) → F64s seed → requestOf true (sheetWords seed s) ≡ refuseIf 33 (ltb 65536 (s .options .«max_steps»)) (Streamline seed s (Sheet AwayFromZero))
+  unfolding taken-apart streamline settings direction options oneLineWords lineWords
+  sheet-read seed h = rw (good-direction (s .direction), direction-back (s .direction), vec-back seed h, options-back (s .options) l)
 
   pub rake-read : (r : declared.Rake) → RakeHeld r
       → requestOf true (rakeWords r s) ≡ refuseIf 32 (ltb (r .count) 2) (refuseIf 33 (ltb 64 (r .count)) (refuseIf 33 (ltb 65536 (s .options .«max_steps»)) (Rake r s)))

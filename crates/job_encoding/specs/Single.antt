@@ -1,6 +1,7 @@
 -- The words of one request, for each code. "Request: 16 words of 8 bytes, the code first, then the arguments; words not used are zero."
 -- `padded`: all 16 words. `directionWord`, `lineWords`: the settings of a line. `planeWords`: a plane.
 -- `locateWords`, `velocityWords`, `streamlineWords`, `rakeWords`, `sectionWords`, `statisticsWords`, `integralsWords`, `probeWords`: codes 1 to 8.
+-- `oneLineWords`: a line by its code. `sheetWords`: code 13.
 use Prim.Native.Nat.{ℕ, _-_}
 use mathlib.Core.List.{List, [], _∷_, _++_}
 use lib.ListN.{length, replicate}
@@ -44,9 +45,17 @@ locateWords p = padded (1 ∷ vecWords p)
 unfoldable pub velocityWords : Vec3 → List ℕ
 velocityWords p = padded (2 ∷ vecWords p)
 
--- "3 streamline: seed, direction .."
-unfoldable pub streamlineWords : Vec3 → StreamlineSettings → List ℕ
-streamlineWords seed s = padded (3 ∷ (vecWords seed ++ lineWords s))
+-- one line, by a code: "seed, direction .."
+unfoldable pub oneLineWords : ℕ → Vec3 → StreamlineSettings → List ℕ
+oneLineWords code seed s = padded (code ∷ (vecWords seed ++ lineWords s))
+
+-- "3 streamline"
+abbrev pub streamlineWords : Vec3 → StreamlineSettings → List ℕ
+streamlineWords seed s = oneLineWords 3 seed s
+
+-- "Code 13 takes a streamline's arguments"
+abbrev pub sheetWords : Vec3 → StreamlineSettings → List ℕ
+sheetWords seed s = oneLineWords 13 seed s
 
 -- "4 rake: start, end, seed count, then as 3 from direction on."
 unfoldable pub rakeWords : Rake → StreamlineSettings → List ℕ

@@ -10,7 +10,7 @@ ghost use mathlib.Core.Path.{_≡_};
 ghost use Prim.Native.Nat.{_<_};
 ghost use lib.Seq.{sets};
 ghost use Rattle.job_requests.specs.Encode.{bytesOf};
-ghost use Rattle.job_encoding.specs.Single.{directionWord, lineWords, planeWords, locateWords, velocityWords, streamlineWords, rakeWords, sectionWords, statisticsWords, integralsWords, probeWords};
+ghost use Rattle.job_encoding.specs.Single.{directionWord, lineWords, planeWords, locateWords, velocityWords, oneLineWords, streamlineWords, sheetWords, rakeWords, sectionWords, statisticsWords, integralsWords, probeWords};
 
 // 0 forward, 1 backward.
 fn direction_word(d: StreamlineDirection) -> u64
@@ -74,15 +74,29 @@ pub fn velocity(p: Vec3) -> [u8; 128]
     encoded(&request)
 }
 
+// One line, by a code.
+fn one_line(code: u64, seed: Vec3, settings: StreamlineSettings) -> [u8; 128]
+    ensures { λ r. ⌜ r ≡ bytesOf (oneLineWords code seed settings) ⌝ }
+{
+    let mut request = [0; 16];
+    request[0] = code;
+    answers::put_vec(&mut request, 1, seed);
+    put_line(&mut request, 4, settings);
+    encoded(&request)
+}
+
 // The line from a seed.
 pub fn streamline(seed: Vec3, settings: StreamlineSettings) -> [u8; 128]
     ensures { λ r. ⌜ r ≡ bytesOf (streamlineWords seed settings) ⌝ }
 {
-    let mut request = [0; 16];
-    request[0] = 3;
-    answers::put_vec(&mut request, 1, seed);
-    put_line(&mut request, 4, settings);
-    encoded(&request)
+    one_line(3, seed, settings)
+}
+
+// Its sheet.
+pub fn sheet(seed: Vec3, settings: StreamlineSettings) -> [u8; 128]
+    ensures { λ r. ⌜ r ≡ bytesOf (sheetWords seed settings) ⌝ }
+{
+    one_line(13, seed, settings)
 }
 
 // The lines from the seeds of a rake.

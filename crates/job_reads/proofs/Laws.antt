@@ -36,7 +36,7 @@ unfolding serveFlat
 flat-within n f h (requests.Refused k) = given
 flat-within n f h (requests.Locate p) = given
 flat-within n f h (requests.Velocity p) = within-bind (velocity-within n f h p) (λ v. given)
-flat-within n f h (requests.Streamline p s) = integrate-within n f h p s
+flat-within n f h (requests.Streamline p s style) = integrate-within n f h p s style
 flat-within n f h (requests.Rake r s) = rake-within n f h r s
 flat-within n f h (requests.Section s) = given
 flat-within n f h (requests.Statistics s field) = given
@@ -48,7 +48,7 @@ unfolding serveSolid
 solid-within n m h (requests.Refused k) = given
 solid-within n m h (requests.Locate p) = given
 solid-within n m h (requests.Velocity p) = given
-solid-within n m h (requests.Streamline p s) = given
+solid-within n m h (requests.Streamline p s style) = given
 solid-within n m h (requests.Rake r s) = given
 solid-within n m h (requests.Section s) = section-within n m h s
 solid-within n m h (requests.Statistics s field) = statistics-within n m h s field

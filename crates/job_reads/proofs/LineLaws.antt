@@ -28,6 +28,8 @@ use Rattle.lines_step.specs.declared.StreamlineOptions.{StreamlineOptions}
 use Rattle.lines_step.specs.RungeKutta.{fourth, third, second, rungeKutta}
 use Rattle.lines_step.specs.Step.{rk4Step, step}
 use Rattle.lines.specs.declared.Rake.{Rake}
+use Rattle.lines_words.specs.declared.Style.{Style}
+use Rattle.lines_words.specs.declared.Style.the-variants.{Points}
 use Rattle.lines.specs.declared.StreamlineSettings.{StreamlineSettings}
 use Rattle.lines.specs.Line.{signedStep, onward, lineFrom, pointsAfter, line, lineAnswer, integrate}
 use Rattle.lines.specs.Rake.{linesWords, integrateRake}
@@ -164,18 +166,18 @@ module _ (n : ℕ) (f : StreamlineField) (sound : Sound n f) where
   unfolding line pointsAfter
   line-within s seed = within-bind (line-from-within (s .options) (signedStep s) (s .options .«max_steps») seed 0·0) (λ l. given)
 
-  line-answer-within : (s : StreamlineSettings) (seed : Vec3) → Within n (lineAnswer f s seed)
+  line-answer-within : (style : Style) (s : StreamlineSettings) (seed : Vec3) → Within n (lineAnswer f style s seed)
   unfolding lineAnswer
-  line-answer-within s seed = within-bind (line-within s seed) (λ l. given)
+  line-answer-within style s seed = within-bind (line-within s seed) (λ l. given)
 
   lines-within : (s : StreamlineSettings) (ps : List Vec3) → Within n (linesWords f s ps)
   unfolding linesWords
   lines-within s [] = given
-  lines-within s (p ∷ ps) = within-bind (line-answer-within s p) (λ l. within-bind (lines-within s ps) (λ ws. given))
+  lines-within s (p ∷ ps) = within-bind (line-answer-within Points s p) (λ l. within-bind (lines-within s ps) (λ ws. given))
 
-  pub integrate-within : (p : Vec3) (s : StreamlineSettings) → Within n (decided (integrate f p s))
+  pub integrate-within : (p : Vec3) (s : StreamlineSettings) (style : Style) → Within n (decided (integrate f p s style))
   unfolding integrate
-  integrate-within p s = unless-within n 34 35 _ _ _ (line-answer-within s p)
+  integrate-within p s style = unless-within n 34 35 _ _ _ (line-answer-within style s p)
 
   pub rake-within : (r : Rake) (s : StreamlineSettings) → Within n (decided (integrateRake f r s))
   unfolding integrateRake

@@ -23,6 +23,9 @@ use Rattle.planes_sums.specs.Integrals.{isValid, addIntegral, noIntegrals, inte
 use Rattle.planes_samples.specs.Sampling.{Taken, taken, complete, sample}
 use Rattle.planes.specs.Answers.{sampled, sectionOf, statisticsOf, integralsOf, probeOf}
 use Rattle.lines.specs.declared.Rake.{Rake}
+use Rattle.lines_millimetres.specs.declared.Rounding.the-variants.{AwayFromZero}
+use Rattle.lines_words.specs.declared.Style.{Style}
+use Rattle.lines_words.specs.declared.Style.the-variants.{Points, Sheet}
 use Rattle.lines.specs.declared.StreamlineSettings.{StreamlineSettings}
 use Rattle.lines.specs.Line.{integrate}
 use Rattle.lines.specs.Rake.{integrateRake}
@@ -43,7 +46,7 @@ data Good : Request → Type 0 where
   refusal : (k : ℕ) → among 30 44 k ≡ true → Good (requests.Refused k)
   locate : {p : Vec3} → Good (requests.Locate p)
   velocity : {p : Vec3} → Good (requests.Velocity p)
-  line : {p : Vec3} {s : StreamlineSettings} → Good (requests.Streamline p s)
+  line : {p : Vec3} {s : StreamlineSettings} {style : Style} → Good (requests.Streamline p s style)
   lines : {r : Rake} {s : StreamlineSettings} → Good (requests.Rake r s)
   section : {s : Plane} → Good (requests.Section s)
   sums : {s : Plane} {field : ℕ} → Good (requests.Statistics s field)
@@ -66,9 +69,13 @@ good-plane false true g = refusal 37 refl
 good-plane false false g = g
 
 module _ (r : List ℕ) where
-  good-lines : (k : ℕ) → Good (streamline r k) × Good (rake r k)
-  unfolding streamline rake rakeOf
-  good-lines k = (good-unless 33 _ refl line, good-unless 32 _ refl (good-unless 33 _ refl (good-unless 33 _ refl lines)))
+  good-line : (k : ℕ) (style : Style) → Good (streamline r k style)
+  unfolding streamline
+  good-line k style = good-unless 33 _ refl line
+
+  good-rake : (k : ℕ) → Good (rake r k)
+  unfolding rake rakeOf
+  good-rake k = good-unless 32 _ refl (good-unless 33 _ refl (good-unless 33 _ refl lines))
 
   good-planes : (code : ℕ) → Good (planar r code)
   unfolding planar planeRefusal overPlane fieldStatistics
@@ -82,7 +89,8 @@ module _ (r : List ℕ) where
       let code = number r 0 in
       good-unless 30 _ refl (good-unless 31 _ refl
       (good-either (eqb code 1) locate (good-either (eqb code 2) velocity
-      (good-either (eqb code 3) (good-lines _ .0) (good-either (eqb code 4) (good-lines _ .1) (good-planes code))))))
+      (good-either (eqb code 3) (good-line _ Points) (good-either (eqb code 4) (good-rake _)
+      (good-either (eqb code 13) (good-line _ (Sheet AwayFromZero)) (good-planes code)))))))
 
 module _ (f : ℕ → Values) where
   -- a tree that gives what h makes of its answer

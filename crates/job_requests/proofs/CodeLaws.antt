@@ -1,5 +1,5 @@
 -- The table of codes, row by row. Assumes nothing.
-use Prim.Native.Nat.{ℕ, suc, _≤_, _<_}
+use Prim.Native.Nat.{ℕ, zero, suc, _+_, _-_, _≤_, _<_}
 use native.Mathlib.Omega.{arith}
 use mathlib.Core.Path.{_≡_, refl, ap, sym, _∙_}
 use mathlib.Core.Logic.{_⊎_, inl, inr, _≢_}
@@ -23,10 +23,22 @@ module _ (code : ℕ) {r : Code} where
   pub row-is : (n : ℕ) {s : Code} → s .line < 12 → s ≡ codeOf n → code ≡ n → r ≡ s → Row code r
   row-is n l e k h = row-by l (e ∙ ap codeOf (sym k)) h
 
-  pub row-unknown : (1 ≤ code → 9 ≤ code) → r ≡ row 0 0 0 → Row code r
+  -- no code: 0, 9 to 12, and from 14 on
+  pub row-unknown : (1 ≤ code → 9 ≤ code) → code ≢ 13 → r ≡ row 0 0 0 → Row code r
   unfolding codeOf codes unknown row
-  row-unknown h e = row-by (omega arith) (by (lt-or-ge code 1)) e
+  row-unknown h n e = row-by (omega arith) (by (lt-or-ge code 1) (lt-or-ge code 14)) e
     where
-      by : (code < 1) ⊎ (1 ≤ code) → unknown ≡ codeOf code
-      by (inl l) = let z : code ≡ 0 = omega arith in ap codeOf (sym z)
-      by (inr l) = sym (List·getD-eq-default codes unknown (h l))
+      nine : (k : ℕ) → k < 4 → unknown ≡ codeOf (9 + k)
+      nine zero l = refl
+      nine (suc zero) l = refl
+      nine (suc (suc zero)) l = refl
+      nine (suc (suc (suc zero))) l = refl
+      nine (suc (suc (suc (suc k)))) l = absurd (omega arith)
+
+      by : (code < 1) ⊎ (1 ≤ code) → (code < 14) ⊎ (14 ≤ code) → unknown ≡ codeOf code
+      by (inl l) t = let z : code ≡ 0 = omega arith in ap codeOf (sym z)
+      by (inr l) (inl t) =
+          let g = h l in
+          let z : 9 + (code - 9) ≡ code = omega arith in
+          nine (code - 9) (omega arith) ∙ ap codeOf z
+      by (inr l) (inr t) = sym (List·getD-eq-default codes unknown t)

@@ -13,6 +13,9 @@ use Rattle.arith.specs.Lists.{anyOf}
 use Rattle.arith.proofs.ListLaws.{any-here, any-next}
 use Rattle.arith.proofs.RecordLaws.{drop-end}
 use Rattle.case_file.proofs.ReadLaws.{length-readAll, getD-readAll}
+use Rattle.lines_millimetres.specs.declared.Rounding.the-variants.{AwayFromZero}
+use Rattle.lines_words.specs.declared.Style.{Style}
+use Rattle.lines_words.specs.declared.Style.the-variants.{Points, Sheet}
 use Rattle.planes_cut.specs.declared.Plane.{Plane}
 use Rattle.job_requests.specs.declared.Code.{Code}
 use Rattle.job_requests.specs.declared.Request.{Request}
@@ -70,9 +73,9 @@ allowed-either true r q h k = h
 allowed-either false r q h k = k
 
 module _ (r : List ℕ) where
-  allowed-streamline : (k : ℕ) → Allowed (streamline r k)
+  allowed-streamline : (k : ℕ) (style : Style) → Allowed (streamline r k style)
   unfolding streamline Allowed
-  allowed-streamline k = allowed-unless 33 _ _ (ltb-false 65536 (settings r k .options .«max_steps»))
+  allowed-streamline k style = allowed-unless 33 _ _ (ltb-false 65536 (settings r k .options .«max_steps»))
 
   allowed-rake : (k : ℕ) → Allowed (rake r k)
   unfolding rake rakeOf Allowed
@@ -93,7 +96,8 @@ module _ (r : List ℕ) where
   unfolding byCode Allowed
   allowed-code code k =
       allowed-either (eqb code 1) _ _ tt (allowed-either (eqb code 2) _ _ tt
-      (allowed-either (eqb code 3) _ _ (allowed-streamline k) (allowed-either (eqb code 4) _ _ (allowed-rake k) (allowed-planar code))))
+      (allowed-either (eqb code 3) _ _ (allowed-streamline k Points) (allowed-either (eqb code 4) _ _ (allowed-rake k)
+      (allowed-either (eqb code 13) _ _ (allowed-streamline k (Sheet AwayFromZero)) (allowed-planar code)))))
 
   allowed-request : (flat : Bool) → Allowed (requestOf flat r)
   unfolding requestOf

@@ -9,7 +9,7 @@ unfoldable pub Allowed : Request → Type 0
 Allowed (Refused n) = Unit
 Allowed (Locate p) = Unit
 Allowed (Velocity p) = Unit
-Allowed (Streamline p s) = s .options .«max_steps» ≤ mostSteps
+Allowed (Streamline p s style) = s .options .«max_steps» ≤ mostSteps
 Allowed (Rake r s) = (2 ≤ r .count) × (r .count ≤ 64) × (s .options .«max_steps» ≤ mostSteps)
 Allowed (Section s) = Unit
 Allowed (Statistics s field) = Unit

@@ -34,6 +34,12 @@ codes =
     ∷ row 3 10 0
     -- 8 probe: as 5, then a point
     ∷ row 3 13 0
+    ∷ unknown
+    ∷ unknown
+    ∷ unknown
+    ∷ unknown
+    -- 13 sheet: as 3
+    ∷ row 2 9 4
     ∷ []
 
 -- the row of a code

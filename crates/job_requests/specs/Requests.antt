@@ -2,7 +2,7 @@
 -- `wordsAt`, `requestsIn`: the words of one request, and all requests.
 -- `number`, `real`, `point`: an argument as a whole number or a float, and three as a point. `refuseIf`: a refusal, where a test holds.
 -- `unusedSet`, `badDirection`, `illFormed`: refusal 30. `wrongDimension`: refusal 31.
--- `direction`, `options`, `settings`: the settings of a line. `streamline`: code 3. `rakeOf`, `rake`: code 4.
+-- `direction`, `options`, `settings`: the settings of a line. `streamline`: codes 3 and 13. `rakeOf`, `rake`: code 4.
 -- `planeOf`: the plane. `statistics`: code 6. `overPlane`, `planar`: codes 5 to 8.
 -- `byCode`, `requestOf`: all codes.
 use Prim.Native.Nat.{ℕ, _+_, _/_}
@@ -21,6 +21,9 @@ use Rattle.lines_step.specs.declared.StreamlineOptions.{StreamlineOptions}
 use Rattle.lines.specs.declared.StreamlineDirection.{StreamlineDirection}
 use Rattle.lines.specs.declared.StreamlineDirection.the-variants.{Forward, Backward}
 use Rattle.lines.specs.declared.StreamlineSettings.{StreamlineSettings}
+use Rattle.lines_millimetres.specs.declared.Rounding.the-variants.{AwayFromZero}
+use Rattle.lines_words.specs.declared.Style.{Style}
+use Rattle.lines_words.specs.declared.Style.the-variants.{Points, Sheet}
 use Rattle.planes_cut.specs.declared.Plane.{Plane}
 use Rattle.planes_cut.specs.Plane.{planeRefusal}
 use Rattle.job_requests.specs.declared.Code.{Code}
@@ -91,8 +94,8 @@ unfoldable pub settings : List ℕ → ℕ → StreamlineSettings
 settings r k = record { direction = direction r k; options = options r k }
 
 -- refusal 33: "max_steps above 65,536"
-unfoldable pub streamline : List ℕ → ℕ → Request
-streamline r k = refuseIf 33 (ltb mostSteps (settings r k .options .«max_steps»)) (Streamline (point r 1) (settings r k))
+unfoldable pub streamline : List ℕ → ℕ → Style → Request
+streamline r k style = refuseIf 33 (ltb mostSteps (settings r k .options .«max_steps»)) (Streamline (point r 1) (settings r k) style)
 
 -- the same of a rake with so many seeds
 unfoldable pub rakeOf : List ℕ → ℕ → ℕ → Request
@@ -122,15 +125,16 @@ planar r code =
     let k = planeRefusal (planeOf r) in
     refuseIf k (not (eqb k 0)) (overPlane r code (planeOf r))
 
--- ---- all eight codes
+-- ---- all codes
 
 -- a request by its code; lines' arguments stand from word k on
 unfoldable pub byCode : List ℕ → ℕ → ℕ → Request
 byCode r code k =
     cond (eqb code 1) (Locate (point r 1))
     (cond (eqb code 2) (Velocity (point r 1))
-    (cond (eqb code 3) (streamline r k)
-    (cond (eqb code 4) (rake r k) (planar r code))))
+    (cond (eqb code 3) (streamline r k Points)
+    (cond (eqb code 4) (rake r k)
+    (cond (eqb code 13) (streamline r k (Sheet AwayFromZero)) (planar r code)))))
 
 -- "30 unknown code ..; 31 codes 1 to 4 need 2D, 5 to 8 need 3D", then by code
 unfoldable pub requestOf : Bool → List ℕ → Request

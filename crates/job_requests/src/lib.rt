@@ -7,7 +7,9 @@ use arith::bytes;
 use lines::Rake;
 use lines::StreamlineDirection;
 use lines::StreamlineSettings;
+use lines_millimetres::Rounding;
 use lines_step::StreamlineOptions;
+use lines_words::Style;
 use planes_cut::Plane;
 use planes_cut::axes;
 ghost use mathlib.Core.Path.{_≡_};
@@ -31,7 +33,7 @@ pub enum Request {
     Refused(u64),
     Locate(Vec3),
     Velocity(Vec3),
-    Streamline(Vec3, StreamlineSettings),
+    Streamline(Vec3, StreamlineSettings, Style),
     Rake(Rake, StreamlineSettings),
     Section(Plane),
     Statistics(Plane, u64),
@@ -147,15 +149,16 @@ fn settings(bytes: &[u8], at: usize, k: usize) -> StreamlineSettings
     }
 }
 
-fn streamline(bytes: &[u8], at: usize, k: usize) -> Request
+// A line, in a style.
+fn streamline(bytes: &[u8], at: usize, k: usize, style: Style) -> Request
     requires { ⌜ (at + 128 ≤ length (now bytes)) × (k < 12) ⌝ }
-    ensures { λ r. ⌜ r ≡ Requests.streamline (wordsAt (now (bytes .entry)) at) k ⌝ }
+    ensures { λ r. ⌜ r ≡ Requests.streamline (wordsAt (now (bytes .entry)) at) k style ⌝ }
 {
     let s = settings(bytes, at, k);
     if s.options.max_steps > 65536 {
         return Request::Refused(33);
     }
-    Request::Streamline(point(bytes, at, 1), s)
+    Request::Streamline(point(bytes, at, 1), s, style)
 }
 
 // The lines from `count` seeds.
@@ -241,8 +244,9 @@ fn by_code(bytes: &[u8], at: usize, code: u64, k: usize) -> Request
     match code {
         1 => Request::Locate(point(bytes, at, 1)),
         2 => Request::Velocity(point(bytes, at, 1)),
-        3 => streamline(bytes, at, k),
+        3 => streamline(bytes, at, k, Style::Points),
         4 => rake(bytes, at, k),
+        13 => streamline(bytes, at, k, Style::Sheet(Rounding::AwayFromZero)),
         _ => planar(bytes, at, code),
     }
 }

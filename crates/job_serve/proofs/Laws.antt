@@ -30,6 +30,7 @@ use Rattle.lines_velocity.specs.declared.Tracer.{Tracer}
 use Rattle.lines_velocity.specs.Velocity.{locateIn, velocityAt}
 use Rattle.lines_velocity.specs.Contracts.{tracerField, TracerEntry}
 use Rattle.lines.specs.declared.Rake as declared
+use Rattle.lines_words.specs.declared.Style.{Style}
 use Rattle.lines.specs.declared.StreamlineSettings.{StreamlineSettings}
 use Rattle.lines.specs.Line.{integrate}
 use Rattle.lines.specs.Rake.{integrateRake}
@@ -98,9 +99,9 @@ module _ {v : ℕ → Values} {o o′ m : List ℕ} where
 
 -- ---- which code it is
 
-pub allowed-streamline : (q : Request) (p : Vec3) (s : StreamlineSettings) → q ≡ Streamline p s → Allowed q → s .options .«max_steps» ≤ 65536
+pub allowed-streamline : (q : Request) (p : Vec3) (s : StreamlineSettings) (style : Style) → q ≡ Streamline p s style → Allowed q → s .options .«max_steps» ≤ 65536
 unfolding Allowed
-allowed-streamline q p s e h = rw e at h
+allowed-streamline q p s style e h = rw e at h
 
 pub allowed-rake : (q : Request) (k : declared.Rake) (s : StreamlineSettings) → q ≡ Rake k s → Allowed q
     → (2 ≤ k .count) × (k .count ≤ 64) × (s .options .«max_steps» ≤ 65536)
@@ -132,7 +133,7 @@ module _ (F : StreamlineField) {v : ℕ → Values} {o m : List ℕ} where
   flat-other (Refused n) h = absurd (let k = high 0 h in omega arith)
   flat-other (Locate p) h = absurd (let k = high 1 h in omega arith)
   flat-other (Velocity p) h = absurd (let k = high 2 h in omega arith)
-  flat-other (Streamline p s) h = absurd (let k = high 3 h in omega arith)
+  flat-other (Streamline p s style) h = absurd (let k = high 3 h in omega arith)
   flat-other (Rake k s) h = absurd (let k = high 4 h in omega arith)
   flat-other (Section s) h = replied-no 31
   flat-other (Statistics s field) h = replied-no 31
@@ -143,9 +144,9 @@ module _ (F : StreamlineField) {v : ℕ → Values} {o m : List ℕ} where
   flat-code q k e h = rw e h
 
   module _ {r : Answered} {o′ m′ : List ℕ} (q : Request) (s : StreamlineSettings) where
-    pub flat-streamline : (p : Vec3) → q ≡ Streamline p s → Reply (decided (integrate F p s)) v o r o o′ m m′ → Reply (serveFlat F q) v o r o o′ m m′
+    pub flat-streamline : (p : Vec3) (style : Style) → q ≡ Streamline p s style → Reply (decided (integrate F p s style)) v o r o o′ m m′ → Reply (serveFlat F q) v o r o o′ m m′
     unfolding serveFlat
-    flat-streamline p e h = rw e h
+    flat-streamline p style e h = rw e h
 
     pub flat-rake : (k : declared.Rake) → q ≡ Rake k s → Reply (decided (integrateRake F k s)) v o r o o′ m m′ → Reply (serveFlat F q) v o r o o′ m m′
     unfolding serveFlat
@@ -161,7 +162,7 @@ module _ (M : Mesh) (v : ℕ → Values) (o : List ℕ) {m : List ℕ} where
   solid-other (Refused n) h = absurd (let k = low 0 h in omega arith)
   solid-other (Locate p) h = replied-no 31
   solid-other (Velocity p) h = replied-no 31
-  solid-other (Streamline p s) h = replied-no 31
+  solid-other (Streamline p s style) h = replied-no 31
   solid-other (Rake k s) h = replied-no 31
   solid-other (Section s) h = absurd (let k = low 5 h in omega arith)
   solid-other (Statistics s field) h = absurd (let k = low 6 h in omega arith)
@@ -216,7 +217,7 @@ left-long (flat f) q v o = refl
 left-long (solid m) (Refused n) v o = refl
 left-long (solid m) (Locate p) v o = refl
 left-long (solid m) (Velocity p) v o = refl
-left-long (solid m) (Streamline p s) v o = refl
+left-long (solid m) (Streamline p s style) v o = refl
 left-long (solid m) (Rake k s) v o = refl
 left-long (solid m) (Section s) v o = length-sets o 1 (flatten (map sampleWords (run (taken (intersect m s)) v .samples)))
 left-long (solid m) (Statistics s field) v o = refl

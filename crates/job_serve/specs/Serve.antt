@@ -30,25 +30,25 @@ unfoldable pub velocityWords : Vector → List ℕ
 velocityWords (Here v) = 1 ∷ vecWords v
 velocityWords Nowhere = 0 ∷ 0 ∷ 0 ∷ 0 ∷ []
 
--- codes 1 to 4. 31 is due before a request's arguments are looked at: `requestOf` (crates/job_requests/specs/Requests.antt) refuses with it, and makes no
+-- codes 1 to 4 and 13. 31 is due before a request's arguments are looked at: `requestOf` (crates/job_requests/specs/Requests.antt) refuses with it, and makes no
 -- request of codes 5 to 8 over a 2D mesh. So the last four cases do not come in a job; they are here since the definition is of every request.
 unfoldable pub serveFlat : StreamlineField → Request → Asks (Result (List ℕ))
 serveFlat f (Refused n) = give (refused n)
 serveFlat f (Locate p) = give (fine (foundWords (locateIn f p)))
 serveFlat f (Velocity p) = velocityAt f p >>= λ v. give (fine (velocityWords v))
-serveFlat f (Streamline p s) = decided (integrate f p s)
+serveFlat f (Streamline p s style) = decided (integrate f p s style)
 serveFlat f (Rake r s) = decided (integrateRake f r s)
 serveFlat f (Section s) = give (refused 31)
 serveFlat f (Statistics s field) = give (refused 31)
 serveFlat f (Integrals s) = give (refused 31)
 serveFlat f (Probe s p) = give (refused 31)
 
--- codes 5 to 8; in the same way codes 1 to 4 do not come over a 3D mesh
+-- codes 5 to 8; in the same way codes 1 to 4 and 13 do not come over a 3D mesh
 unfoldable pub serveSolid : Mesh → Request → Asks (Result (List ℕ))
 serveSolid m (Refused n) = give (refused n)
 serveSolid m (Locate p) = give (refused 31)
 serveSolid m (Velocity p) = give (refused 31)
-serveSolid m (Streamline p s) = give (refused 31)
+serveSolid m (Streamline p s style) = give (refused 31)
 serveSolid m (Rake r s) = give (refused 31)
 serveSolid m (Section s) = sectionOf m s
 serveSolid m (Statistics s field) = statisticsOf m s field

@@ -88,7 +88,7 @@ fn serve_velocity(
     Answered::Words(4)
 }
 
-// Codes 1 to 4.
+// Codes 1 to 4 and 13.
 fn serve_flat(
     case: &[u8],
     words: &[u32],
@@ -108,8 +108,8 @@ fn serve_flat(
         Request::Refused(k) => Answered::Refused(k),
         Request::Locate(p) => serve_locate(words, floats, t, out, p),
         Request::Velocity(p) => serve_velocity(case, words, floats, t, marks, out, p),
-        Request::Streamline(p, s) => {
-            integrate::integrate(case, words, floats, t, marks, out, p, s)
+        Request::Streamline(p, s, style) => {
+            integrate::integrate(case, words, floats, t, marks, out, p, s, style)
         }
         Request::Rake(rake, s) => {
             rakes::integrate_rake(case, words, floats, t, marks, out, rake, s)

@@ -9,7 +9,7 @@ ghost use lib.ListN.{length};
 ghost use Rattle.job_requests.specs.Encode.{bytesOf};
 ghost use Rattle.job_promise.specs.Job.{numberOf, outcomeOf};
 ghost use Rattle.job_promise.specs.Promise.{JobPromise};
-ghost use Rattle.job_encoding.specs.Single.{locateWords, velocityWords, streamlineWords, rakeWords, sectionWords, statisticsWords, integralsWords, probeWords};
+ghost use Rattle.job_encoding.specs.Single.{locateWords, velocityWords, streamlineWords, sheetWords, rakeWords, sectionWords, statisticsWords, integralsWords, probeWords};
 
 // The cell at a point.
 pub fn locate(
@@ -63,6 +63,25 @@ pub fn streamline(
     ensures { λ r. ⌜ r ≡ outcomeOf (numberOf r) ⌝ }
 {
     let request = job_encoding::streamline(seed, settings);
+    job::job(case, &request, words, floats, marks, answers)
+}
+
+// The sheet of the line from a seed.
+pub fn sheet(
+    case: &[u8],
+    seed: Vec3,
+    settings: StreamlineSettings,
+    words: &mut [u32],
+    floats: &mut [f64],
+    marks: &mut [u8],
+    answers: &mut [u64],
+) -> Outcome
+    ensures { λ r. ⌜ JobPromise (now (case .entry)) (bytesOf (sheetWords seed settings))
+        (length (now (words .entry))) (length (now (floats .entry))) (now (answers .entry)) (now (marks .entry))
+        (record { result = numberOf r; answers = now (answers .exit); marks = now (marks .exit) }) ⌝ }
+    ensures { λ r. ⌜ r ≡ outcomeOf (numberOf r) ⌝ }
+{
+    let request = job_encoding::sheet(seed, settings);
     job::job(case, &request, words, floats, marks, answers)
 }
 

@@ -3,7 +3,7 @@ use Prim.Native.Nat.{ℕ, suc, _+_, _≤_, _<_}
 use native.Mathlib.Omega.{arith}
 use native.Mathlib.Numerals.{add-one}
 use mathlib.Core.Path.{_≡_, refl, ap, sym, _∙_, fun-ext}
-use mathlib.Core.Bool.{Bool, true, false, not}
+use mathlib.Core.Bool.{Bool, true, false, not, true≢false}
 use mathlib.Core.List.{List, [], _∷_, _++_, append-assoc, append-nil}
 use lib.ListN.{length, set, getD, drop}
 use lib.Seq.{sets}
@@ -32,6 +32,7 @@ use Rattle.lines.specs.Line.{isNowhere, nowhere, lineAnswer}
 use Rattle.lines.specs.Rake.{seedAt, seeds, linesWords}
 use Rattle.lines.specs.Contracts.{TraceExit}
 use Rattle.answers.proofs.WordLaws.{sets-append, sets-set}
+use Rattle.lines_words.specs.declared.Style.the-variants.{Points}
 use Rattle.lines.proofs.LineLaws.{give-then}
 
 -- ---- a point that locates, or not
@@ -80,7 +81,6 @@ module _ {good : Bool} (lost : Bool) (t : Asks (List ℕ)) {a : Bool} (ea : a �
     is-fine k = rw (sym ea ∙ h, sym eb ∙ k)
 
 -- ---- the seeds of a rake
-
 module _ (k : Rake) where
   length-seeds : length (seeds k) ≡ k .count
   unfolding seeds
@@ -112,6 +112,15 @@ module _ (k : Rake) where
     unfolding anyOf
     all-found h = rw (seeds-end i h) at inv
 
+-- where every seed from i on locates, seed i does
+pub seed-locates : (k : Rake) (F : StreamlineField) (i : ℕ) (p : Vec3) → anyOf (nowhere F) (drop i (seeds k)) ≡ false → i < k .count → p ≡ seedAt k i
+    → (nowhere F p ≡ false) × (anyOf (nowhere F) (drop (i + 1) (seeds k)) ≡ false)
+seed-locates k F i p e h ep = by (nowhere F p) refl
+  where
+    by : (b : Bool) → nowhere F p ≡ b → (nowhere F p ≡ false) × (anyOf (nowhere F) (drop (i + 1) (seeds k)) ≡ false)
+    by true w = absurd (true≢false (seed-lost k F i false e true p h ep (sym w) refl))
+    by false w = (w, seed-found k F i false e false p h ep (sym w) refl)
+
 -- ---- line after line
 
 module _ (F : StreamlineField) (s : StreamlineSettings) where
@@ -119,10 +128,10 @@ module _ (F : StreamlineField) (s : StreamlineSettings) where
   abbrev pub left : List ℕ → List Vec3 → Asks (List ℕ)
   left done ps = linesWords F s ps >>= λ ws. give (done ++ ws)
 
-  left-next : (done : List ℕ) (p : Vec3) (ps : List Vec3) → left done (p ∷ ps) ≡ lineAnswer F s p >>= λ l. left (done ++ l) ps
+  left-next : (done : List ℕ) (p : Vec3) (ps : List Vec3) → left done (p ∷ ps) ≡ lineAnswer F Points s p >>= λ l. left (done ++ l) ps
   unfolding linesWords
   left-next done p ps =
-      bind-assoc (lineAnswer F s p) _ _ ∙ ap (λ r. lineAnswer F s p >>= r) (fun-ext each)
+      bind-assoc (lineAnswer F Points s p) _ _ ∙ ap (λ r. lineAnswer F Points s p >>= r) (fun-ext each)
     where
       same : (l ws : List ℕ) → (give (l ++ ws) >>= λ k. give (done ++ k)) ≡ give ((done ++ l) ++ ws)
       same l ws = give-then (l ++ ws) (λ k. give (done ++ k)) ∙ ap {B = Asks (List ℕ)} give (sym (append-assoc done l ws))
@@ -135,8 +144,8 @@ module _ (F : StreamlineField) (s : StreamlineSettings) where
 
   module _ {w : Asks (List ℕ)} {f : ℕ → Values} {m₀ m : List ℕ} (k : Rake) (done : List ℕ) (i : ℕ)
       (g : Going w f m₀ (left done (drop i (seeds k))) m) where
-    pub lines-turned : {m′ b b′ : List ℕ} {at r : ℕ} (p : Vec3) → i < k .count → p ≡ seedAt k i → TraceExit (lineAnswer F s p) f m m′ b b′ at r
-        → Going w f m₀ (left (done ++ run (lineAnswer F s p) f) (drop (i + 1) (seeds k))) m′
+    pub lines-turned : {m′ b b′ : List ℕ} {at r : ℕ} (p : Vec3) → i < k .count → p ≡ seedAt k i → TraceExit (lineAnswer F Points s p) f m m′ b b′ at r
+        → Going w f m₀ (left (done ++ run (lineAnswer F Points s p) f) (drop (i + 1) (seeds k))) m′
     lines-turned p h e t =
         going-part (λ l. left (done ++ l) (drop (i + 1) (seeds k)))
         (rw (seeds-at k i h, ← e, left-next done p (drop (i + 1) (seeds k))) at g) (record { answer = refl; marks = t .marks })

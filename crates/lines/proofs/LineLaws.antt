@@ -1,11 +1,10 @@
 -- A turn of a line's loop, over plain values: what is left to serve, and what was written. Assumes nothing.
-use Prim.Native.Nat.{ℕ, suc, _+_, _-_, _*_, _<_}
+use Prim.Native.Nat.{ℕ, suc, _+_, _-_, _≤_, _<_}
 use native.Mathlib.Nat.{sub-zero}
-use native.Mathlib.Numerals.{add-one}
 use native.Mathlib.Omega.{arith}
 use mathlib.Core.Path.{_≡_, refl, ap, sym, _∙_, fun-ext}
 use mathlib.Core.List.{List, [], _∷_, _++_, append-assoc, append-nil}
-use lib.ListN.{length, set, length-append}
+use lib.ListN.{length, set}
 use lib.Seq.{sets}
 use lib.Ieee.{Float}
 use Rattle.arith.specs.F64.{_⊕_, _⊗_, 0·0}
@@ -17,15 +16,19 @@ use Rattle.reading.specs.Served.{Served}
 use Rattle.reading.proofs.Going.{Going}
 use Rattle.reading.proofs.AsksLaws.{bind-assoc, bind-give, run-bind, reads-bind}
 use Rattle.reading.proofs.ServedLaws.{going-start, going-part, going-end}
-use Rattle.answers.specs.Words.{vecWords, pointWords}
-use Rattle.answers.proofs.WordLaws.{sets-append, sets-set, length-vec, length-points}
+use Rattle.arith.specs.Limits.{mostSteps}
+use Rattle.lines_words.specs.declared.Pen.{Pen}
+use Rattle.lines_words.specs.Words.{lineWords}
+use Rattle.lines_words.specs.Pen.{nextWord, wordsAlong, penAlong}
+use Rattle.lines_words.specs.Contracts.{PenEntry, PutPointExit}
+use Rattle.lines_words.proofs.PenLaws.{after-kept, along-at, line-words, line-count, line-few}
 use Rattle.lines_locate.specs.Field.{StreamlineField}
 use Rattle.lines_step.specs.declared.Step.{Step}
 use Rattle.lines_step.specs.declared.Step.the-variants.{Next, Ended}
 use Rattle.lines_step.specs.declared.StreamlineOptions.{StreamlineOptions}
 use Rattle.lines_step.specs.Step.{step}
 use Rattle.lines.specs.declared.StreamlineSettings.{StreamlineSettings}
-use Rattle.lines.specs.Line.{sign, signedStep, onward, lineFrom, pointsAfter, line, lineWords, lineAnswer}
+use Rattle.lines.specs.Line.{sign, signedStep, onward, lineFrom, pointsAfter, line, lineAnswer}
 use Rattle.lines.specs.Contracts.{PointsAfterExit, TraceExit}
 
 pub give-then : {A B : Type 0} (a : A) (k : A → Asks B) → (give a >>= k) ≡ k a
@@ -86,38 +89,41 @@ pub ended : {w : Asks (List Vec3)} {f : ℕ → Values} {m₀ m : List ℕ} (don
 ended done g = going-end (rw append-nil at g)
 
 -- what a drawing promises, from what was served; x is the sign
-pub drawn : (F : StreamlineField) (s : StreamlineSettings) (seed : Vec3) {x : Float} {f : ℕ → Values} {m₀ m o o′ : List ℕ} {at n : ℕ} {done : List Vec3} → x ≡ sign (s .direction)
-    → Served (lineFrom F (s .options) (s .options .«step_size» ⊗ x) (s .options .«max_steps») seed 0·0) f m₀ m done → o′ ≡ sets o at (pointWords done) → n ≡ length done
-    → PointsAfterExit (pointsAfter F s seed) f m₀ m o o′ at n
+pub drawn : (F : StreamlineField) (s : StreamlineSettings) (seed : Vec3) {x : Float} {f : ℕ → Values} {m₀ m o o′ : List ℕ} {start r : Pen} {done : List Vec3} → x ≡ sign (s .direction)
+    → Served (lineFrom F (s .options) (s .options .«step_size» ⊗ x) (s .options .«max_steps») seed 0·0) f m₀ m done → o′ ≡ sets o (nextWord start) (wordsAlong start done)
+    → r ≡ penAlong start done → r .count ≤ mostSteps + 1 → PointsAfterExit (pointsAfter F s seed) f m₀ m start o o′ r
 unfolding pointsAfter signedStep
-drawn F s seed {o} {at} ex t wr e =
-    let u = rw ex at t in record { marks = u .marks; words = wr ∙ ap (λ l. sets o at (pointWords l)) (u .answer); count = e ∙ ap length (u .answer) }
+drawn F s seed {o} {start} ex t wr e few =
+    let u = rw ex at t in
+    record {
+      marks = u .marks;
+      words = wr ∙ ap (λ l. sets o (nextWord start) (wordsAlong start l)) (u .answer);
+      pen = e ∙ ap (penAlong start) (u .answer);
+      few = few;
+    }
 
 -- ---- the words of a whole line
 
-line-words : (p : Vec3) (l : List Vec3) → lineWords (p ∷ l) ≡ suc (length l) ∷ (vecWords p ++ pointWords l)
-unfolding lineWords pointWords
-line-words p l = refl
+-- the pen stays at the line's words
+pub pen-first : {start first : Pen} {seed : Vec3} {o o₁ : List ℕ} → PutPointExit start seed o o₁ first → start .at ≤ 16000000 → start .count ≡ 0 → (first .at ≤ 16000000) × (first .count ≤ 1)
+pen-first {start} {seed = seed} t low none = let k = after-kept start seed in rw (t .pen-after) (omega (arith, k .at, low), omega (arith, k .few, none))
 
--- the count is written last, before the points
-front : (b : List ℕ) (at c : ℕ) (p : Vec3) (l : List Vec3)
-    → sets (set (sets b (suc at) (vecWords p)) at c) (suc at + 3) (pointWords l) ≡ sets b at (c ∷ (vecWords p ++ pointWords l))
-front b at c p l =
-    rw (sets-set (vecWords p) b at (suc at) c (omega arith), sets-append (set b at c) (suc at) (vecWords p) (pointWords l), length-vec p)
+pub pen-last : {t : Asks (List Vec3)} {f : ℕ → Values} {m m′ o₁ o₂ : List ℕ} {first pen : Pen} → PointsAfterExit t f m m′ first o₁ o₂ pen → first .at ≤ 16000000 → PenEntry pen
+pen-last {t} {f} {first} w low = record { low = rw (w .pen, along-at first (run t f)) low; few = w .few }
 
-pub traced : (F : StreamlineField) (s : StreamlineSettings) (f : ℕ → Values) (m m′ b b₁ b₂ b₃ : List ℕ) (at count : ℕ) (seed : Vec3) → b₁ ≡ sets b (at + 1) (vecWords seed)
-    → PointsAfterExit (pointsAfter F s seed) f m m′ b₁ b₂ (at + 4) count → b₃ ≡ set b₂ at (count + 1) → TraceExit (lineAnswer F s seed) f m m′ b b₃ at (3 * count + 4)
-traced F s f m m′ b b₁ b₂ b₃ at count seed e₁ t e₃ =
+pub traced : (F : StreamlineField) (s : StreamlineSettings) (f : ℕ → Values) (m m′ o o₁ o₂ o₃ : List ℕ) (start first pen : Pen) (r : ℕ) (seed : Vec3) → start .count ≡ 0
+    → PutPointExit start seed o o₁ first → PointsAfterExit (pointsAfter F s seed) f m m′ first o₁ o₂ pen → o₃ ≡ set o₂ (pen .at) (pen .count) → r ≡ nextWord pen - pen .at
+    → TraceExit (lineAnswer F (start .style) s seed) f m m′ o o₃ (start .at) r × (r ≤ 196612)
+traced F s f m m′ o o₁ o₂ o₃ start first pen r seed none t w c n =
     let pts = run (pointsAfter F s seed) f in
-    let answer : run (lineAnswer F s seed) f ≡ lineWords (seed ∷ pts) = unfold lineAnswer line in run-bind (pointsAfter F s seed >>= λ l. give (seed ∷ l)) (λ l. give (lineWords l)) f ∙ ap lineWords (run-bind (pointsAfter F s seed) (λ l. give (seed ∷ l)) f) in
-    let asked : reads (lineAnswer F s seed) f ≡ reads (pointsAfter F s seed) f = unfold lineAnswer line in reads-bind (pointsAfter F s seed >>= λ l. give (seed ∷ l)) (λ l. give (lineWords l)) f ∙ append-nil _ ∙ reads-bind (pointsAfter F s seed) (λ l. give (seed ∷ l)) f ∙ append-nil _ in
-    let n₁ : at + 4 ≡ suc at + 3 = omega arith in
-    let n₂ : count + 1 ≡ suc (length pts) = add-one count ∙ ap suc (t .count) in
-    let inside : at < at + 4 = omega arith in
-    record {
-      marks = t .marks ∙ ap (markAll m) (sym asked);
-      words =
-          e₃ ∙ ap (λ l. set l at (count + 1)) (t .words) ∙ sets-set (pointWords pts) b₁ at (at + 4) (count + 1) inside
-          ∙ rw (answer, line-words seed pts, e₁, n₁, n₂, add-one at) (front b at (suc (length pts)) seed pts);
-      count = rw (answer, line-words seed pts, length-append (vecWords seed) (pointWords pts), length-vec seed) (omega (arith, length-points pts, t .count));
-    }
+    let answer : run (lineAnswer F (start .style) s seed) f ≡ lineWords (start .style) (seed ∷ pts) =
+    unfold lineAnswer line in run-bind (pointsAfter F s seed >>= λ l. give (seed ∷ l)) (λ l. give (lineWords (start .style) l)) f ∙ ap (lineWords (start .style)) (run-bind (pointsAfter F s seed) (λ l. give (seed ∷ l)) f) in
+    let asked : reads (lineAnswer F (start .style) s seed) f ≡ reads (pointsAfter F s seed) f =
+    unfold lineAnswer line in reads-bind (pointsAfter F s seed >>= λ l. give (seed ∷ l)) (λ l. give (lineWords (start .style) l)) f ∙ append-nil _ ∙ reads-bind (pointsAfter F s seed) (λ l. give (seed ∷ l)) f ∙ append-nil _ in (
+      record {
+        marks = w .marks ∙ ap (markAll m) (sym asked);
+        words = line-words start seed pts o o₁ o₂ o₃ first pen r none t (w .words) (w .pen) c n ∙ ap (sets o (start .at)) (sym answer);
+        count = line-count start seed pts o o₁ o₂ o₃ first pen r none t (w .words) (w .pen) c n ∙ ap length (sym answer);
+      },
+      line-few start seed pts o o₁ o₂ o₃ first pen r none t (w .words) (w .pen) c n (w .few),
+    )

@@ -2,13 +2,12 @@
 -- `sign`, `signedStep`: the step, forward or backward.
 -- `onward`, `lineFrom`, `pointsAfter`, `line`: the points of a line.
 -- `isLength`, `isSpeed`, `areAccepted`: refusal 34. `isNowhere`, `nowhere`: refusal 35.
--- `lineWords`, `lineAnswer`: the answer. `integrate`: the answer, or the refusal.
+-- `lineAnswer`: the answer. `integrate`: the answer, or the refusal.
 use Prim.Native.Nat.{ℕ, zero, suc}
 use mathlib.Core.Path.{_≡_}
 use mathlib.Core.Bool.{Bool, true, false, not, _&&_}
 use mathlib.Core.List.{List, [], _∷_, _++_}
 use lib.Dec.{ltb}
-use lib.ListN.{length}
 use lib.Ieee.{Float}
 use Rattle.arith.specs.F64.{_⊕_, _⊗_, _≺_, _≼_, 0·0, 1·0, -1·0, finite}
 use Rattle.arith.specs.declared.Vec3.{Vec3}
@@ -17,7 +16,8 @@ use Rattle.arith.specs.declared.Found.the-variants.{At, Nothing}
 use Rattle.reading.specs.Asks.{Asks, give, _>>=_}
 use Rattle.reading.specs.Result as result
 use Rattle.reading.specs.Result.{Result, fine, refuse}
-use Rattle.answers.specs.Words.{pointWords}
+use Rattle.lines_words.specs.declared.Style.{Style}
+use Rattle.lines_words.specs.Words.{lineWords}
 use Rattle.lines_locate.specs.Field.{StreamlineField}
 use Rattle.lines_velocity.specs.Velocity.{locateIn}
 use Rattle.lines_step.specs.declared.Step.{Step}
@@ -76,17 +76,13 @@ isNowhere (At i) = false
 unfoldable pub nowhere : StreamlineField → Vec3 → Bool
 nowhere f p = isNowhere (locateIn f p)
 
--- "3: point count, points"
-unfoldable pub lineWords : List Vec3 → List ℕ
-lineWords l = length l ∷ pointWords l
+-- its answer, in a style
+unfoldable pub lineAnswer : StreamlineField → Style → StreamlineSettings → Vec3 → Asks (List ℕ)
+lineAnswer f style s seed = line f s seed >>= λ l. give (lineWords style l)
 
--- its answer
-unfoldable pub lineAnswer : StreamlineField → StreamlineSettings → Vec3 → Asks (List ℕ)
-lineAnswer f s seed = line f s seed >>= λ l. give (lineWords l)
-
--- `integrate`
-unfoldable pub integrate : StreamlineField → Vec3 → StreamlineSettings → Result (Asks (List ℕ))
-integrate f seed s =
+-- `integrate`, in a style: "Marks and refusals are those of code 3"
+unfoldable pub integrate : StreamlineField → Vec3 → StreamlineSettings → Style → Result (Asks (List ℕ))
+integrate f seed s style =
     result._>>=_ (refuse 34 (not (areAccepted (s .options)))) (λ _.
     result._>>=_ (refuse 35 (nowhere f seed)) (λ _.
-    fine (lineAnswer f s seed)))
+    fine (lineAnswer f style s seed)))

@@ -12,6 +12,7 @@ use Rattle.reading.specs.Asks.{Asks, give, _>>=_}
 use Rattle.reading.specs.Result as result
 use Rattle.reading.specs.Result.{Result, fine, refuse}
 use Rattle.lines_locate.specs.Field.{StreamlineField}
+use Rattle.lines_words.specs.declared.Style.the-variants.{Points}
 use Rattle.lines.specs.declared.Rake.{Rake}
 use Rattle.lines.specs.declared.StreamlineSettings.{StreamlineSettings}
 use Rattle.lines.specs.Line.{lineAnswer, areAccepted, nowhere}
@@ -27,7 +28,7 @@ seeds r = tab (seedAt r) (r .count)
 -- the words of one line after another: "each line as in 3"
 unfoldable pub linesWords : StreamlineField → StreamlineSettings → List Vec3 → Asks (List ℕ)
 linesWords f s [] = give []
-linesWords f s (p ∷ ps) = lineAnswer f s p >>= λ l. linesWords f s ps >>= λ ws. give (l ++ ws)
+linesWords f s (p ∷ ps) = lineAnswer f Points s p >>= λ l. linesWords f s ps >>= λ ws. give (l ++ ws)
 
 -- "4: line count, each line as in 3"; "35 seed (of a rake: any seed) locates nowhere"
 unfoldable pub integrateRake : StreamlineField → Rake → StreamlineSettings → Result (Asks (List ℕ))

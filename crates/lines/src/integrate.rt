@@ -8,6 +8,7 @@ use arith::float;
 use lines_step::StreamlineOptions;
 use lines_velocity::Tracer;
 use lines_velocity::interpolate;
+use lines_words::Style;
 ghost use mathlib.Core.Path.{_≡_};
 ghost use Prim.Native.Nat.{_≤_};
 ghost use Rattle.arith.specs.Limits.{mostSteps};
@@ -55,7 +56,7 @@ pub(crate) fn is_nowhere(words: &[u32], floats: &[f64], t: Tracer, p: Vec3) -> b
     }
 }
 
-// The line from a seed: its words go to the answer as far as they fit.
+// The line from a seed, in a style: its words go to the answer as far as they fit.
 pub fn integrate(
     case: &[u8],
     words: &[u32],
@@ -65,18 +66,20 @@ pub fn integrate(
     out: &mut [u64],
     seed: Vec3,
     settings: StreamlineSettings,
+    style: Style,
 ) -> Answered
     requires { ⌜ TracerEntry (now case) (now words) (now floats) t ⌝ }
     requires { ⌜ settings .options .«max_steps» ≤ mostSteps ⌝ }
     ensures { λ r. ⌜ Reply (decided (Line.integrate (tracerField t (now (words .entry)) (now (floats .entry))) seed
-        settings)) (valuesOf (now (case .entry))) (now (out .entry)) r (now (out .entry)) (now (out .exit))
+        settings style)) (valuesOf (now (case .entry))) (now (out .entry)) r (now (out .entry)) (now (out .exit))
         (now (marks .entry)) (now (marks .exit)) ⌝ }
 {
     if are_accepted(settings.options) {
         if is_nowhere(words, floats, t, seed) {
             return Answered::Refused(35);
         }
-        let count = line::trace(case, words, floats, t, marks, out, 0, seed, settings);
+        let pen = lines_words::pen_at(style, 0);
+        let count = line::trace(case, words, floats, t, marks, out, pen, seed, settings);
         return Answered::Words(count);
     }
     Answered::Refused(34)

@@ -1,11 +1,13 @@
-// A line from its seed: its points go to the answer words as far as they fit.
+// A line from its seed: what is written of it goes to the answer words as far as they fit.
 use crate::StreamlineDirection;
 use crate::StreamlineSettings;
 use arith::Vec3;
 use lines_step::Step;
 use lines_velocity::Tracer;
+use lines_words::Pen;
 ghost use mathlib.Core.Path.{_≡_};
-ghost use Prim.Native.Nat.{_+_, _*_, _<_, _≤_};
+ghost use mathlib.Core.Bool.{false};
+ghost use Prim.Native.Nat.{_≤_};
 ghost use Rattle.arith.specs.Limits.{mostSteps};
 ghost use Rattle.case_file.specs.Field.{valuesOf};
 ghost use Rattle.lines_velocity.specs.Contracts.{tracerField, TracerEntry};
@@ -22,7 +24,7 @@ fn sign(d: StreamlineDirection) -> f64
     }
 }
 
-// The points after the seed go to the words from `at` on; how many there are.
+// The points after the seed go to the answer behind what the pen wrote; where the pen stands then.
 fn points_after(
     case: &[u8],
     words: &[u32],
@@ -30,15 +32,15 @@ fn points_after(
     t: Tracer,
     marks: &mut [u8],
     out: &mut [u64],
-    at: usize,
+    start: Pen,
     seed: Vec3,
     settings: StreamlineSettings,
-) -> usize
+) -> Pen
     requires { ⌜ TracerEntry (now case) (now words) (now floats) t ⌝ }
-    requires { ⌜ (at ≤ 16777216) × (settings .options .«max_steps» ≤ mostSteps) ⌝ }
+    requires { ⌜ (start .at ≤ 16000000) × (start .count ≤ 1) × (settings .options .«max_steps» ≤ mostSteps) ⌝ }
     ensures { λ r. ⌜ PointsAfterExit (Line.pointsAfter (tracerField t (now (words .entry)) (now (floats .entry)))
-        settings seed) (valuesOf (now (case .entry))) (now (marks .entry)) (now (marks .exit)) (now (out .entry))
-        (now (out .exit)) at r × (r ≤ settings .options .«max_steps») ⌝ }
+        settings seed) (valuesOf (now (case .entry))) (now (marks .entry)) (now (marks .exit)) start
+        (now (out .entry)) (now (out .exit)) r ⌝ }
 {
     let direction = settings.direction;
     let options = settings.options;
@@ -46,25 +48,26 @@ fn points_after(
     let most = options.max_steps;
     let mut total = 0.0;
     let mut p = seed;
+    let mut pen = start;
     let mut k: usize = 0;
     while k < most {
         let next = lines_step::line_step(case, words, floats, t, marks, options, h, p, total);
         match next {
             Step::Ended => {
-                return k;
+                return pen;
             }
             Step::Next(q, segment) => {
-                answers::put_vec(out, at + 3 * k, q);
+                pen = lines_words::put_point(out, pen, q);
                 p = q;
                 total = total + segment;
             }
         }
         k = k + 1;
     }
-    k
+    pen
 }
 
-// The words of the line from a seed go to those from `at` on; how many there are.
+// The words of the line from a seed that locates, with a pen that wrote nothing yet; how many there are.
 pub fn trace(
     case: &[u8],
     words: &[u32],
@@ -72,18 +75,18 @@ pub fn trace(
     t: Tracer,
     marks: &mut [u8],
     out: &mut [u64],
-    at: usize,
+    start: Pen,
     seed: Vec3,
     settings: StreamlineSettings,
 ) -> usize
     requires { ⌜ TracerEntry (now case) (now words) (now floats) t ⌝ }
-    requires { ⌜ (at ≤ 16000000) × (settings .options .«max_steps» ≤ mostSteps) ⌝ }
-    ensures { λ r. ⌜ TraceExit (Line.lineAnswer (tracerField t (now (words .entry)) (now (floats .entry))) settings
-        seed) (valuesOf (now (case .entry))) (now (marks .entry)) (now (marks .exit)) (now (out .entry))
-        (now (out .exit)) at r × (r ≤ 196612) ⌝ }
+    requires { ⌜ (start .at ≤ 16000000) × (start .count ≡ 0) × (settings .options .«max_steps» ≤ mostSteps) ⌝ }
+    requires { ⌜ Line.nowhere (tracerField t (now words) (now floats)) seed ≡ false ⌝ }
+    ensures { λ r. ⌜ TraceExit (Line.lineAnswer (tracerField t (now (words .entry)) (now (floats .entry)))
+        (start .style) settings seed) (valuesOf (now (case .entry))) (now (marks .entry)) (now (marks .exit))
+        (now (out .entry)) (now (out .exit)) (start .at) r × (r ≤ 196612) ⌝ }
 {
-    answers::put_vec(out, at + 1, seed);
-    let count = points_after(case, words, floats, t, marks, out, at + 4, seed, settings);
-    answers::put(out, at, (count + 1) as u64);
-    3 * count + 4
+    let first = lines_words::put_point(out, start, seed);
+    let pen = points_after(case, words, floats, t, marks, out, first, seed, settings);
+    lines_words::close(out, pen)
 }

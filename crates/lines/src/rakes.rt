@@ -6,7 +6,9 @@ use crate::line;
 use answers::Answered;
 use arith::Vec3;
 use lines_velocity::Tracer;
+use lines_words::Style;
 ghost use mathlib.Core.Path.{_≡_};
+ghost use mathlib.Core.Bool.{false};
 ghost use Prim.Native.Nat.{_≤_, _<_, _*_, _+_};
 ghost use Rattle.arith.specs.Limits.{mostSteps};
 ghost use Rattle.arith.specs.Lists.{anyOf};
@@ -57,6 +59,7 @@ fn trace_all(
 ) -> usize
     requires { ⌜ TracerEntry (now case) (now words) (now floats) t ⌝ }
     requires { ⌜ (2 ≤ rake .count) × (rake .count ≤ 64) × (settings .options .«max_steps» ≤ mostSteps) ⌝ }
+    requires { ⌜ anyOf (nowhere (tracerField t (now words) (now floats))) (Rakes.seeds rake) ≡ false ⌝ }
     ensures { λ r. ⌜ TraceExit (Rakes.linesWords (tracerField t (now (words .entry)) (now (floats .entry))) settings
         (Rakes.seeds rake)) (valuesOf (now (case .entry))) (now (marks .entry)) (now (marks .exit))
         (now (out .entry)) (now (out .exit)) 1 r × (r ≤ 12583168) ⌝ }
@@ -66,17 +69,8 @@ fn trace_all(
     let mut i = 0;
     while i < count {
         let seed = seed_at(rake, i);
-        let more = line::trace(
-            case,
-            words,
-            floats,
-            t,
-            marks,
-            out,
-            written + 1,
-            seed,
-            settings,
-        );
+        let pen = lines_words::pen_at(Style::Points, written + 1);
+        let more = line::trace(case, words, floats, t, marks, out, pen, seed, settings);
         written += more;
         i += 1;
     }

@@ -15,5 +15,6 @@ pub mod Overflow
 pub mod Pentagram
 pub mod Prisms
 pub mod SharedFace
+pub mod Sheets
 pub mod Tetrahedron
 pub mod ThirdUser

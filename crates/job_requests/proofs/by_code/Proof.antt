@@ -22,7 +22,11 @@ returns-4 c = rw (c .before .match .keys4, c .rake .ensures)
 
 returns-5 : tie.Need-returns-5
 unfolding byCode
-returns-5 c = rw (ne-eqb _ _ (c .before .match .rest .0 .0 .0 .1), ne-eqb _ _ (c .before .match .rest .0 .0 .1), ne-eqb _ _ (c .before .match .rest .0 .1), ne-eqb _ _ (c .before .match .rest .1)) (c .planar .ensures)
+returns-5 c = rw (c .before .match .keys5, c .streamline2 .ensures)
+
+returns-6 : tie.Need-returns-6
+unfolding byCode
+returns-6 c = let no = c .before .match .rest in rw (ne-eqb _ _ (no .0 .0 .0 .0 .1), ne-eqb _ _ (no .0 .0 .0 .1), ne-eqb _ _ (no .0 .0 .1), ne-eqb _ _ (no .0 .1), ne-eqb _ _ (no .1)) (c .planar .ensures)
 
 pub by-code-spec : {M : Type 1} → statement M
 by-code-spec =
@@ -33,8 +37,10 @@ by-code-spec =
     (λ c κs. search needs)
     (λ c κs. search needs)
     (λ c κs. search needs)
+    (λ c κs. search needs)
     returns
     returns-2
     returns-3
     returns-4
-    returns-5)
+    returns-5
+    returns-6)

@@ -22,7 +22,7 @@ enum-known-q-4 : tie.Need-enum-known-q-4
 enum-known-q-4 c = search needs
 
 integrate-requires : tie.Need-integrate-requires
-integrate-requires c κs = (c .before .before .before .before .before .before .before .before .before .before .pre .0, allowed-streamline _ _ _ (c .before .before .before .q4 .given .1) (c .before .before .before .before .before .before .before .before .before .before .pre .1))
+integrate-requires c κs = (c .before .before .before .before .before .before .before .before .before .before .pre .0, allowed-streamline _ _ _ _ (c .before .before .before .q4 .given .1) (c .before .before .before .before .before .before .before .before .before .before .pre .1))
 
 enum-known-q-5 : tie.Need-enum-known-q-5
 enum-known-q-5 c = search needs
@@ -55,7 +55,7 @@ same-length-5 : tie.Need-same-length-5
 same-length-5 c = search needs
 
 returns-4 : tie.Need-returns-4
-returns-4 c = flat-streamline _ _ _ _ (c .before .before .before .before .before .before .before .before .q4 .given .1) (c .before .before .before .before .integrate .ensures)
+returns-4 c = flat-streamline _ _ _ _ _ (c .before .before .before .before .before .before .before .before .q4 .given .1) (c .before .before .before .before .integrate .ensures)
 
 same-length-6 : tie.Need-same-length-6
 same-length-6 c = search needs

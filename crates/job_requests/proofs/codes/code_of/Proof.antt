@@ -39,12 +39,17 @@ unfolding codeOf codes row
 returns-8 c = row-is _ 8 (omega arith) refl (c .before .match .keys8) (c .row8 .ensures)
 
 returns-9 : tie.Need-returns-9
-returns-9 c = let no = c .before .match .rest in row-unknown _ (λ l. next _ 8 (next _ 7 (next _ 6 (next _ 5 (next _ 4 (next _ 3 (next _ 2 (next _ 1 l (no .0 .0 .0 .0 .0 .0 .0 .1)) (no .0 .0 .0 .0 .0 .0 .1)) (no .0 .0 .0 .0 .0 .1)) (no .0 .0 .0 .0 .1)) (no .0 .0 .0 .1)) (no .0 .0 .1)) (no .0 .1)) (no .1)) (c .row9 .ensures)
+unfolding codeOf codes row
+returns-9 c = row-is _ 13 (omega arith) refl (c .before .match .keys9) (c .row9 .ensures)
+
+returns-10 : tie.Need-returns-10
+returns-10 c = let no = c .before .match .rest in row-unknown _ (λ l. next _ 8 (next _ 7 (next _ 6 (next _ 5 (next _ 4 (next _ 3 (next _ 2 (next _ 1 l (no .0 .0 .0 .0 .0 .0 .0 .0 .1)) (no .0 .0 .0 .0 .0 .0 .0 .1)) (no .0 .0 .0 .0 .0 .0 .1)) (no .0 .0 .0 .0 .0 .1)) (no .0 .0 .0 .0 .1)) (no .0 .0 .0 .1)) (no .0 .0 .1)) (no .0 .1)) (no .1) (c .row10 .ensures)
 
 pub code-of-spec : {M : Type 1} → statement M
 code-of-spec =
     tie.close
     (tie.spec
+    (λ c κs. search needs)
     (λ c κs. search needs)
     (λ c κs. search needs)
     (λ c κs. search needs)
@@ -62,4 +67,5 @@ code-of-spec =
     returns-6
     returns-7
     returns-8
-    returns-9)
+    returns-9
+    returns-10)

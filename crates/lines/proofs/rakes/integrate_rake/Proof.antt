@@ -1,5 +1,6 @@
 use Rattle.lines.proofs.JobLaws.{answered-refused, answered-fine, not-good, is-lost, is-fine, rake-written}
 use Rattle.lines.specs.Rake.{integrateRake}
+use mathlib.Core.Path.{sym, _∙_}
 use borrow.Author.Needs.{needs}
 use Rattle.lines.proofs.rakes.integrate_rake.Statement.{statement}
 use Rattle.lines.proofs.rakes.integrate_rake.Tie as tie
@@ -15,7 +16,8 @@ unfolding integrateRake
 returns c = answered-refused 35 (is-lost _ _ (c .before .before .before .are-accepted .ensures) (c .before .before .if1 .taken) (c .before .any-nowhere .ensures) (c .if2 .taken))
 
 trace-all-requires : tie.Need-trace-all-requires
-trace-all-requires c κs = search needs
+trace-all-requires c κs =
+    let entry = c .before .before .before .before .before .before .before .before .before .before .before .pre in (entry .0, (entry .1, sym (c .before .before .before .any-nowhere .ensures) ∙ c .before .before .if2 .left))
 
 put-requires : tie.Need-put-requires
 put-requires c κs = search needs

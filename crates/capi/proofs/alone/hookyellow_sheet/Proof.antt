@@ -1,0 +1,21 @@
+use Rattle.capi.proofs.Laws.{number-promised}
+use borrow.Author.Needs.{needs}
+use Rattle.capi.proofs.alone.hookyellow_sheet.Statement.{statement}
+use Rattle.capi.proofs.alone.hookyellow_sheet.Tie as tie
+
+returns : tie.Need-returns
+returns c = number-promised (rw (c .before .before .before .before .before .before .before .before .before .before .before .before .before .before .before .vector .ensures, c .before .before .before .before .before .before .before .before .before .before .before .before .before .before .settings .ensures) at (c .before .before .before .before .before .before .before .before .before .sheet .ensures .0)) (c .number-of .ensures)
+
+pub hookyellow-sheet-spec : {M : Type 1} → statement M
+hookyellow-sheet-spec =
+    tie.close
+    (tie.spec
+    (λ c κs. search needs)
+    (λ c κs. search needs)
+    (λ c κs. search needs)
+    (λ c κs. search needs)
+    (λ c. search needs)
+    (λ c. search needs)
+    (λ c. search needs)
+    (λ c. search needs)
+    returns)
