@@ -1,13 +1,19 @@
 //! Faults in the bytes, and buffer lengths at and beside what is needed.
 use crate::pairs::{need, Pair};
 use reference::refair::gen::Rng;
-use reference::refair::{job, JobOut, Lens, Order, Stats};
+use reference::job;
+use reference::refair::{JobOut, Lens, Order, Stats};
 
 /// An answer buffer in which some answer just fits, or just does not (44).
 pub fn answer_edge(p: &mut Pair, r: &mut Rng) {
+    answer_edge_of(p, |_| true, r);
+}
+
+/// The same for an answer to a request of such a code.
+pub fn answer_edge_of(p: &mut Pair, code: fn(u64) -> bool, r: &mut Rng) {
     let lens = Lens { answers: 1 << 40, ..p.lens };
     let JobOut::Done { answers, .. } = job(&p.case, &p.requests, lens, Order::Rust, &mut Stats::default()) else { return };
-    let full: Vec<usize> = (0..answers.len()).filter(|&i| !answers[i].words.is_empty()).collect();
+    let full: Vec<usize> = (0..answers.len()).filter(|&i| !answers[i].words.is_empty() && code(p.code(i))).collect();
     if full.is_empty() {
         return;
     }

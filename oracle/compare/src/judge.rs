@@ -2,9 +2,10 @@
 //! and every byte of the marks buffer. Each NaN of the Rust counts as 7ff8000000000000; the sign of a zero minimum or
 //! maximum of code 6 is not compared.
 use crate::buffers::Area;
-use crate::names::name_of;
+use crate::names::{name_of, value_of};
 use crate::pairs::Pair;
-use reference::refair::{job, Answer, JobOut, Order, Stats};
+use reference::job;
+use reference::refair::{Answer, JobOut, Order, Stats};
 use std::panic::{catch_unwind, AssertUnwindSafe};
 use std::time::{Duration, Instant};
 
@@ -134,9 +135,9 @@ fn equal_answer(code: u64, want: &Answer, got: &[u64], counts: &mut Counts) -> R
             counts.signs += 1;
         } else if w != g {
             let more = want.words[k..].iter().zip(&got[k..]).filter(|(w, g)| w != g).count() - 1;
-            let (x, y) = (f64::from_bits(*w), f64::from_bits(*g));
+            let (x, y) = (value_of(code, *w), value_of(code, *g));
             let name = name_of(code, &want.words, k);
-            return Err(format!("word {k} ({name}): {w:016x} ({x:e}), ours {g:016x} ({y:e}); {more} later words differ"));
+            return Err(format!("word {k} ({name}): {w:016x} ({x}), ours {g:016x} ({y}); {more} later words differ"));
         }
     }
     Ok(())

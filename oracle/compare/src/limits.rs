@@ -6,7 +6,8 @@ use crate::pairs::{need, Pair};
 use crate::room::Room;
 use crate::vectors::P3;
 use reference::refair::gen::{self, Mesh, Rng};
-use reference::refair::{used_words, Lens};
+use reference::refair::Lens;
+use reference::{codes, used_words};
 
 /// Few points and cells, with words that are nearly right: the order of the refusals.
 pub fn small_words(r: &mut Rng) -> Pair {
@@ -31,7 +32,7 @@ pub fn small_words(r: &mut Rng) -> Pair {
     }
     let vel: Vec<P3> = (0..c).map(|_| std::array::from_fn(|_| r.range(-1.0, 1.0))).collect();
     let case = gen::case_bytes(dim, &pts, &words, &vel, &vec![0.5; c]);
-    let requests: Vec<Vec<u64>> = (0..r.below(4)).map(|_| half_empty(1 + r.below(8) as u64, r)).collect();
+    let requests: Vec<Vec<u64>> = (0..r.below(4)).map(|_| half_empty(r.pick(&codes()), r)).collect();
     Pair { case, requests: gen::req_bytes(&requests), lens: Lens::default(), sort: "small words".into() }
 }
 

@@ -1,4 +1,4 @@
-//! Requests of codes 1 to 4: points on and beside corners, edges, borders and bins, and options at their limits.
+//! Requests of codes 1 to 4 and 13: points on and beside corners, edges, borders and bins, and options at their limits.
 use crate::meshes::mean;
 use crate::room::Room;
 use crate::vectors::{along, beside, dot, mix, sub, unit, P3};
@@ -33,7 +33,7 @@ impl Request {
 }
 
 impl Room<'_> {
-    /// A point for codes 1 to 4.
+    /// A point for the requests of a 2D case.
     pub fn spot(&self, r: &mut Rng) -> P3 {
         let c = if r.one_in(2) { self.any_cell(r) } else { self.listed_cell(r) };
         let n = c.numbers().len();
@@ -122,7 +122,7 @@ impl Room<'_> {
         }
     }
 
-    fn options(&self, q: Request, r: &mut Rng, seeds: usize) -> Request {
+    pub fn options(&self, q: Request, r: &mut Rng, seeds: usize) -> Request {
         let size = (self.hi[0] - self.lo[0]).max(self.hi[1] - self.lo[1]);
         let step = step_size(size, r);
         if seeds == 1 && r.one_in(3000) {
@@ -166,7 +166,7 @@ impl Room<'_> {
             2 | 3 => Request::of(2).point(self.spot(r)).0,
             4..=6 => {
                 let p = if r.one_in(2) { self.within(self.listed_cell(r), r) } else { self.spot(r) };
-                self.options(Request::of(3).point(p), r, 1).0
+                self.options(Request::of(r.pick(&[3, 3, 13])).point(p), r, 1).0
             }
             _ => self.rake_request(r),
         }

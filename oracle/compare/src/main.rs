@@ -4,11 +4,11 @@
 //!     rt staticlib capi && (cd oracle && cargo run --offline --release -p compare -- FIRST COUNT)
 //!
 //! runs the pairs of the seeds from FIRST on, COUNT of them (REFERENCE names the folder of the reference job, see
-//! reference/build.rs). --lines and --planes make rooms that are nearly all accepted;
-//! --all adds damaged files, lengths beside every limit and the pairs of the reference's own generator. Without them a
-//! quarter are lines, a quarter planes and half all, and one in 300 has the greatest counts. --dir DIR says where pairs
-//! that differ are written (target/compare.differ), each in a folder of its seed: made smaller, and whole/ as it was.
-//! --write writes every pair and runs neither side.
+//! reference/build.rs). --lines, --planes and --sheets make rooms that are nearly all accepted;
+//! --all adds damaged files, lengths beside every limit and the pairs of the reference's own generators. Without them a
+//! quarter are lines, a quarter planes, an eighth sheets and the rest all, and one in 300 has the greatest counts. --dir DIR
+//! says where pairs that differ are written (target/compare.differ), each in a folder of its seed: made smaller, and whole/
+//! as it was. --write writes every pair and runs neither side.
 //!
 //! A pair in which the reference sees angles closer than 2^-40 counts as near; where the library is not as the Rust there,
 //! it is held to the reference under 01's angle order. The last line is 'N same, M differ, K near'; the exit status is 0
@@ -25,8 +25,11 @@ mod pairs;
 mod planes;
 mod report;
 mod room;
+mod sheets;
 mod shrink;
 mod tally;
+#[cfg(test)]
+mod sheet_tests;
 #[cfg(test)]
 mod tests;
 mod vectors;
@@ -41,7 +44,7 @@ use std::sync::atomic::Ordering::Relaxed;
 use std::time::{Duration, Instant};
 use tally::Tally;
 
-const USAGE: &str = "usage: compare FIRST COUNT [--lines|--planes|--all] [--dir DIR] [--write]";
+const USAGE: &str = "usage: compare FIRST COUNT [--lines|--planes|--sheets|--all] [--dir DIR] [--write]";
 /// So many pairs that differ are written and made smaller; later ones are named only.
 const WRITTEN: u32 = 20;
 const PROGRESS: Duration = Duration::from_secs(5);
@@ -64,6 +67,7 @@ impl Options {
             match a.as_str() {
                 "--lines" => o.mode = Mode::Lines,
                 "--planes" => o.mode = Mode::Planes,
+                "--sheets" => o.mode = Mode::Sheets,
                 "--all" => o.mode = Mode::All,
                 "--write" => o.write = true,
                 "--dir" => o.dir = args.next()?.into(),

@@ -6,6 +6,8 @@ pub fn name_of(code: u64, words: &[u64], at: usize) -> String {
         1 => "cell".into(),
         2 => one_of(&["found", "x", "y", "z"]),
         3 => line_word(words, 0, at),
+        13 if at == 0 => "point count".into(),
+        13 => format!("point {}, {} in millimetres", (at - 1) / 2, ["x", "y"][(at - 1) % 2]),
         4 if at == 0 => "line count".into(),
         4 => line_word(words, 1, at),
         5 if at == 0 => "polygon count".into(),
@@ -17,6 +19,11 @@ pub fn name_of(code: u64, words: &[u64], at: usize) -> String {
         7 => one_of(&["area", "mean pressure", "mean speed", "flux"]),
         _ => one_of(&["cell", "velocity x", "velocity y", "velocity z", "pressure"]),
     }
+}
+
+/// A word as the number that it most likely is.
+pub fn value_of(code: u64, word: u64) -> String {
+    if code == 13 { (word as i64).to_string() } else { format!("{:e}", f64::from_bits(word)) }
 }
 
 fn axis(k: usize) -> &'static str {

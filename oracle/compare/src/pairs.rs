@@ -1,10 +1,11 @@
 //! The pairs (case, requests): a seed and a mode decide one, with the lengths of the lent buffers.
-use crate::damage::{answer_edge, damage, length_edge, shorten};
+use crate::damage::{answer_edge, answer_edge_of, damage, length_edge, shorten};
 use crate::fields::fields;
 use crate::limits::{large, small_words};
 use crate::lines::Request;
 use crate::meshes::{long_room, mixed, renumber, rooms};
 use crate::room::Room;
+use crate::sheets::{long_sheet, sheet_fields, sheet_mesh};
 use crate::vectors::P3;
 use reference::refair::gen::{self, Mesh, Rng};
 use reference::refair::{read_case, Lens};
@@ -34,6 +35,7 @@ impl Pair {
 pub enum Mode {
     Lines,
     Planes,
+    Sheets,
     All,
     Mixed,
 }
@@ -41,7 +43,7 @@ pub enum Mode {
 impl Mode {
     /// The option that asks for it.
     pub fn name(self) -> &'static str {
-        [" --lines", " --planes", " --all", ""][self as usize]
+        [" --lines", " --planes", " --sheets", " --all", ""][self as usize]
     }
 }
 
@@ -57,11 +59,13 @@ pub fn made(seed: u64, mode: Mode) -> Pair {
     match mode {
         Mode::Lines => lines_pair(r),
         Mode::Planes => planes_pair(r),
+        Mode::Sheets => sheets_pair(r),
         Mode::All => any_pair(seed, r),
         Mode::Mixed if r.one_in(300) => large(r),
         Mode::Mixed => match r.below(8) {
             0 | 1 => lines_pair(r),
             2 | 3 => planes_pair(r),
+            4 => sheets_pair(r),
             _ => any_pair(seed, r),
         },
     }
@@ -127,7 +131,7 @@ fn lines_pair(r: &mut Rng) -> Pair {
         .collect();
     let mut pair = finished(&m, &vel, &pre, &requests, sort);
     shorten(&mut pair.requests, r);
-    if requests.iter().any(|q| q[0] == 3 && q[6] == 65_536) && !r.one_in(8) {
+    if requests.iter().any(|q| (q[0] == 3 || q[0] == 13) && q[6] == 65_536) && !r.one_in(8) {
         pair.lens.answers = 200_000; // such a line has up to 196,612 words
     }
     if r.one_in(8) {
@@ -152,6 +156,9 @@ fn planes_pair(r: &mut Rng) -> Pair {
             if r.one_in(4) {
                 return gen::request(&m, r);
             }
+            if r.one_in(30) {
+                return room.sheet_request(r); // 31
+            }
             if r.one_in(2) {
                 plane = room.plane(r);
             }
@@ -161,6 +168,27 @@ fn planes_pair(r: &mut Rng) -> Pair {
     let mut pair = finished(&m, &vel, &pre, &requests, sort);
     if r.one_in(8) {
         answer_edge(&mut pair, r);
+    }
+    pair
+}
+
+fn sheets_pair(r: &mut Rng) -> Pair {
+    if r.one_in(200) {
+        let (m, requests) = long_sheet(r);
+        let mut pair = finished(&m, &[[1.0, 0.0, 0.0]], &[0.0], &requests, "2D long sheet".into());
+        pair.lens.answers = 140_000; // such a sheet has up to 131,077 words
+        if r.one_in(2) {
+            answer_edge(&mut pair, r);
+        }
+        return pair;
+    }
+    let (mut m, sort) = sheet_mesh(r);
+    renumber(&mut m, r);
+    let (vel, pre) = sheet_fields(&m, r);
+    let requests = Room::of(&m, &vel).sheet_requests(r);
+    let mut pair = finished(&m, &vel, &pre, &requests, sort);
+    if r.one_in(4) {
+        answer_edge_of(&mut pair, |code| code == 13, r);
     }
     pair
 }
@@ -183,7 +211,7 @@ fn any_pair(seed: u64, r: &mut Rng) -> Pair {
         6 => small_words(r),
         7 if r.one_in(8) => long_pair(r),
         _ => {
-            let mut p = gen::pair(seed);
+            let mut p = reference::pair(seed);
             shorten(&mut p.req, r);
             Pair { case: p.case, requests: p.req, lens: p.lens, sort: p.sort }
         }

@@ -85,14 +85,15 @@ impl Report {
         format!(
             "A pair that differs: seed {seed}{mode}, made as: {sort}\n\n{why}\n\ncase.bin and requests.bin were made smaller from \
              whole/ ({a} and {b} bytes to {c} and {d}).\nLent: {args}\nours.txt is what the library gave, theirs.txt what it is held \
-             to.\n\nThe reference alone: refjob case.bin requests.bin {args} --nolimit\nBoth again, from the seed: cargo run --offline \
-             --release -p compare -- {seed} 1{mode}\n",
+             to.\n\nThe reference alone: refjob2 --until {landed} case.bin requests.bin {args} --nolimit\nBoth again, from the \
+             seed: cargo run --offline --release -p compare -- {seed} 1{mode}\n",
             mode = self.mode.name(),
             sort = whole.sort,
             a = whole.case.len(),
             b = whole.requests.len(),
             c = small.case.len(),
             d = small.requests.len(),
+            landed = reference::LANDED,
             args = format!("--words {} --floats {} --marks {} --answers {}", l.words, l.floats, l.marks, l.answers),
         )
     }

@@ -2,7 +2,9 @@
 use crate::lines::{POINTS, POINTS_MADE};
 use crate::pairs::Pair;
 use crate::planes::{PLANES, PLANES_MADE};
-use reference::refair::{read_case, used_words, Answer, Case, JobOut};
+use crate::sheets::{SEEDS, SEEDS_MADE};
+use reference::refair::{read_case, Answer, Case, JobOut};
+use reference::{codes, used_words};
 use std::collections::BTreeMap;
 use std::fmt::Write;
 use std::sync::atomic::{AtomicU64, Ordering::Relaxed};
@@ -22,6 +24,9 @@ pub struct Tally {
     kinds: BTreeMap<&'static str, u64>,
     sorts: BTreeMap<String, u64>,
     limits: BTreeMap<(String, u32), u64>,
+    sheets: BTreeMap<&'static str, u64>,
+    /// served jobs with a sheet
+    with_sheet: u64,
     nans: u64,
 }
 
@@ -46,6 +51,12 @@ fn kind_of(code: u64, w: &[u64]) -> &'static str {
             2..=50 => "3 to 50 points",
             51..=65_536 => "3 to 65,536 points",
             _ => "3 all 65,537 points",
+        },
+        13 => match w[0] {
+            1 => "13 one point",
+            2..=50 => "13 to 50 points",
+            51..=65_536 => "13 to 65,536 points",
+            _ => "13 all 65,537 points",
         },
         4 if w[0] == 64 => "4 of 64 lines",
         4 => "4 of fewer lines",
@@ -82,12 +93,16 @@ impl Tally {
         }
         for (i, a) in answers.iter().enumerate() {
             self.count_answer(p, i, a, held, read);
+            if i > 0 && p.code(i) == 13 && p.code(i - 1) == 3 && (1..16).all(|k| p.word(i, k) == p.word(i - 1, k)) {
+                self.count_sheet(&answers[i - 1], a);
+            }
         }
+        self.with_sheet += (0..answers.len()).any(|i| p.code(i) == 13) as u64;
     }
 
     fn count_answer(&mut self, p: &Pair, i: usize, a: &Answer, held: [bool; 4], read: bool) {
         let code = p.code(i);
-        let code = if (1..9).contains(&code) { code } else { 0 };
+        let code = if used_words(code).is_some() { code } else { 0 };
         *self.requests.entry((code, a.refusal)).or_default() += 1;
         let argument = (1..used_words(code).unwrap_or(1)).any(|k| oddness(f64::from_bits(p.word(i, k))) != [false; 4] && p.word(i, k) > 65_537);
         let had = self.fields.entry(code).or_default();
@@ -100,6 +115,27 @@ impl Tally {
         }
     }
 
+    /// A sheet after the line with the same arguments.
+    fn count_sheet(&mut self, line: &Answer, sheet: &Answer) {
+        if line.refusal != 0 || sheet.refusal != 0 {
+            return;
+        }
+        let flat = || line.words[1..].chunks_exact(3).flat_map(|p| [f64::from_bits(p[0]), f64::from_bits(p[1])]);
+        let size = |w: &u64| (*w as i64).unsigned_abs();
+        let found = [
+            ("sheets after their line", 1),
+            ("points of these lines", line.words[0]),
+            ("points dropped", line.words[0] - sheet.words[0]),
+            ("coordinates on a half", flat().filter(|x| (x * 16.0) % 2.0 == 1.0 || (x * 16.0) % 2.0 == -1.0).count() as u64),
+            ("subnormal coordinates", flat().filter(|x| x.is_subnormal()).count() as u64),
+            ("negative numbers", sheet.words[1..].iter().filter(|w| (**w as i64) < 0).count() as u64),
+            ("numbers from 2^29 on", sheet.words[1..].iter().filter(|w| size(w) >> 29 > 0).count() as u64),
+        ];
+        for (name, n) in found {
+            *self.sheets.entry(name).or_default() += n;
+        }
+    }
+
     /// What was made and what came of it, before the table.
     pub fn summary(&self) -> String {
         let pairs = |names: &[&str], made: &[AtomicU64]| {
@@ -107,11 +143,14 @@ impl Tally {
         };
         let limits: Vec<String> = self.limits.iter().map(|((s, k), n)| format!("{s}: {n} gave {k}")).collect();
         format!(
-            "cases: {}\nlimits: {}\npoints made here: {}\nplanes made here: {}\nanswers: {}; {} words are NaN\n",
+            "cases: {}\nlimits: {}\npoints made here: {}\nplanes made here: {}\nseeds of sheets made here: {}\n{} served jobs with a sheet; {}\nanswers: {}; {} words are NaN\n",
             self.sorts.iter().map(|(s, n)| format!("{s} {n}")).collect::<Vec<_>>().join(", "),
             limits.join(", "),
             pairs(&POINTS, &POINTS_MADE),
             pairs(&PLANES, &PLANES_MADE),
+            pairs(&SEEDS, &SEEDS_MADE),
+            self.with_sheet,
+            self.sheets.iter().map(|(s, n)| format!("{s} {n}")).collect::<Vec<_>>().join(", "),
             self.kinds.iter().map(|(s, n)| format!("{s}: {n}")).collect::<Vec<_>>().join(", "),
             self.nans
         )
@@ -122,7 +161,7 @@ impl Tally {
     }
 
     fn refused(&self, refusal: u32) -> u64 {
-        (0..9).map(|code| self.of(code, refusal)).sum()
+        self.of(0, refusal) + codes().iter().map(|&code| self.of(code, refusal)).sum::<u64>()
     }
 
     /// How often each code and each refusal came.
@@ -135,7 +174,7 @@ impl Tally {
         for k in REFUSALS {
             write!(s, "{k:>7}").expect("a string takes it");
         }
-        for code in 0..9 {
+        for code in std::iter::once(0).chain(codes()) {
             let name = if code == 0 { "else".into() } else { code.to_string() };
             write!(s, "\n {name:>4}{:>8}", self.of(code, 0)).expect("a string takes it");
             for k in REFUSALS {
@@ -150,7 +189,7 @@ impl Tally {
         for name in FIELDS {
             write!(s, "{name:>11}").expect("a string takes it");
         }
-        for code in 1..9 {
+        for code in codes() {
             write!(s, "\n {code:>4}").expect("a string takes it");
             for n in self.fields.get(&code).unwrap_or(&[0; 6]) {
                 write!(s, "{n:>11}").expect("a string takes it");
@@ -162,7 +201,7 @@ impl Tally {
     fn missing(&self) -> String {
         let list = |it: Vec<String>| if it.is_empty() { "none".to_string() } else { it.join(" ") };
         let jobs = JOB_REFUSALS.filter(|k| !self.jobs.contains_key(k)).map(|k| k.to_string()).collect();
-        let codes = (1..9).filter(|&c| self.of(c, 0) == 0).map(|c| c.to_string()).collect();
+        let codes = codes().into_iter().filter(|&c| self.of(c, 0) == 0).map(|c| c.to_string()).collect();
         let requests = REFUSALS.filter(|&k| self.refused(k) == 0).map(|k| k.to_string()).collect();
         format!("never came: refusals of jobs {}, answered codes {}, refusals of requests {}\n", list(jobs), list(codes), list(requests))
     }

@@ -145,7 +145,7 @@ fn differs(p: &Pair, seed: u64, area: &mut Area) -> bool {
 }
 
 /// The first pair in which a library differs.
-fn first_difference(library: Library) -> (u64, Pair, String) {
+pub fn first_difference(library: Library) -> (u64, Pair, String) {
     let mut area = Area::of(library);
     for seed in 1..5_000 {
         let pair = made(seed, Mode::Mixed);
@@ -211,6 +211,7 @@ fn a_bit_of_each_code() {
     bit_seen::<6>();
     bit_seen::<7>();
     bit_seen::<8>();
+    bit_seen::<13>();
 }
 
 #[test]

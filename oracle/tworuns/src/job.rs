@@ -31,6 +31,11 @@ impl Job {
         Job { case: pair.case, requests: pair.req, lens: pair.lens }
     }
 
+    /// Is there a request of this code?
+    pub fn asks(&self, code: u64) -> bool {
+        self.requests.chunks_exact(128).any(|request| request[..8] == code.to_le_bytes())
+    }
+
     /// Runs the job on a case. The work area holds garbage of the seed; marks and answers hold the same in every run.
     pub fn run(&self, case: &[u8], garbage: u64) -> End {
         let mut words: Vec<u32> = Garbage(garbage).map(|g| g as u32).take(self.lens.words as usize).collect();

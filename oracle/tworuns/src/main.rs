@@ -1,6 +1,6 @@
-//! tworuns FIRST COUNT: the two-run test of the built code. Each generated pair (of the reference's generator) is run twice. The second
-//! run finds other values at cells which the first did not mark, after a refused job at any cells, and other garbage in the work area;
-//! result, answers and marks must be alike, word for word. As a measure, one marked cell at a time is changed too: how often that shows.
+//! tworuns FIRST COUNT: the two-run test of the built code. Each generated pair (of the reference's generators) is run twice. The
+//! second run finds other values at cells which the first did not mark, after a refused job at any cells, and other garbage in the work
+//! area; result, answers and marks must be alike, word for word. As a measure, one marked cell at a time is changed too: how often that shows.
 //! The last line is 'N alike, M differ'; the exit status is 1 where M > 0.
 //!
 //! tworuns --self-test FIRST COUNT: a read cell counts as not marked; passes if that is found in most pairs that have one.
@@ -9,7 +9,8 @@ mod job;
 
 use fields::Fields;
 use job::{End, Job};
-use reference::refair::gen::{pair, Rng};
+use reference::pair;
+use reference::refair::gen::Rng;
 use std::process::ExitCode;
 
 /// How many marked cells of a pair are changed for the measure.
@@ -20,6 +21,7 @@ struct Tally {
     alike: u64,
     differ: u64,
     refused: u64,
+    sheets: u64,
     changed: u64,
     shown: u64,
     tried: u64,
@@ -75,6 +77,7 @@ fn two_runs(seed: u64, t: &mut Tally) {
     let fields = Fields::of(&job.case);
     let first = job.run(&job.case, r.next());
     t.refused += u64::from(first.result != 0);
+    t.sheets += u64::from(first.result == 0 && job.asks(13));
     let free = fields.as_ref().map_or(Vec::new(), |f| some(free_cells(&first, f), r));
     t.changed += u64::from(!free.is_empty());
     hold(seed, &first, &again(&job, fields.as_ref(), &free, r), t);
@@ -124,7 +127,7 @@ fn main() -> ExitCode {
         }
     }
     if !self_test {
-        println!("{} pairs with other values in the second run; {} refused jobs", t.changed, t.refused);
+        println!("{} pairs with other values in the second run; {} refused jobs; {} others with a sheet", t.changed, t.refused, t.sheets);
         println!("{} of {} changes at one marked cell show in the answers or marks", t.shown, t.tried);
     }
     println!("{} alike, {} differ", t.alike, t.differ);
