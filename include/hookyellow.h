@@ -126,6 +126,14 @@ uint64_t hookyellow_probe(const uint8_t *case_bytes, size_t case_length,
                           uint8_t *marks, size_t marks_length,
                           uint64_t *answers, size_t answers_length);
 
+/* 13: the line from a seed in whole millimetres: a point count, then x and y of each point, int64_t in the words. */
+uint64_t hookyellow_sheet(const uint8_t *case_bytes, size_t case_length,
+                          hookyellow_vector seed, bool backward, hookyellow_line_options options,
+                          uint32_t *words, size_t words_length,
+                          double *floats, size_t floats_length,
+                          uint8_t *marks, size_t marks_length,
+                          uint64_t *answers, size_t answers_length);
+
 #ifdef __cplusplus
 }
 #endif

@@ -3,8 +3,8 @@
  *     rt staticlib capi
  *     cc -std=c11 -Wall -Wextra -pedantic -Werror -I include bindings/c/pair.c target/staticlib/libcapi.a -o pair && ./pair
  *
- * Everything that is expected stands in docs/01-scope.md: in "Known rooms", or under the number of a refusal. Ends with 1
- * where a check fails. */
+ * Everything that is expected stands in docs/01-scope.md: in "Known rooms", or under the number of a refusal. The sheet is
+ * 01's 0.5 line in millimetres (docs/FORMAT.md). Ends with 1 where a check fails. */
 #include "hookyellow.h"
 #include <stdio.h>
 #include <string.h>
@@ -115,7 +115,8 @@ static void check_job(void) {
 /* The starred rooms of Pair, each request alone */
 static void check_alone(void) {
     const hookyellow_vector inside = {0.5, 0.5, 0}, end = {2, 0.5, 0}, quarter = {0.25, 0.5, 0};
-    const hookyellow_line_options still = {0.25, 10, 0.5, 1};
+    const hookyellow_line_options still = {0.25, 10, 0.5, 1}, half = {0.25, 10, 0.5, 0};
+    const uint64_t sheet[9] = {0, 7, 3, 250, 500, 500, 500, 750, 500};
     const uint64_t cell[3] = {0, 1, 0}, none[3] = {0, 1, NONE}, one[6] = {0, 4, 1, 0x3ff0000000000000, 0, 0};
     const uint64_t seed[6] = {0, 4, 1, 0x3fd0000000000000, 0x3fe0000000000000, 0};
     fill();
@@ -124,6 +125,7 @@ static void check_alone(void) {
     check(hookyellow_velocity(CASE, quarter, BUFFERS) == 0 && leaves(one, 6, 1, 1), "velocity at (0.25,0.5): (1,0,0)");
     check(hookyellow_streamline(CASE, quarter, false, still, BUFFERS) == 0 && leaves(seed, 6, 1, 1),
           "line with stagnation 1: the seed alone");
+    check(hookyellow_sheet(CASE, quarter, false, half, BUFFERS) == 0 && leaves(sheet, 9, 1, 1), "the 0.5 line in millimetres");
 }
 
 /* Refusals 1, 4 and 32, with NULL for what has length 0; how much Pair needs: "16F+96C words or 12F+64C floats" */
