@@ -24,6 +24,8 @@ pub enum Answer {
     Integrals(Integrals),
     /// 8: the sample at the point, if it lies in a polygon of the section.
     Probe(Option<Sample>),
+    /// 13: the line from the seed in whole millimetres.
+    Sheet(Sheet),
 }
 
 /// A line of flow.
@@ -31,6 +33,13 @@ pub enum Answer {
 pub struct Streamline {
     /// The points, the seed first.
     pub points: Vec<Vector>,
+}
+
+/// A line of flow in whole millimetres, halves away from zero.
+#[derive(Clone, Debug, PartialEq, Eq)]
+pub struct Sheet {
+    /// x and y of the points, the seed first. A point that equals the one before it is not listed.
+    pub points: Vec<(i64, i64)>,
 }
 
 /// A cell's part of a section.
@@ -120,6 +129,7 @@ impl Answer {
             6 => whole(words, statistics).map(Self::Statistics),
             7 => whole(words, integrals).map(Self::Integrals),
             8 => whole(words, probe).map(Self::Probe),
+            13 => whole(words, sheet).map(Self::Sheet),
             _ => None,
         }
     }
@@ -140,6 +150,7 @@ impl Answer {
                 let [x, y, z] = sample.velocity.to_bits();
                 vec![sample.cell as u64, x, y, z, sample.pressure.to_bits()]
             }
+            Self::Sheet(sheet) => counted(&sheet.points, |&(x, y)| vec![x as u64, y as u64]),
         }
     }
 }
@@ -187,6 +198,11 @@ impl Words<'_> {
         self.word().map(f64::from_bits)
     }
 
+    /// Two signed numbers, each the two's complement in a word.
+    fn millimetres(&mut self) -> Option<(i64, i64)> {
+        Some((self.word()? as i64, self.word()? as i64))
+    }
+
     fn vector(&mut self) -> Option<Vector> {
         Some(Vector::from_bits([self.word()?, self.word()?, self.word()?]))
     }
@@ -222,6 +238,11 @@ pub(crate) fn velocity(words: &mut Words) -> Option<Option<Vector>> {
 pub(crate) fn streamline(words: &mut Words) -> Option<Streamline> {
     let count = words.count()?;
     Some(Streamline { points: words.list(count, Words::vector)? })
+}
+
+pub(crate) fn sheet(words: &mut Words) -> Option<Sheet> {
+    let count = words.count()?;
+    Some(Sheet { points: words.list(count, Words::millimetres)? })
 }
 
 pub(crate) fn rake(words: &mut Words) -> Option<Vec<Streamline>> {

@@ -2,7 +2,7 @@
 //!
 //! A [`Case`] holds a mesh with a velocity and a pressure in each cell, a [`Request`] asks for a cell, a velocity, streamlines or a
 //! plane section, and [`job`] answers a list of requests. Each request can also be called alone: [`locate`], [`velocity`],
-//! [`streamline`] and [`rake`] on a 2D case, [`section`], [`statistics`], [`integrals`] and [`probe`] on a 3D one.
+//! [`streamline`], [`rake`] and [`sheet`] on a 2D case, [`section`], [`statistics`], [`integrals`] and [`probe`] on a 3D one.
 //!
 //! With the answers come the cells whose values were read ([`Outcome::cells_read`]). A value of any other cell had no part in
 //! them: with another value there, every answer would be the same, bit for bit.
@@ -36,7 +36,7 @@
 //! assert_eq!(refusal.number(), 1);
 //! ```
 //!
-//! The formats are those of docs/FORMAT.md, and docs/01-scope.md says what each answer is. The work is done by the proved code in
+//! The formats are those of docs/FORMAT.md, which also says what a sheet is, and docs/01-scope.md what each other answer is. The work is done by the proved code in
 //! the static library that `rt staticlib capi` writes; [`raw`] has its functions as they are.
 #![warn(missing_docs)]
 
@@ -51,10 +51,10 @@ mod request;
 mod run;
 mod workspace;
 
-pub use answer::{Answer, FluxWeighted, Integrals, Sample, SectionPolygon, Statistics, Streamline};
+pub use answer::{Answer, FluxWeighted, Integrals, Sample, SectionPolygon, Sheet, Statistics, Streamline};
 pub use case::{BuildError, Case, CaseBuilder, Cell, Dimension};
 pub use geometry::{SectionPlane, Vector};
 pub use refusal::{Refusal, RequestRefusal};
 pub use request::{Direction, Field, LineOptions, Request};
-pub use run::{integrals, job, locate, probe, rake, section, statistics, streamline, velocity, Outcome, Single};
+pub use run::{integrals, job, locate, probe, rake, section, sheet, statistics, streamline, velocity, Outcome, Single};
 pub use workspace::{needs, Needs, Workspace};

@@ -142,4 +142,20 @@ extern "C" {
         answers: *mut u64,
         answers_length: usize,
     ) -> u64;
+    /// A job of one request, code 13: the streamline from a seed in whole millimetres.
+    pub fn hookyellow_sheet(
+        case: *const u8,
+        case_length: usize,
+        seed: Vector,
+        backward: bool,
+        options: LineOptions,
+        words: *mut u32,
+        words_length: usize,
+        floats: *mut f64,
+        floats_length: usize,
+        marks: *mut u8,
+        marks_length: usize,
+        answers: *mut u64,
+        answers_length: usize,
+    ) -> u64;
 }

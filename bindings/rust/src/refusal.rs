@@ -80,7 +80,7 @@ refusals! {
     /// Why one request of an accepted job is refused. Under 30 to 38 it reads no cell; under 39 to 44 what it read counts.
     RequestRefusal {
         30 Malformed "an unknown code, an unused word that is not zero, or a direction above 1",
-        31 Dimension "locate, velocity, streamline and rake need a 2D case, section, statistics, integrals and probe a 3D one",
+        31 Dimension "locate, velocity, streamline, rake and sheet need a 2D case, section, statistics, integrals and probe a 3D one",
         32 FewSeeds "a rake of fewer than 2 seeds",
         33 Limit "more than 64 seeds or 65,536 steps",
         34 LineOptions "a step size, maximum length or stagnation speed that is not finite or out of range, or no steps",

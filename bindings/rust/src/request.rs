@@ -1,4 +1,4 @@
-//! The eight requests and their 16 words.
+//! The requests and their 16 words.
 use crate::{SectionPlane, Vector};
 
 /// Which way a streamline is followed.
@@ -59,7 +59,7 @@ pub struct LineOptions {
     pub stagnation_speed: f64,
 }
 
-/// One request. [`Request::Locate`] to [`Request::Rake`] need a 2D case, the others a 3D one (else 31).
+/// One request. [`Request::Locate`] to [`Request::Rake`] and [`Request::Sheet`] need a 2D case, the others a 3D one (else 31).
 #[derive(Clone, Copy, Debug, PartialEq)]
 pub enum Request {
     /// 1: the cell that a point locates in.
@@ -118,10 +118,19 @@ pub enum Request {
         /// The point, within 1e-8 of the plane.
         point: Vector,
     },
+    /// 13: the streamline from a seed, in whole millimetres.
+    Sheet {
+        /// The first point of the line.
+        seed: Vector,
+        /// Which way the line is followed.
+        direction: Direction,
+        /// How the line is followed.
+        options: LineOptions,
+    },
 }
 
 impl Request {
-    /// The code, 1 to 8.
+    /// The code.
     pub fn code(&self) -> u64 {
         match self {
             Self::Locate { .. } => 1,
@@ -132,6 +141,7 @@ impl Request {
             Self::Statistics { .. } => 6,
             Self::Integrals { .. } => 7,
             Self::Probe { .. } => 8,
+            Self::Sheet { .. } => 13,
         }
     }
 
@@ -141,7 +151,7 @@ impl Request {
         words.put(&[self.code()]);
         match *self {
             Self::Locate { point } | Self::Velocity { point } => words.put(&point.to_bits()),
-            Self::Streamline { seed, direction, options } => {
+            Self::Streamline { seed, direction, options } | Self::Sheet { seed, direction, options } => {
                 words.put(&seed.to_bits());
                 words.line(direction, options);
             }

@@ -2,7 +2,7 @@
 use crate::answer::{self, whole, Words};
 use crate::{
     Answer, Case, Direction, Field, Integrals, LineOptions, Refusal, Request, RequestRefusal, Sample, SectionPlane,
-    SectionPolygon, Statistics, Streamline, Vector, Workspace,
+    SectionPolygon, Sheet, Statistics, Streamline, Vector, Workspace,
 };
 
 /// What an accepted job gives.
@@ -126,4 +126,16 @@ pub fn probe(
     workspace: &mut Workspace,
 ) -> Result<Single<Option<Sample>>, Refusal> {
     single(case, workspace, answer::probe, |buffers| call!(hookyellow_probe, case, buffers, plane, point))
+}
+
+/// The streamline from a seed, in whole millimetres.
+pub fn sheet(
+    case: &Case,
+    seed: Vector,
+    direction: Direction,
+    options: LineOptions,
+    workspace: &mut Workspace,
+) -> Result<Single<Sheet>, Refusal> {
+    let backward = direction == Direction::Backward;
+    single(case, workspace, answer::sheet, |buffers| call!(hookyellow_sheet, case, buffers, seed, backward, options))
 }

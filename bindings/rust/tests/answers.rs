@@ -1,6 +1,6 @@
 //! Answers read from any words.
 mod common;
-use common::Random;
+use common::{Random, CODES};
 use hookyellow::{Answer, Statistics};
 
 /// Words that look like counts, flags, cells or floats, or like nothing.
@@ -19,34 +19,37 @@ fn word(random: &mut Random) -> u64 {
 #[test]
 fn what_is_read_is_written_back() {
     let mut random = Random(1);
-    let mut read = [0; 9];
+    let mut read = [0; 15];
     for _ in 0..200_000 {
         let words: Vec<u64> = (0..random.below(24)).map(|_| word(&mut random)).collect();
-        for code in 0..=9 {
+        for code in 0..15 {
             if let Some(answer) = Answer::from_words(code, &words) {
                 assert_eq!(answer.to_words(), words, "code {code}");
                 read[code as usize] += 1;
             }
         }
     }
-    assert_eq!(read[0], 0);
-    assert!(read[1..].iter().all(|&count| count > 0), "{read:?}");
+    for (code, &count) in read.iter().enumerate() {
+        assert_eq!(count > 0, CODES.contains(&(code as u64)), "{read:?}");
+    }
 }
 
 #[test]
 fn counts_beyond_the_words_are_not_of_the_format() {
-    for code in [3, 4, 5] {
+    for code in [3, 4, 5, 13] {
         for count in [1, 1 << 32, u64::MAX / 3 + 1, u64::MAX] {
             assert_eq!(Answer::from_words(code, &[count]), None, "code {code}, count {count}");
         }
     }
     assert_eq!(Answer::from_words(4, &[1, u64::MAX, 0, 0, 0]), None);
+    assert_eq!(Answer::from_words(13, &[2, 0, 0, 0]), None);
     assert_eq!(Answer::from_words(5, &[1, 0, u64::MAX, 0, 0, 0]), None);
 }
 
 #[test]
 fn words_left_over_or_flags_other_than_0_and_1_are_not_of_the_format() {
     assert_eq!(Answer::from_words(1, &[0, 0]), None);
+    assert_eq!(Answer::from_words(13, &[1, 0, 0, 0]), None);
     assert_eq!(Answer::from_words(2, &[2, 0, 0, 0]), None);
     assert_eq!(Answer::from_words(2, &[0, 0, 0, 1]), None);
     assert_eq!(Answer::from_words(8, &[u64::MAX, 0, 0, 0, 1]), None);

@@ -27,7 +27,7 @@ fn requests(random: &mut Random) -> Vec<u8> {
         for place in 0..16 {
             let float = ((random.below(9) as f64) * 0.25).to_bits();
             let word = [float, float, 1, random.next()][random.below(4)];
-            let word = if place == 0 { random.below(10) as u64 } else { word * u64::from(place <= used) };
+            let word = if place == 0 { random.below(15) as u64 } else { word * u64::from(place <= used) };
             bytes.extend(word.to_le_bytes());
         }
     }
@@ -77,7 +77,7 @@ fn request(random: &mut Random) -> Request {
         max_length: [4.0, float(random)][random.below(2)],
         stagnation_speed: [0.0, float(random)][random.below(2)],
     };
-    match random.below(8) {
+    match random.below(9) {
         0 => Request::Locate { point },
         1 => Request::Velocity { point },
         2 => Request::Streamline { seed: point, direction, options },
@@ -85,6 +85,7 @@ fn request(random: &mut Random) -> Request {
         4 => Request::Section { plane },
         5 => Request::Statistics { plane, field },
         6 => Request::Integrals { plane },
+        7 => Request::Sheet { seed: point, direction, options },
         _ => Request::Probe { plane, point },
     }
 }
@@ -94,7 +95,7 @@ fn request(random: &mut Random) -> Request {
 fn any_typed_job_ends() {
     let mut random = Random(3);
     let mut workspace = Workspace::new();
-    let mut answered = [0; 9];
+    let mut answered = [0; 14];
     for _ in 0..10_000 {
         let requests: Vec<Request> = (0..random.below(5)).map(|_| request(&mut random)).collect();
         let Ok(outcome) = job(&case(&mut random), &requests, &mut workspace) else { continue };
@@ -112,7 +113,7 @@ fn any_typed_job_ends() {
             }
         }
     }
-    assert!(answered[1..].iter().all(|&count| count > 0), "{answered:?}");
+    assert!(CODES.iter().all(|&code| answered[code as usize] > 0), "{answered:?}");
 }
 
 /// The words of an answer, which NaNs do not make unequal, or its refusal; and the cells.
@@ -137,6 +138,7 @@ fn alone(case: &Case, request: Request, w: &mut Workspace) -> Result<Given, Refu
         Request::Statistics { plane, field } => given(statistics(case, plane, field, w)?, Answer::Statistics),
         Request::Integrals { plane } => given(integrals(case, plane, w)?, Answer::Integrals),
         Request::Probe { plane, point } => given(probe(case, plane, point, w)?, Answer::Probe),
+        Request::Sheet { seed, direction, options } => given(sheet(case, seed, direction, options, w)?, Answer::Sheet),
     })
 }
 
@@ -145,7 +147,7 @@ fn alone(case: &Case, request: Request, w: &mut Workspace) -> Result<Given, Refu
 fn a_request_alone_is_a_job_of_one() {
     let mut random = Random(4);
     let (mut one, mut other) = (Workspace::new(), Workspace::new());
-    let mut answered = [0; 9];
+    let mut answered = [0; 14];
     for _ in 0..10_000 {
         let (case, request) = (case(&mut random), request(&mut random));
         let whole = job(&case, &[request], &mut one).map(|outcome| {
@@ -155,5 +157,5 @@ fn a_request_alone_is_a_job_of_one() {
         answered[request.code() as usize] += u32::from(matches!(whole, Ok((Ok(_), _))));
         assert_eq!(alone(&case, request, &mut other), whole, "{request:?}");
     }
-    assert!(answered[1..].iter().all(|&count| count > 0), "{answered:?}");
+    assert!(CODES.iter().all(|&code| answered[code as usize] > 0), "{answered:?}");
 }

@@ -85,6 +85,22 @@ fn answers_grow_to_the_limit_only() {
     }
 }
 
+/// The same line as a sheet: each whole millimetre from 125 to 1,000, and 2 + 1 + 2 * 876 words.
+#[test]
+fn a_sheet_counts_its_own_words() {
+    let ((seed, options), case) = (long_line(), square(X));
+    let request = Request::Sheet { seed, direction: Direction::Forward, options };
+    for (limit, fits) in [(1_754, false), (1_755, true)] {
+        let mut workspace = Workspace::new();
+        workspace.set_answer_limit(limit);
+        let outcome = job(&case, &[request], &mut workspace).unwrap();
+        let points = (125..=1_000).map(|x| (x, 500)).collect();
+        let due = if fits { Ok(Answer::Sheet(Sheet { points })) } else { Err(RequestRefusal::AnswerSpace) };
+        assert_eq!(outcome.answers, [due], "{limit}");
+        assert_eq!(outcome.cells_read(), [0], "{limit}");
+    }
+}
+
 /// One workspace for a large room, a small one, a refused one and the small one again.
 #[test]
 fn a_workspace_serves_any_case() {

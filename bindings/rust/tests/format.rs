@@ -75,6 +75,18 @@ fn the_job_gives_the_listing() {
     assert!(workspace.answers()[whole.len()..].iter().all(|&word| word == 0));
 }
 
+/// The sheet of the line, word by word.
+#[test]
+fn the_job_gives_the_listed_sheet() {
+    let request = Request::Sheet { seed: at(0.25, 0.5, 0.0), direction: Direction::Forward, options: quarters(0.5) };
+    let mut workspace = Workspace::new();
+    job(&pair(), &[request], &mut workspace).unwrap();
+    let line = block("as a sheet it is").split_whitespace();
+    let words: Vec<u64> = line.map(|word| u64::from_str_radix(word, 16).unwrap()).collect();
+    assert_eq!(words[1], words.len() as u64 - 2);
+    assert_eq!(workspace.answers()[..words.len()], words);
+}
+
 /// The arguments in the order of the table of requests, each float told by its own value.
 #[test]
 fn requests_have_the_words_of_the_table() {
@@ -98,6 +110,7 @@ fn requests_have_the_words_of_the_table() {
         (Request::Statistics { plane, field: Field::VelocityZ }, 6, [&floats(1..=9)[..], &[4]].concat()),
         (Request::Integrals { plane }, 7, floats(1..=9)),
         (Request::Probe { plane, point }, 8, floats(1..=12)),
+        (Request::Sheet { seed, direction: Direction::Forward, options }, 13, [&floats(1..=3)[..], &[0], &line].concat()),
     ];
     for (request, code, arguments) in cases {
         let mut words = [&[code], &arguments[..]].concat();

@@ -85,6 +85,7 @@ fn lines_are_refused_before_a_cell_is_read() {
     };
     let good = quarters(1.0);
     let seed = |x| Request::Streamline { seed: at(x, 0.5, 0.), direction: Direction::Forward, options: good };
+    let sheet = |x, options| Request::Sheet { seed: at(x, 0.5, 0.), direction: Direction::Forward, options };
     let cases = [
         (Request::Section { plane: level(0.5) }, RequestRefusal::Dimension),
         (rake(1, good), RequestRefusal::FewSeeds),
@@ -94,6 +95,9 @@ fn lines_are_refused_before_a_cell_is_read() {
         (rake(2, LineOptions { max_steps: 0, ..good }), RequestRefusal::LineOptions),
         (rake(2, LineOptions { stagnation_speed: f64::NAN, ..good }), RequestRefusal::LineOptions),
         (seed(2.0), RequestRefusal::Seed),
+        (sheet(0.25, LineOptions { max_steps: 65_537, ..good }), RequestRefusal::Limit),
+        (sheet(0.25, LineOptions { max_length: f64::INFINITY, ..good }), RequestRefusal::LineOptions),
+        (sheet(2.0, good), RequestRefusal::Seed),
     ];
     for (request, refusal) in cases {
         assert_eq!(refused(&room, request), (refusal, vec![]), "{request:?}");
@@ -107,6 +111,7 @@ fn sections_are_refused_with_the_cells_they_read() {
     let section = |origin, u| Request::Section { plane: SectionPlane::new(origin, u, Y) };
     let cases = [
         (Request::Locate { point: X }, RequestRefusal::Dimension, vec![]),
+        (Request::Sheet { seed: X, direction: Direction::Forward, options: quarters(1.0) }, RequestRefusal::Dimension, vec![]),
         (section(at(0., 0., 0.5), at(2., 0., 0.)), RequestRefusal::Plane, vec![]),
         (section(at(0., 0., f64::NAN), X), RequestRefusal::Plane, vec![]),
         (section(at(0., 0., 1_048_577.), X), RequestRefusal::FarOrigin, vec![]),

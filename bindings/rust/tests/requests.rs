@@ -85,6 +85,59 @@ fn rake_of_a_uniform_flow() {
     }
 }
 
+/// The sheet of a job and of the request alone.
+fn sheet_is(case: &Case, seed: Vector, direction: Direction, options: LineOptions, points: &[(i64, i64)], cells: &[usize]) {
+    let expected = (Ok(Answer::Sheet(Sheet { points: points.to_vec() })), cells.to_vec());
+    assert_eq!(ask(case, Request::Sheet { seed, direction, options }), expected);
+    assert_eq!(alone(sheet(case, seed, direction, options, &mut Workspace::new()).unwrap(), Answer::Sheet), expected);
+}
+
+/// 01's 0.5 line of Pair, x = 0.25, 0.5 and 0.75 at y = 0.5, and its seed alone, in millimetres.
+#[test]
+fn sheet_of_pair() {
+    let seed = at(0.25, 0.5, 0.0);
+    sheet_is(&pair(), seed, Direction::Forward, quarters(0.5), &[(250, 500), (500, 500), (750, 500)], &[0, 1]);
+    let still = LineOptions { stagnation_speed: 1.0, ..quarters(0.5) };
+    sheet_is(&pair(), seed, Direction::Forward, still, &[(250, 500)], &[0, 1]);
+}
+
+/// A unit square whose low corner is at (-0.5, -0.5).
+fn square_about_zero(velocity: Vector) -> Case {
+    Case::builder(Dimension::Two)
+        .points([[-0.5, -0.5, 0.], [0.5, -0.5, 0.], [0.5, 0.5, 0.], [-0.5, 0.5, 0.]])
+        .cells([Cell::Polygon(vec![0, 1, 2, 3])])
+        .velocities([velocity])
+        .pressures([0.])
+        .build()
+        .unwrap()
+}
+
+/// A sixteenth of a metre is 62.5 mm: away from zero on both sides. The floats beside it are no halves.
+#[test]
+fn sheet_sends_halves_away_from_zero() {
+    let eighths = LineOptions { step_size: 0.125, ..quarters(0.375) };
+    let (case, seed) = (square_about_zero(X), at(-0.1875, 0.0625, 0.0));
+    sheet_is(&case, seed, Direction::Forward, eighths, &[(-188, 63), (-63, 63), (63, 63), (188, 63)], &[0]);
+    let one = LineOptions { max_steps: 1, ..quarters(0.1) };
+    for (y, millimetres) in [(0.0625_f64, 63), (-0.0625, -63), (0.000_5, 1), (0.000_499, 0), (5e-324, 0), (-0.0, 0)] {
+        sheet_is(&case, at(0.25, y, 0.0), Direction::Forward, one, &[(250, millimetres)], &[0]);
+    }
+    let (above, below) = (0.0625_f64.next_up(), 0.0625_f64.next_down());
+    for (y, millimetres) in [(above, 63), (below, 62), (-above, -63), (-below, -62)] {
+        sheet_is(&case, at(0.25, y, 0.0), Direction::Forward, one, &[(250, millimetres)], &[0]);
+    }
+}
+
+/// Steps of 1/2048 m are 0.488 mm: 250, 250.5, 251.0, 251.5, .. a little less each, and so two points to a millimetre.
+#[test]
+fn sheet_drops_a_point_that_equals_the_one_before() {
+    let options = LineOptions { step_size: 1.0 / 2048.0, max_steps: 8, max_length: 1.0, stagnation_speed: 0.0 };
+    let listed = [250, 251, 252, 253, 254].map(|x| (x, 500));
+    sheet_is(&square(X), at(0.25, 0.5, 0.0), Direction::Forward, options, &listed, &[0]);
+    let short = LineOptions { step_size: 1.0 / 65_536.0, ..options };
+    sheet_is(&square(X), at(0.25, 0.5, 0.0), Direction::Forward, short, &[(250, 500)], &[0]);
+}
+
 /// 01's unit cube: the square at half its height, from the corner nearest the origin around.
 #[test]
 fn section_of_the_unit_cube() {

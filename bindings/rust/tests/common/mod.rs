@@ -2,6 +2,9 @@
 #![allow(dead_code)]
 use hookyellow::{Case, Cell, Dimension, LineOptions, SectionPlane, Vector};
 
+/// The codes of the requests.
+pub const CODES: [u64; 9] = [1, 2, 3, 4, 5, 6, 7, 8, 13];
+
 pub const X: Vector = Vector::new(1.0, 0.0, 0.0);
 pub const Y: Vector = Vector::new(0.0, 1.0, 0.0);
 
