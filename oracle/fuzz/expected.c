@@ -1,4 +1,5 @@
-/* What docs/01-scope.md says of a case and of answers, written without the library: refusals 1 to 10 and the shape of each answer. */
+/* What docs/01-scope.md and docs/FORMAT.md say of a case and of answers, written without the library: refusals 1 to 10 and the shape
+ * of each answer. */
 #include "area.h"
 #include <math.h>
 
@@ -86,8 +87,20 @@ static int runs(const survey *s, uint64_t code, const uint64_t *w, uint64_t n) {
     return at == n;
 }
 
+/* A sheet: its count, x and y within the farthest coordinate in millimetres, no point equal to the one before it. */
+static int sheet(const uint64_t *w, uint64_t n) {
+    const int64_t far = 1048576000;
+    if (w[0] < 1 || w[0] > MOST_STEPS + 1 || n != 1 + 2 * w[0]) return 0;
+    for (uint64_t i = 1; i < n; i++)
+        if ((int64_t)w[i] > far || (int64_t)w[i] < -far) return 0;
+    for (uint64_t i = 3; i < n; i += 2)
+        if (w[i] == w[i - 2] && w[i + 1] == w[i - 1]) return 0;
+    return 1;
+}
+
 static int shaped(const survey *s, uint64_t code, const uint64_t *w, uint64_t n) {
     static const uint8_t length[] = {0, 1, 4, 0, 0, 0, 13, 4, 5};
+    if (code == 13) return n > 0 && s->dimension == 2 && sheet(w, n);
     if (code < 1 || code > 8 || n == 0 || (code <= 4) != (s->dimension == 2)) return 0;
     if (length[code] && n != length[code]) return 0;
     if (code == 1 || code == 8) return w[0] < s->cells || w[0] == UINT64_MAX;
@@ -97,8 +110,9 @@ static int shaped(const survey *s, uint64_t code, const uint64_t *w, uint64_t n)
     return code != 5 || runs(s, code, w, n);
 }
 
-/* A NaN is given back as one pattern. The word for no cell, all ones, is not a float. */
+/* A NaN is given back as one pattern. The word for no cell, all ones, is not a float, and a sheet has none. */
 static int plain_nans(uint64_t code, const uint64_t *w, uint64_t n) {
+    if (code == 13) return 1;
     for (uint64_t i = code == 1 || code == 8; i < n; i++)
         if ((w[i] & INT64_MAX) > 0x7ff0000000000000 && w[i] != 0x7ff8000000000000) return 0;
     return 1;

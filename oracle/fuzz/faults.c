@@ -24,6 +24,8 @@ uint64_t __wrap_hookyellow_job(GIVEN) {
     case 10: if (!result && requests_length == 128) marks[0] ^= 1; break;          /* other marks than the request alone */
     case 11: if (!result && answers_length > 4 && answers[1] > 1) answers[3] = 0x7ff8000000000001; break; /* another NaN */
     case 12: for (volatile int on = 1; on;) {} break;                              /* no end */
+    case 13: if (!result && requests_length && requests[0] == 13 && answers[1] > 4) answers[5] = answers[3], answers[6] = answers[4];
+             break;                                                                /* a sheet with a point twice */
     }
     return result;
 }

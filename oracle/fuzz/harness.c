@@ -2,7 +2,7 @@
  * and ends the process by abort() where anything differs from what include/hookyellow.h and docs/01-scope.md say.
  *
  * Input: 32 bytes of header, then the case and the requests.
- *   0 function: 1 to 8 the single requests, 9 hookyellow_needs, else hookyellow_job
+ *   0 function: 1 to 8 and 13 the single requests, 9 hookyellow_needs, else hookyellow_job
  *   1 form: bit 0 the case bytes are taken as they are; else P, W, C below give the trailer, and bit 1 the dimension.
  *           bit 2 request bytes that are no multiple of 128 stay. bit 3 buffers start at a guard page; else they end near one
  *   2 lengths of words, floats, marks, answers, a byte each (see length_of)
@@ -58,8 +58,8 @@ static void bound_steps(void) {
     uint64_t left = MOST_STEPS;
     for (size_t at = 0; at + REQUEST <= request_length; at += REQUEST) {
         uint64_t code = long_at(request_bytes + at), lines = 1;
-        if (code != 3 && code != 4) continue;
-        uint8_t *place = request_bytes + at + (code == 3 ? 48 : 80);
+        if (code != 3 && code != 4 && code != 13) continue;
+        uint8_t *place = request_bytes + at + (code == 4 ? 80 : 48);
         uint64_t steps = long_at(place);
         if (code == 4) lines = long_at(request_bytes + at + 56);
         if (steps > MOST_STEPS || lines == 0 || lines > 64) continue;
@@ -164,18 +164,19 @@ static uint64_t run_single(const uint64_t *w, lengths n) {
     case 5: return hookyellow_section(CASE, plane, LENT);
     case 6: return hookyellow_statistics(CASE, plane, w[10], LENT);
     case 7: return hookyellow_integrals(CASE, plane, LENT);
-    default: return hookyellow_probe(CASE, plane, vector(w + 10), LENT);
+    case 8: return hookyellow_probe(CASE, plane, vector(w + 10), LENT);
+    default: return hookyellow_sheet(CASE, vector(w + 1), w[4] != 0, options(w + 5), LENT);
     }
 }
 
 /* Makes the first request one of the given code: what a single request is a job of. */
 static void one_request(uint64_t code, uint64_t *w) {
-    static const uint8_t used[] = {0, 4, 4, 9, 13, 10, 11, 10, 13};
+    static const uint8_t used[] = {0, 4, 4, 9, 13, 10, 11, 10, 13, 0, 0, 0, 0, 9};
     memset(w, 0, REQUEST);
     memcpy(w, request_bytes, request_length < REQUEST ? request_length : REQUEST);
     w[0] = code;
     for (int i = used[code]; i < 16; i++) w[i] = 0;
-    if (code == 3) w[4] &= 1;
+    if (code == 3 || code == 13) w[4] &= 1;
     if (code == 4) w[8] &= 1;
     memcpy(request_bytes, w, REQUEST);
     request_length = REQUEST;
@@ -230,7 +231,7 @@ int LLVMFuzzerTestOneInput(const uint8_t *data, size_t size) {
                  length_of(header[4], marks, MOST_MARKS), length_of(header[5], answers, MOST_ANSWERS)};
     uint32_t seed = word_at(header + 24);
     unsigned function = header[0] & 15;
-    if (function >= 1 && function <= 8) {
+    if ((function >= 1 && function <= 8) || function == 13) {
         try_single(header, &s, n, seed);
     } else if (function == 9) {
         try_needs(header, &s, n, seed);
