@@ -18,7 +18,7 @@ pub fn bytes(list: &[Request]) -> Vec<u8> {
 fn bound(request: &Request, cells: usize) -> usize {
     let points = |steps: u64| 4 + 3 * steps as usize;
     2 + match request[0] {
-        3 => points(request[6]),
+        3 | 13 => points(request[6]),
         4 => 1 + request[7] as usize * points(request[10]),
         5 => 1 + cells * 45,
         _ => 13,

@@ -50,6 +50,7 @@ pub fn all() -> Vec<Row> {
     add("velocity", &quads, request(velocities, 4096, 256));
     add("line", &quads, request(line, 65_536, 64));
     add("rake", &quads, request(rake, 1024, 1));
+    add("sheet", &quads, request(sheet, 65_536, 64));
     add("section-few", &hexahedra, request(|_| vec![section(FEW)], 1, 1));
     add("section-many", &hexahedra, request(|_| vec![section(MANY)], 1, 1));
     add("statistics-few", &hexahedra, request(|_| vec![statistics(FEW)], 1, 1));
@@ -102,6 +103,13 @@ fn options(steps: usize) -> [u64; 5] {
 fn line(steps: usize) -> Vec<Request> {
     let seed = [0.7f64, 0.5, 0.0].map(f64::to_bits);
     vec![request(3, &[&seed[..], &options(steps)].concat())]
+}
+
+/// The same line in millimetres: a step is a tenth of one.
+fn sheet(steps: usize) -> Vec<Request> {
+    let mut list = line(steps);
+    list[0][0] = 13;
+    list
 }
 
 /// 64 seeds, each followed for as many steps.

@@ -10,8 +10,9 @@ which is part of that function. build-quads-field: the Rust's also makes the str
 Other rows: ours is a job with the requests less a job without any, of the same round (short requests stand in the job up to 64 times);
 the Rust's mesh and streamline field are ready, and a plane is cut through the whole mesh at each call, as FLURSYS does.
 The Rust's statistics include its text, which is part of that function. Its results are dropped outside the time.
-locate, velocity: 4,096 points. line: 65,536 steps. rake: 64 seeds of 1,024 steps. few, many: a plane by a corner of the room, by its
-middle. *: fewer points or steps were run and both times multiplied. ~: half of our rounds lie more than a quarter apart.
+locate, velocity: 4,096 points. line, sheet: 65,536 steps of a tenth of a millimetre; the Rust has no sheet, and its time is that of
+the line. rake: 64 seeds of 1,024 steps. few, many: a plane by a corner of the room, by its middle. *: fewer points or steps were run
+and both times multiplied. ~: half of our rounds lie more than a quarter apart.
 Growth: the time over that of the same row on its smallest mesh.";
 
 pub fn print_header() {

@@ -5,6 +5,7 @@ use reference::flursys::workbench::plane_monitor::{self, FlowPlaneMonitor, Plane
 use reference::flursys::workbench::results::streamlines::*;
 use reference::flursys::workbench::results::ResultDataset;
 use reference::flursys::{CellDefinition, MeshDimension, Point, UnstructuredMesh, Vec3};
+use reference::refair::ref02::millimetres;
 use reference::refair::{self, bits, plane_of, Case, Stats, NONE};
 
 /// A request in FLURSYS's own types, ready before the clock starts.
@@ -13,6 +14,7 @@ pub enum Call {
     Velocity(Vec3),
     Line(Vec3, StreamlineOptions),
     Rake(Vec3, Vec3, usize, StreamlineOptions),
+    Sheet(Vec3, StreamlineOptions),
     Section(FlowPlaneMonitor),
     Statistics(FlowPlaneMonitor, usize),
     Integrals(FlowPlaneMonitor),
@@ -26,6 +28,8 @@ pub enum Output {
     Velocity(Option<Vec3>),
     Line(StreamlinePath),
     Rake(Vec<StreamlinePath>),
+    /// FLURSYS has no sheet: its line, which is not put into millimetres before the answers are compared
+    Sheet(StreamlinePath),
     Section(Box<PlaneSnapshot>),
     Statistics(Box<PlaneSnapshot>, usize, String),
     Integrals(Box<PlaneSnapshot>, Box<plane_integrals::Sample>),
@@ -73,6 +77,7 @@ impl Call {
             6 => Call::Statistics(plane_of(request), request[10] as usize),
             7 => Call::Integrals(plane_of(request)),
             8 => Call::Probe(plane_of(request), vector(request, 10)),
+            13 => Call::Sheet(vector(request, 1), options(request, 4)),
             code => panic!("no row asks for {code}"),
         }
     }
@@ -127,6 +132,9 @@ impl Theirs {
             Call::Line(seed, options) => {
                 Output::Line(field().integrate(*seed, StreamlineDirection::Forward, *options).expect("a line"))
             }
+            Call::Sheet(seed, options) => {
+                Output::Sheet(field().integrate(*seed, StreamlineDirection::Forward, *options).expect("a line"))
+            }
             Call::Rake(start, end, count, options) => Output::Rake(
                 field().integrate_rake(*start, *end, *count, StreamlineDirection::Forward, *options).expect("a rake"),
             ),
@@ -160,6 +168,13 @@ fn put_line(words: &mut Vec<u64>, line: &StreamlinePath) {
     line.points.iter().for_each(|&p| put(words, p));
 }
 
+fn put_sheet(words: &mut Vec<u64>, line: &StreamlinePath) {
+    let mut list: Vec<_> = line.points.iter().map(|p| [p.x, p.y].map(|x| millimetres(x, false) as u64)).collect();
+    list.dedup();
+    words.push(list.len() as u64);
+    words.extend(list.concat());
+}
+
 fn put_section(words: &mut Vec<u64>, snapshot: &PlaneSnapshot) {
     words.push(snapshot.samples.len() as u64);
     for sample in &snapshot.samples {
@@ -183,6 +198,7 @@ impl Output {
                 put(&mut words, *v);
             }
             Output::Line(line) => put_line(&mut words, line),
+            Output::Sheet(line) => put_sheet(&mut words, line),
             Output::Rake(lines) => {
                 words.push(lines.len() as u64);
                 lines.iter().for_each(|line| put_line(&mut words, line));
