@@ -1,12 +1,13 @@
 #!/usr/bin/env python3
 """Makes what the program crate replay runs on, and what it is held to.
 
-    make.py REFJOB GEN ROOMS
+    make.py PROGRAMS
 
-writes crates/test_replay/data/pairs (src/main.rt says in which form) and crates/test_replay/stdout. REFJOB is
-the reference job, which runs FLURSYS's own Rust inside the records of the case and request files;
-GEN makes pairs by chance and ROOMS those of docs/01-scope.md. No answer is computed here: the answer
-words, the marks and the refusals are read off what REFJOB prints for each pair. What is added are the
+writes crates/test_replay/data/pairs (src/main.rt says in which form) and crates/test_replay/stdout. PROGRAMS
+is the folder of the reference's programs: `refjob2`, the reference job with the requests of document 02
+that oracle/reference names, runs FLURSYS's own Rust inside the records of the case and request files;
+`gen` makes pairs by chance and `rooms` those of docs/01-scope.md. No answer is computed here: the answer
+words, the marks and the refusals are read off what refjob2 prints for each pair. What is added are the
 zeros after the last answer, the bytes that a buffer holds before the job, and the hashes.
 
 The pairs: the known rooms, each cause of each refusal, buffers at their least lengths and one below,
@@ -30,13 +31,15 @@ import tempfile
 HERE = os.path.dirname(os.path.abspath(__file__))
 TOP = os.path.join(HERE, "..", "..")
 CRATE = os.path.join(TOP, "crates", "test_replay")
+REFERENCE = open(os.path.join(HERE, "..", "reference", "src", "lib.rs")).read()
+LANDED = re.search(r"^pub const LANDED: u32 = (\d+);$", REFERENCE, re.M)[1]
 FAR = 1048576.0
 NAN, INF = math.nan, math.inf
 MOST = 2**64 - 1
 AIRJOB = (16384, 8192, 16384, 8192)
 ROOM = (32768, 16384, 16384, 16384)
 ANSWER, MARK = 0x5555555555555555, 7
-WANTED = 560
+WANTED = 599
 
 
 def u32(*numbers):
@@ -207,6 +210,11 @@ def velocity(x, y, z=0.0):
 
 def line(seed=(0.25, 0.5, 0.0), direction=0, step=0.25, steps=10, length=0.5, stagnation=0.0):
     return request(3, *map(float, seed), direction, step, steps, length, stagnation)
+
+
+def sheet(*words, **options):
+    """The line of these arguments in millimetres."""
+    return altered(line(*words, **options), 0, 13)
 
 
 def rake(start=(0.25, 0.25, 0.0), end=(0.25, 0.75, 0.0), count=3, direction=0, step=0.25, steps=10, length=0.5, stagnation=0.0):
@@ -430,7 +438,7 @@ def volumes():
 
 
 def codes():
-    for code in (0, 9, 13, 2**32 + 1, 2**63 + 1, MOST):
+    for code in (0, 9, 14, 2**32 + 1, 2**63 + 1, MOST):
         between(f"30: code {code}", PAIR, request(code))
         between(f"30: code {code} in 3D", CUBE, request(code))
     used = {1: 4, 2: 4, 3: 9, 4: 13, 5: 10, 6: 11, 7: 10, 8: 13}
@@ -587,12 +595,65 @@ def accepted():
     add("turned planes", BLOCK, [q for u, v in ((Y, X), (Z, X), ((0.6, 0.0, 0.8), Y), ((0.8, 0.6, 0.0), (-0.6, 0.8, 0.0))) for q in cuts((0.9, 0.7, 0.4), u, v)], answers=600)
 
 
+def rise(x):
+    """The float above."""
+    return struct.unpack("<d", struct.pack("<Q", bits(x) + 1))[0]
+
+
+def sheet_refusals():
+    q = sheet()
+    for name, bad in (("first unused word", altered(q, 9, 1)), ("last word", altered(q, 15, -0.0)), ("direction 2", altered(q, 4, 2)),
+                      (f"direction {MOST}", altered(q, 4, MOST)), ("code 2^32 + 13", altered(q, 0, 2**32 + 13))):
+        between(f"30: sheet, {name}", PAIR, bad, q)
+    between("30: sheet, before 31", CUBE, altered(q, 15, 1))
+    between("31: sheet", CUBE, q)
+    between("31: sheet, before 33 to 35", CUBE, sheet(steps=65537), sheet(step=NAN), sheet((9.0, 9.0, 0.0)))
+    for n in (65537, 2**32 + 1, MOST):
+        between(f"33: sheet, {n} steps", PAIR, sheet(steps=n), q)
+    between("33: sheet, before 34", PAIR, sheet(steps=65537, step=0.0))
+    for name, option in (("step_size", "step"), ("max_length", "length"), ("stagnation_speed", "stagnation")):
+        between(f"34: sheet, {name}", PAIR, *(sheet(**{option: x}) for x in (-1.0, NAN, INF)), q)
+    between("34: sheet, max_steps 0", PAIR, sheet(steps=0), sheet(steps=1))
+    between("34: sheet, before 35", PAIR, sheet((9.0, 9.0, 0.0), steps=0))
+    between("35: sheet", PAIR, *(sheet(p) for p in ((2.0, 0.5, 0.0), (1.5, 0.5, 0.0), (-0.1, 0.5, 0.0), (NAN, 0.5, 0.0), (0.5, INF, 0.0))))
+    add("44: sheet, a word short", PAIR, [q], answers=8)
+    add("sheet in the fewest words", PAIR, [q], answers=9)
+    add("44: sheet, in the fewest words of its request", PAIR, [q], answers=2)
+    add("44: sheet before two others", PAIR, [q, request(0), FLAT[0]], answers=12)
+    add("sheet before two others", PAIR, [q, request(0), FLAT[0]], answers=13)
+    add("44: line where its sheet fits", PAIR, [line(), q], answers=13)
+    add("44: sheet, its marks stay", SHEET, [sheet((0.5, 0.25, 0.0), step=0.125, steps=40, length=9.0)], answers=9)
+    add("44: sheet, each point counted once", SQUARE, [sheet(step=2.0**-11, steps=8, length=1.0)] * 2, answers=25)
+    add("sheets, each point counted once", SQUARE, [sheet(step=2.0**-11, steps=8, length=1.0)] * 2, answers=26)
+
+
+def sheets():
+    """Code 13: its refusals, both sides of its limits, halves, places far from 0 and points that are dropped."""
+    sheet_refusals()
+    about = quads(1, 1).shifted(-0.5, -0.5, 0.0).with_fields([(1.0, 0.0, 0.0)], [0.0])
+    half, tiny = 0.0625, 5e-324
+    heights = [half, -half, rise(half), -rise(half), rise(0.0625 - 2.0**-56), 0.0005, -0.0005, rise(0.0005), 0.000499, 0.4375, tiny, -tiny, -0.0, 1e-310]
+    add("sheets with halves and floats beside them", about, [sheet((-0.1875, y, 0.0), step=0.125) for y in heights], answers=300)
+    add("sheets with decimal halves", about, [sheet(((2 * k + 1) / 2000.0, 0.3, 0.0), steps=1, length=0.1) for k in range(-240, 240, 9)], answers=400)
+    for name, x, y in (("the upper limit", FAR - 2.0, FAR - 1.0), ("the lower limit", -FAR, -FAR), ("-1000", -1000.0, -777.0)):
+        m = PAIR.shifted(x, y, 0.0)
+        add(f"sheets by {name}", m, [r for k in (4, 7, 11) for r in (line((x + k * half, y + half, 0.0), step=half), sheet((x + k * half, y + half, 0.0), step=half))])
+    add("sheets in a room of millimetres", whirl(quads(3, 2)).scaled(0.001), [sheet((0.001, 0.0007, 0.0), d, 0.0002, 60, 1.0) for d in (0, 1)], answers=300)
+    add("sheets of short steps", PAIR, [sheet(step=s, steps=200, length=0.5) for s in (0.001, 0.0005, 0.0003, 1e-5, 1e-9)], answers=700)
+    add("sheet of 65,536 steps", SQUARE.with_fields([(1.0, 0.0, 0.0)], [0.0]), [sheet((0.125, 0.5, 0.0), step=2.0**-17, steps=65536, length=1.0)], answers=1100)
+    add("lines and sheets in turn", whirl(quads(6, 4, 0.5, 0.5)), [r(p, d, 0.1, 20, 5.0) for p in ((1.1, 0.9, 0.0), (0.6, 1.2, 0.0)) for d in (0, 1) for r in (line, sheet)],
+        answers=600)
+    add("sheets of a still and of a stagnant room", SHEET.with_fields([(0.0, 0.0, 0.0)] * 6, [0.0] * 6), [sheet(), sheet(stagnation=1.0)])
+    add("sheets of seeds with a height", PAIR, [sheet((0.25, 0.5, 7.0)), sheet((0.25, 0.5, 1e300))])
+    add("the nine codes in 2D", PAIR, FLAT + SOLID + [sheet()])
+
+
 # ---- what the reference says
 
 def printed(refjob, folder, pair):
     """The lines that the reference prints, and whether it calls angles near."""
     name, lent, case, requests = pair
-    command = [refjob, "--nolimit"]
+    command = [refjob, "--nolimit", "--until", LANDED]
     for part, data in (("case.bin", case), ("requests.bin", requests)):
         with open(os.path.join(folder, part), "wb") as f:
             f.write(whole(data))
@@ -651,7 +712,7 @@ def compared(case, requests):
     for at in range(0, len(requests) - 127, 128):
         code = struct.unpack_from("<Q", requests, at)[0]
         start, end = (struct.unpack_from("<d", requests, at + 8 * k)[0] for k in (3, 6))
-        if code in (2, 3) and math.isnan(start):
+        if code in (2, 3, 13) and math.isnan(start):
             return False
         if code == 4 and not (math.isfinite(start) and math.isfinite(end)):
             return False
@@ -734,13 +795,14 @@ class Files:
         with open(os.path.join(CRATE, "stdout"), "w") as f:
             f.write(self.due)
         print(f"{self.pairs} pairs, {len(self.data) + 4} bytes, {len(self.due)} bytes due", file=sys.stderr)
-        for x in [f"refusal {k}" for k in (*range(1, 20), *range(30, 45))] + [f"code {k}" for k in range(1, 9)]:
+        for x in [f"refusal {k}" for k in (*range(1, 20), *range(30, 45))] + [f"code {k}" for k in (*range(1, 9), 13)]:
             print(f"{x}: {self.shows[x]} pairs", file=sys.stderr)
 
 
-def main(refjob, gen, rooms):
+def main(programs):
+    refjob, gen, rooms = (os.path.join(programs, x) for x in ("refjob2", "gen", "rooms"))
     known(rooms)
-    for part in (lists, trailers, records, lengths, values, definitions, volumes, codes, options, planes, samples, rooms_for_answers, accepted):
+    for part in (lists, trailers, records, lengths, values, definitions, volumes, codes, options, planes, samples, rooms_for_answers, accepted, sheets):
         part()
     names = collections.Counter(p[0] for p in PAIRS)
     assert len(names) == len(PAIRS), names.most_common(3)
