@@ -2,7 +2,7 @@
 //! A rake of five streamlines starts near the inlet.
 //!
 //! A rake is one request, and a job names the cells of all that it served together. So each line is traced once more alone: a job
-//! of one line names the cells that this line was made from.
+//! of one line names the cells that this line was made from. The sheet of the first line is what the drill crew marks.
 //!
 //! A line ends at the floor or before x = 7: cells that reach the right or the upper wall are found by no point
 //! (docs/DIFFERENCES.md).
@@ -33,6 +33,13 @@ fn main() -> Result<(), Box<dyn std::error::Error>> {
             alone.cells_read
         );
     }
+    let marks = sheet(&case, start, Direction::Forward, options, &mut workspace)?.answer?.points;
+    println!(
+        "the first line has {} marks on the floor, in millimetres from {:?} to {:?}",
+        marks.len(),
+        marks[0],
+        marks[marks.len() - 1]
+    );
     Ok(())
 }
 

@@ -1,6 +1,6 @@
 //! Rooms and requests for the sheet in millimetres (code 13): points on a half millimetre (an odd number of sixteenths of a
-//! metre, and no other float), beside one and near 0, rooms that are a few millimetres wide or reach 2^20, and steps so
-//! short that points are dropped. Half of the sheets stand after the line with the same arguments.
+//! metre, and no other float), beside one, near 0 and of any size, rooms that are a few millimetres wide or reach 2^20, and
+//! steps so short that points are dropped. Half of the sheets stand after the line with the same arguments.
 use crate::fields::fields;
 use crate::lines::Request;
 use crate::meshes::mean;
@@ -9,15 +9,22 @@ use crate::vectors::P3;
 use reference::refair::gen::{self, Mesh, Rng};
 use std::sync::atomic::{AtomicU64, Ordering::Relaxed};
 
-pub const SEEDS: [&str; 6] = ["half millimetre", "beside it", "nearest float to a half", "beside that", "by 0", "anywhere"];
+pub const SEEDS: [&str; 7] =
+    ["half millimetre", "beside it", "nearest float to a half", "beside that", "by 0", "of any size", "anywhere"];
 /// How many seeds of each kind were made.
-pub static SEEDS_MADE: [AtomicU64; 6] = [const { AtomicU64::new(0) }; 6];
+pub static SEEDS_MADE: [AtomicU64; 7] = [const { AtomicU64::new(0) }; 7];
 
 /// The farthest coordinate of a case.
 const FAR: f64 = 1_048_576.0;
 
-/// A room of squares whose sides are sixteenths of a metre, or a few millimetres wide, and where it stands.
+/// A room of squares whose sides are sixteenths of a metre, or a few millimetres wide, and where it stands; or one square
+/// that holds every coordinate.
 pub fn sheet_mesh(r: &mut Rng) -> (Mesh, String) {
+    if r.one_in(10) {
+        let mut m = gen::grid2(1, 1, 2.0 * FAR, 2.0 * FAR);
+        m.pts.iter_mut().for_each(|p| *p = [p[0] - FAR, p[1] - FAR, 0.0]);
+        return (m, "2D widest".into());
+    }
     let (nx, ny) = (1 + r.below(5), 1 + r.below(5));
     let tiny = r.one_in(4);
     let side = if tiny { r.pick(&[0.001, 0.002, 0.000_976_562_5, 0.000_5]) } else { r.pick(&[0.5, 0.25, 0.1875, 1.0, 0.0625]) };
@@ -59,6 +66,7 @@ pub fn sheet_fields(m: &Mesh, r: &mut Rng) -> (Vec<P3>, Vec<f64>) {
 fn coordinate(low: f64, high: f64, r: &mut Rng) -> (f64, usize) {
     let odd = |r: &mut Rng| ((r.range(low, high) * 8.0).floor() * 2.0 + 1.0) / 16.0;
     let half = |r: &mut Rng| ((r.range(low, high) * 1000.0).floor() + 0.5) / 1000.0;
+    let sized = |r: &mut Rng| r.pick(&[1.0, -1.0]) * (1.0 + r.unit()) * 2f64.powi(r.below(52) as i32 - 32);
     let near = |x: f64, r: &mut Rng| if r.one_in(2) { x.next_up() } else { x.next_down() };
     let kind = r.below(SEEDS.len());
     let x = match kind {
@@ -67,6 +75,7 @@ fn coordinate(low: f64, high: f64, r: &mut Rng) -> (f64, usize) {
         2 => half(r),
         3 => near(half(r), r),
         4 if low <= 0.0 && 0.0 <= high => r.pick(&[0.0, -0.0, 5e-324, -5e-324, 1e-310, -1e-310, 1e-20, 0.000_499, -0.000_499, 0.000_5, -0.000_5]),
+        5 => Some(sized(r)).filter(|x| low < *x && *x < high).unwrap_or(r.range(low, high)),
         _ => r.range(low, high),
     };
     (x, kind)
@@ -115,7 +124,7 @@ impl Room<'_> {
     /// Sheets, half of them after the line with the same arguments, and some other requests.
     pub fn sheet_requests(&self, r: &mut Rng) -> Vec<Vec<u64>> {
         let mut list = Vec::new();
-        for _ in 0..1 + r.below(6) {
+        for _ in 0..if self.size > FAR { 30 } else { 1 + r.below(6) } {
             let q = self.sheet_request(r);
             if r.one_in(2) {
                 let mut line = q.clone();
@@ -131,11 +140,12 @@ impl Room<'_> {
     }
 }
 
-/// As many points as a sheet may have: a millimetre to a step over 65.536 m, and a step in which every point is dropped.
+/// As many steps as there may be, and one more: over a millimetre each, so that every point is listed, a millimetre, or so
+/// short that every point after the seed is dropped.
 pub fn long_sheet(r: &mut Rng) -> (Mesh, Vec<Vec<u64>>) {
     let m = gen::grid2(1, 1, 128.0, 4.0);
-    let step = r.pick(&[0.001, 0.001_5, 1e-9]);
-    let steps = r.pick(&[65_536, 65_536, 65_537]);
+    let step = r.pick(&[0.001_5, 0.001_5, 0.001, 1e-9]);
+    let steps = r.pick(&[65_536, 65_536, 65_536, 65_537]);
     let q = Request::of(13).point([r.pick(&[0.0625, 0.5, 1.0]), 2.0625, 0.0]).word(0).float(step).word(steps);
     (m, vec![q.float(1e9).float(0.0).0])
 }
