@@ -143,7 +143,7 @@ impl Room<'_> {
 /// As many steps as there may be, and one more: over a millimetre each, so that every point is listed, a millimetre, or so
 /// short that every point after the seed is dropped.
 pub fn long_sheet(r: &mut Rng) -> (Mesh, Vec<Vec<u64>>) {
-    let m = gen::grid2(1, 1, 128.0, 4.0);
+    let m = gen::grid2(1, 1, 128.0, 128.0); // one bin
     let step = r.pick(&[0.001_5, 0.001_5, 0.001, 1e-9]);
     let steps = r.pick(&[65_536, 65_536, 65_536, 65_537]);
     let q = Request::of(13).point([r.pick(&[0.0625, 0.5, 1.0]), 2.0625, 0.0]).word(0).float(step).word(steps);
