@@ -1,7 +1,7 @@
 #!/usr/bin/env python3
 """Holds what crates/test_rooms expects of each room to what a reference job around FLURSYS prints.
 
-    check.py REFJOB
+    check.py REFJOB [OPTION..]      the reference of 02: check.py refjob2 --until 1
 
 A room is a file of crates/test_rooms/specs with `file`, `requests` and `expected`. Ends with 1 where one differs.
 """
@@ -43,7 +43,7 @@ def printed(expected):
     return lines + [" ".join(["read"] + ["%d" % c for c in numbers(part("cells"))])]
 
 
-def main(refjob):
+def main(refjob, *options):
     differ = rooms = 0
     with tempfile.TemporaryDirectory() as folder:
         case, requests = os.path.join(folder, "case.bin"), os.path.join(folder, "requests.bin")
@@ -57,7 +57,7 @@ def main(refjob):
             with open(requests, "wb") as f:
                 f.write(written(definition(source, "requests")))
             lent = re.search(r"lends (\d+) (\d+) (\d+) (\d+)", source).groups()
-            command = [refjob, case, requests]
+            command = [refjob, case, requests, *options]
             for name, n in zip(("--words", "--floats", "--marks", "--answers"), lent):
                 command += [name, n]
             out = subprocess.run(command, check=True, capture_output=True, text=True).stdout.splitlines()
@@ -70,4 +70,4 @@ def main(refjob):
 
 
 if __name__ == "__main__":
-    sys.exit(main(sys.argv[1]))
+    sys.exit(main(*sys.argv[1:]))
