@@ -67,7 +67,8 @@ fn points_after(
     pen
 }
 
-// The words of the line from a seed that locates, with a pen that wrote nothing yet; how many there are.
+// The words of the line from a seed that locates, with a pen that wrote nothing yet; how many there
+// are.
 pub fn trace(
     case: &[u8],
     words: &[u32],

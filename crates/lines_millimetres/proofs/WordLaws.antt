@@ -1,17 +1,17 @@
 -- Signed numbers of 64 bits by their words. Assumes nothing.
 use mathlib.Core.Path.{_≡_, refl, sym, ap, _∙_}
-use Prim.Native.Nat.{ℕ, suc, _-_, _^_, _<_}
+use Prim.Native.Nat.{ℕ, suc, _-_, _^_}
 use native.Mathlib.Nat.{not-suc-le-zero}
 use native.Mathlib.Decide.{ℕ-discrete}
 use native.Mathlib.Omega.{arith}
-use mathlib.Core.Bool.{true, false, true≢false, false≢true}
+use mathlib.Core.Bool.{true, false, true≢false}
 use lib.Dec.{T, eqb}
 use lib.IntN.{ℤ, pos, negsuc, natAbs, _-ℤ_}
 use lib.Signed.{mag, ltZ, nonNeg}
 use mir.Syntax.{w64}
 use mir.Val.{SFits, toZ, ofZ}
 use mir.ValLaws.{toZ-ofZ}
-use borrow.Author.Tests.{eqb-true, eq-eqb, ne-eqb, ltb-true, le-ltb}
+use borrow.Author.Tests.{eq-eqb, ne-eqb, ltb-true, le-ltb}
 use Rattle.lines_millimetres.specs.Nearest.{sameNumber, word64}
 
 -- ---- numbers by their words
@@ -27,26 +27,6 @@ words-same (negsuc a) (negsuc b) f g = by (ℕ-discrete a b)
     by : Dec (a ≡ b) → eqb (2 ^ 64 - suc a) (2 ^ 64 - suc b) ≡ eqb a b
     by (yes e) = eq-eqb _ _ (ap (λ (n : ℕ). 2 ^ 64 - suc n) e) ∙ sym (eq-eqb a b e)
     by (no n) = let h = f .sfits in let k = g .sfits in ne-eqb _ _ (λ (e : 2 ^ 64 - suc a ≡ 2 ^ 64 - suc b). n (omega arith)) ∙ sym (ne-eqb a b n)
-
--- two numbers are equal where the test says so
-pub same-number : (a b : ℤ) → sameNumber a b ≡ true → a ≡ b
-unfolding sameNumber
-same-number (pos a) (pos b) h = ap pos (eqb-true a b h)
-same-number (pos a) (negsuc b) h = absurd (false≢true h)
-same-number (negsuc a) (pos b) h = absurd (false≢true h)
-same-number (negsuc a) (negsuc b) h = ap negsuc (eqb-true a b h)
-
--- and a number is equal to itself
-pub number-same : (a : ℤ) → sameNumber a a ≡ true
-unfolding sameNumber
-number-same (pos a) = eq-eqb a a refl
-number-same (negsuc a) = eq-eqb a a refl
-
--- a word has 64 bits
-pub word-lt : (k : ℤ) → SFits w64 k → word64 k < 2 ^ 64
-unfolding word64
-word-lt (pos n) f = let h = f .sfits in omega arith
-word-lt (negsuc n) f = omega arith
 
 -- ---- the word of a number, as the code makes it
 

@@ -1,5 +1,5 @@
-// The words of a line: its points, or its sheet in whole millimetres. A pen goes from point to point, and no list of them
-// is held.
+// The words of a line: its points, or its sheet in whole millimetres. A pen goes from point to
+// point, and no list of them is held.
 use arith::Vec3;
 use lines_millimetres::Rounding;
 ghost use mathlib.Core.Path.{_≡_};
@@ -23,7 +23,8 @@ pub struct SheetPoint {
     pub y: i64,
 }
 
-// What was written of a line: in which style, from which word on, how many points, and the last of a sheet.
+// What was written of a line: in which style, from which word on, how many points, and the last one
+// of a sheet.
 pub struct Pen {
     pub style: Style,
     pub at: usize,
