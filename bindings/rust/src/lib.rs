@@ -36,8 +36,9 @@
 //! assert_eq!(refusal.number(), 1);
 //! ```
 //!
-//! The formats are those of docs/FORMAT.md, which also says what a sheet is, and docs/01-scope.md what each other answer is. The work is done by the proved code in
-//! the static library that `rt staticlib capi` writes; [`raw`] has its functions as they are.
+//! The formats are those of docs/FORMAT.md; docs/01-scope.md says what each answer is, and docs/02-change-requests.md what a sheet
+//! is. The work is done by the proved code in the static library that `rt staticlib capi` writes; [`raw`] has its functions as
+//! they are.
 #![warn(missing_docs)]
 
 #[macro_use]
