@@ -1,15 +1,11 @@
 // The text that `airjob` prints, from the bytes of its two files and the buffers that it lends.
 use job_promise::number_of;
-use listing::put_done;
-use listing::put_refusal;
+use report_parts::is_too_long;
+use report_parts::put_listing;
 ghost use Prim.Native.Nat.{_/_};
 ghost use mathlib.Core.Path.{_≡_};
 ghost use lib.ListN.{length};
-ghost use Rattle.listing.specs.Contracts.{ListingExit};
-ghost use Rattle.report.specs.Report.{ended, textOf, ReportExit};
-
-// The longest file, in bytes.
-const LONGEST: usize = 65536;
+ghost use Rattle.report.specs.Report.{ended, ReportExit};
 
 // Runs the job, unless a file is too long: 0, or the refusal.
 fn run(
@@ -24,30 +20,13 @@ fn run(
         (length (now (words .entry))) (length (now (floats .entry))) (now (answers .entry)) (now (marks .entry))
         ≡ record { result = r; answers = now (answers .exit); marks = now (marks .exit) } ⌝ }
 {
-    if case.len() > LONGEST {
+    if is_too_long(case.len()) {
         return 20;
     }
-    if requests.len() > LONGEST {
+    if is_too_long(requests.len()) {
         return 20;
     }
     number_of(job::job(case, requests, words, floats, marks, answers))
-}
-
-// The text of a job with this result. How long it is, or one more than the room for it.
-fn show(k: u64, answers: &[u64], count: usize, marks: &[u8], text: &mut [u8]) -> usize
-    ensures { λ r. ⌜ ListingExit (textOf count (record {
-      result = k;
-      answers = now (answers .entry);
-      marks = now
-          (marks .entry);
-    }))
-        (now (text .entry)) (now (text .exit)) r ⌝ }
-{
-    if k == 0 {
-        put_done(text, answers, count, marks)
-    } else {
-        put_refusal(text, k)
-    }
 }
 
 // Runs the job and writes its text; a file that is too long is refused before. How long the text is, or one
@@ -67,5 +46,5 @@ pub fn report(
         (now (marks .exit)) ⌝ }
 {
     let k = run(case, requests, words, floats, marks, answers);
-    show(k, answers, requests.len() / 128, marks, text)
+    put_listing(text, k, answers, requests.len() / 128, marks)
 }

@@ -7,8 +7,8 @@ use Rattle.report.proofs.report.Tie as tie
 run-requires : tie.Need-run-requires
 run-requires c κs = search needs
 
-show-requires : tie.Need-show-requires
-show-requires c κs = search needs
+put-listing-requires : tie.Need-put-listing-requires
+put-listing-requires c κs = search needs
 
 same-length : tie.Need-same-length
 same-length c = search needs
@@ -33,7 +33,7 @@ report-spec =
     tie.close
     (tie.spec
     run-requires
-    show-requires
+    put-listing-requires
     same-length
     same-length-2
     same-length-3

@@ -1,15 +1,20 @@
 -- `report::run`: refusal 20, or the end of the job. Assumes nothing.
-use native.Mathlib.Omega.{arith}
 use borrow.Author.Needs.{needs}
 use Rattle.report.proofs.Laws.{case-long, requests-long, both-short}
 use Rattle.report.proofs.run.Statement.{statement}
 use Rattle.report.proofs.run.Tie as tie
 
+is-too-long-requires : tie.Need-is-too-long-requires
+is-too-long-requires c κs = search needs
+
 returns : tie.Need-returns
-returns c = case-long _ _ _ _ _ _ (omega arith)
+returns c = search (case-long, needs)
+
+is-too-long-requires-2 : tie.Need-is-too-long-requires-2
+is-too-long-requires-2 c κs = search needs
 
 returns-2 : tie.Need-returns-2
-returns-2 c = requests-long _ _ _ _ _ _ (omega arith) (omega arith)
+returns-2 c = search (requests-long, needs)
 
 job-requires : tie.Need-job-requires
 job-requires c κs = search needs
@@ -36,7 +41,9 @@ pub run-spec : {M : Type 1} → statement M
 run-spec =
     tie.close
     (tie.spec
+    is-too-long-requires
     returns
+    is-too-long-requires-2
     returns-2
     job-requires
     number-of-requires

@@ -1,8 +1,8 @@
--- `report::show`: the text of a job that was done, or of a refusal. Assumes nothing.
+-- `report_parts::put_listing`: the text of a job that was done, or of a refusal. Assumes nothing.
 use borrow.Author.Needs.{needs}
-use Rattle.report.proofs.Laws.{text-done, text-refused}
-use Rattle.report.proofs.show.Statement.{statement}
-use Rattle.report.proofs.show.Tie as tie
+use Rattle.report_parts.proofs.Laws.{text-done, text-refused}
+use Rattle.report_parts.proofs.put_listing.Statement.{statement}
+use Rattle.report_parts.proofs.put_listing.Tie as tie
 
 put-done-requires : tie.Need-put-done-requires
 put-done-requires c κs = search needs
@@ -22,7 +22,7 @@ same-length-2 c = search needs
 returns-2 : tie.Need-returns-2
 returns-2 c = search (text-refused, needs)
 
-pub show-spec : {M : Type 1} → statement M
-show-spec =
+pub put-listing-spec : {M : Type 1} → statement M
+put-listing-spec =
     tie.close
     (tie.spec put-done-requires put-refusal-requires same-length returns same-length-2 returns-2)
