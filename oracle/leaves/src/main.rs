@@ -13,13 +13,15 @@
 //! Last it measures the root against the machine's. The exit status is 1 on a difference.
 mod angles;
 mod exports;
+mod random;
 mod values;
 
 use angles::{compare_angles, compare_refused_sort, compare_sorts, MOST};
 use exports::*;
+use random::Random;
 use std::hint::black_box;
 use std::time::Instant;
-use values::{special_directions, specials, Direction, Random};
+use values::{special_directions, specials, Direction};
 
 /// The bits of x, a NaN's as 7ff8000000000000.
 fn word(x: f64) -> u64 {

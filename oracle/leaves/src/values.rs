@@ -1,4 +1,5 @@
 //! The values that are compared: a fixed list of special ones, and a stream that a seed determines.
+use crate::random::Random;
 
 const SIGN: u64 = 1 << 63;
 const TOP: u64 = 0x7ff0_0000_0000_0000;
@@ -59,24 +60,7 @@ pub fn special_directions() -> Vec<Direction> {
         .collect()
 }
 
-/// The SplitMix64 generator.
-pub struct Random {
-    state: u64,
-}
-
 impl Random {
-    pub fn new(seed: u64) -> Self {
-        Random { state: seed }
-    }
-
-    pub fn bits(&mut self) -> u64 {
-        self.state = self.state.wrapping_add(0x9e37_79b9_7f4a_7c15);
-        let mut z = self.state;
-        z = (z ^ (z >> 30)).wrapping_mul(0xbf58_476d_1ce4_e5b9);
-        z = (z ^ (z >> 27)).wrapping_mul(0x94d0_49bb_1331_11eb);
-        z ^ (z >> 31)
-    }
-
     pub fn below(&mut self, n: u64) -> u64 {
         (self.bits() >> 16) % n
     }

@@ -7,10 +7,12 @@
 //! and the float product with 1,000, which is rounded, and then rounded again. The exit status is 1
 //! on a difference, and where one of the wrong roundings is not seen.
 mod exact;
+#[path = "../../leaves/src/random.rs"]
+mod random;
 mod values;
 
 use exact::{nearest, Halves};
-use values::Random;
+use random::Random;
 
 unsafe extern "C" {
     safe fn hookyellow_millimetres(x: f64, even: bool) -> i64;

@@ -1,4 +1,5 @@
 //! The floats that are compared: a fixed list, and a stream that a seed determines.
+use crate::random::Random;
 
 const SIGN: u64 = 1 << 63;
 /// The bits of 2^53.
@@ -21,24 +22,7 @@ pub fn specials() -> Vec<f64> {
         .collect()
 }
 
-/// The SplitMix64 generator.
-pub struct Random {
-    state: u64,
-}
-
 impl Random {
-    pub fn new(seed: u64) -> Self {
-        Random { state: seed }
-    }
-
-    fn bits(&mut self) -> u64 {
-        self.state = self.state.wrapping_add(0x9e37_79b9_7f4a_7c15);
-        let mut z = self.state;
-        z = (z ^ (z >> 30)).wrapping_mul(0xbf58_476d_1ce4_e5b9);
-        z = (z ^ (z >> 27)).wrapping_mul(0x94d0_49bb_1331_11eb);
-        z ^ (z >> 31)
-    }
-
     /// A number below n, small ones as often as large ones.
     fn any_size(&mut self, n: u64) -> u64 {
         let shift = self.bits() % 64;
