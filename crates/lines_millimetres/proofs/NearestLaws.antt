@@ -93,7 +93,7 @@ denominator-pos nan = lit< tt
 denominator-pos (inf s) = lit< tt
 denominator-pos (fin s m e) = down-pos e
 
-pub millimetres-nearest : (c : Rounding) (x : Float) → NearestMm c x (millimetres c x)
+millimetres-nearest : (c : Rounding) (x : Float) → NearestMm c x (millimetres c x)
 unfolding numerator denominator millimetres whole settled
 millimetres-nearest c nan = from-near c 0 1 0 (whole-near c 0 1 (lit< tt))
 millimetres-nearest c (inf s) = from-near c 0 1 0 (whole-near c 0 1 (lit< tt))
@@ -104,9 +104,8 @@ millimetres-nearest c (fin false m e) =
     let n = 1000 * (m * up e) in
     from-near c n (down e) (whole c n (down e)) (whole-near c n (down e) (down-pos e))
 
-pub only-millimetres : (c : Rounding) (x : Float) (k : ℤ) → NearestMm c x k → k ≡ millimetres c x
+only-millimetres : (c : Rounding) (x : Float) (k : ℤ) → NearestMm c x k → k ≡ millimetres c x
 only-millimetres c x k h = nearest-one c (numerator x) (denominator x) k (millimetres c x) (denominator-pos x) h (millimetres-nearest c x)
 
--- both parts of the contract of the code
-pub only-nearest : (c : Rounding) (x : Float) (k : ℤ) → k ≡ millimetres c x → (k ≡ millimetres c x) × OnlyNearest c x k
-only-nearest c x k e = (e, record { nearest = rw e (millimetres-nearest c x); only = λ j h. only-millimetres c x j h ∙ sym e })
+pub only-nearest : (c : Rounding) (x : Float) → OnlyNearest c x (millimetres c x)
+only-nearest c x = record { nearest = millimetres-nearest c x; only = only-millimetres c x }

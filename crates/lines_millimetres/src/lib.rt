@@ -3,6 +3,7 @@ use arith::float;
 ghost use mathlib.Core.Bool.{true};
 ghost use mathlib.Core.Path.{_≡_};
 ghost use Prim.Native.Nat.{_*_, _^_, _≤_, _<_};
+ghost use lib.Ieee.{Float};
 ghost use Rattle.arith_root.specs.Contracts.{unitsOf};
 ghost use Rattle.lines_millimetres.specs.Nearest as Nearest;
 ghost use Rattle.lines_millimetres.specs.Contracts.{OnlyNearest};
@@ -47,10 +48,12 @@ fn times(b: u64, factor: u64, rounding: Rounding) -> u64
     divide(n, 1u64 << (1075 - e), rounding)
 }
 
-// x metres in whole millimetres.
+// x metres in whole millimetres: the definition's number, which is the only nearest one of every
+// float.
 pub fn millimetres(x: f64, rounding: Rounding) -> i64
     requires { ⌜ Nearest.under2^53 x ≡ true ⌝ }
-    ensures { λ r. ⌜ (r ≡ Nearest.millimetres rounding x) × OnlyNearest rounding x r ⌝ }
+    ensures { λ r. ⌜ (r ≡ Nearest.millimetres rounding x)
+        × ((y : Float) → OnlyNearest rounding y (Nearest.millimetres rounding y)) ⌝ }
 {
     let size = float::abs(x);
     let b = f64::to_bits(size);

@@ -12,17 +12,19 @@ returns : tie.Need-returns
 returns c =
     let a = c .before .before .before in
     let x = a .before .args .x in
-    let s = sym (c .before .before .is-sign-negative .ensures) ∙ c .before .if1 .taken in
-    only-nearest (a .before .args .rounding) x _
-    (minus-result (a .before .args .rounding) x (a .abs .result) (a .abs .ensures) (a .abs .ok) (a .before .pre) (c .times .result) s (c .times .ensures .0) (c .times .ensures .1))
+    let s = sym (c .before .before .is-sign-negative .ensures) ∙ c .before .if1 .taken in (
+      minus-result (a .before .args .rounding) x (a .abs .result) (a .abs .ensures) (a .abs .ok) (a .before .pre) (c .times .result) s (c .times .ensures .0) (c .times .ensures .1),
+      only-nearest (a .before .args .rounding),
+    )
 
 returns-2 : tie.Need-returns-2
 returns-2 c =
     let a = c .before .before .before in
     let x = a .before .args .x in
-    let s = sym (c .before .before .is-sign-negative .ensures) ∙ c .before .if1 .left in
-    only-nearest (a .before .args .rounding) x _
-    (plus-result (a .before .args .rounding) x (a .abs .result) (a .abs .ensures) (a .abs .ok) (a .before .pre) (c .times2 .result) s (c .times2 .ensures .0) (c .times2 .ensures .1))
+    let s = sym (c .before .before .is-sign-negative .ensures) ∙ c .before .if1 .left in (
+      plus-result (a .before .args .rounding) x (a .abs .result) (a .abs .ensures) (a .abs .ok) (a .before .pre) (c .times2 .result) s (c .times2 .ensures .0) (c .times2 .ensures .1),
+      only-nearest (a .before .args .rounding),
+    )
 
 abs-requires : tie.Need-abs-requires
 abs-requires c κs = search needs
