@@ -1,4 +1,4 @@
-//! A stream of numbers that a seed determines; oracle/millimetres has it too.
+//! A stream of numbers that a seed determines, for oracle/millimetres too.
 
 /// The SplitMix64 generator.
 pub struct Random {
