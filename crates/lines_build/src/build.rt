@@ -182,12 +182,13 @@ fn put_polygons(case: &[u8], points: usize, words: &mut [u32], floats: &mut [f64
 
 // Stores limits from `at` on.
 fn put_limits(floats: &mut [f64], at: usize, l: Limits)
-    requires { ⌜ at + 3 ≤ length (now floats) ⌝ }
-    ensures { λ _. ⌜ now (floats .exit) ≡ puts (now (floats .entry)) at (l .low ∷ l .high ∷ l .right ∷ []) ⌝ }
+    requires { ⌜ at + 4 ≤ length (now floats) ⌝ }
+    ensures { λ _. ⌜ now (floats .exit) ≡ puts (now (floats .entry)) at (l .low ∷ l .high ∷ l .right ∷ l .left ∷ []) ⌝ }
 {
     floats[at] = l.low;
     floats[at + 1] = l.high;
     floats[at + 2] = l.right;
+    floats[at + 3] = l.left;
 }
 
 // Stores the limits of cell i's polygon with it.

@@ -23,21 +23,21 @@ use Rattle.lines_field.specs.Contracts.{polygonsIn, MeshKept, LimitCellE
 
 -- ---- a cell
 
-module _ (s : Sizes) (w : List ℕ) (f : List Float) (i : ℕ) (l : Limits) (room : floatsAt s i + 51 ≤ length f) where
+module _ (s : Sizes) (w : List ℕ) (f : List Float) (i : ℕ) (l : Limits) (room : floatsAt s i + 52 ≤ length f) where
   abbrev vs : List Float
-  vs = l .low ∷ l .high ∷ l .right ∷ []
+  vs = l .low ∷ l .high ∷ l .right ∷ l .left ∷ []
 
   abbrev stored : List Float
   stored = puts f (floatsAt s i + 48) vs
 
-  -- a float that is none of the three
-  kept : (k : ℕ) → (k < floatsAt s i + 48) ⊎ (floatsAt s i + 48 + 3 ≤ k) → getD stored k nan ≡ getD f k nan
+  -- a float that is none of the four
+  kept : (k : ℕ) → (k < floatsAt s i + 48) ⊎ (floatsAt s i + 48 + 4 ≤ k) → getD stored k nan ≡ getD f k nan
   kept k h = getD-puts-out f (floatsAt s i + 48) vs k nan h
 
-  vertex : (j k : ℕ) → k < 48 → (floatsAt s j + k < floatsAt s i + 48) ⊎ (floatsAt s i + 48 + 3 ≤ floatsAt s j + k)
+  vertex : (j k : ℕ) → k < 48 → (floatsAt s j + k < floatsAt s i + 48) ⊎ (floatsAt s i + 48 + 4 ≤ floatsAt s j + k)
   vertex j k h = by (lt-or-ge i j)
     where
-      by : (i < j) ⊎ (j ≤ i) → (floatsAt s j + k < floatsAt s i + 48) ⊎ (floatsAt s i + 48 + 3 ≤ floatsAt s j + k)
+      by : (i < j) ⊎ (j ≤ i) → (floatsAt s j + k < floatsAt s i + 48) ⊎ (floatsAt s i + 48 + 4 ≤ floatsAt s j + k)
       by (inl g) = inr (omega arith)
       by (inr g) = inl (omega arith)
 
@@ -52,14 +52,14 @@ module _ (s : Sizes) (w : List ℕ) (f : List Float) (i : ℕ) (l : Limits) (roo
       two : (k : ℕ) → k < min (getD w (wordsAt s j + 4) 0) 24 → getD stored (floatsAt s j + 2 * k + 1) nan ≡ getD f (floatsAt s j + 2 * k + 1) nan
       two k b =
           let e : floatsAt s j + (2 * k + 1) ≡ floatsAt s j + 2 * k + 1 = omega arith in
-          kept (floatsAt s j + 2 * k + 1) (subst (λ (m : ℕ). (m < floatsAt s i + 48) ⊎ (floatsAt s i + 48 + 3 ≤ m)) e (vertex j (2 * k + 1) (omega arith)))
+          kept (floatsAt s j + 2 * k + 1) (subst (λ (m : ℕ). (m < floatsAt s i + 48) ⊎ (floatsAt s i + 48 + 4 ≤ m)) e (vertex j (2 * k + 1) (omega arith)))
 
   limits-kept : (j : ℕ) → j < i → limitsFrom stored (floatsAt s j + 48) ≡ limitsFrom f (floatsAt s j + 48)
   unfolding limitsFrom
   limits-kept j h =
-      rw (kept (floatsAt s j + 48) (inl (omega arith)), kept (floatsAt s j + 48 + 1) (inl (omega arith)), kept (floatsAt s j + 48 + 2) (inl (omega arith)))
+      rw (kept (floatsAt s j + 48) (inl (omega arith)), kept (floatsAt s j + 48 + 1) (inl (omega arith)), kept (floatsAt s j + 48 + 2) (inl (omega arith)), kept (floatsAt s j + 48 + 3) (inl (omega arith)))
 
-  at-limit : (k : ℕ) → k < 3 → getD stored (floatsAt s i + 48 + k) nan ≡ getD vs k nan
+  at-limit : (k : ℕ) → k < 4 → getD stored (floatsAt s i + 48 + k) nan ≡ getD vs k nan
   at-limit k h = getD-puts-at f (floatsAt s i + 48) vs k nan h (omega arith)
 
   limits-here : limitsFrom stored (floatsAt s i + 48) ≡ l
@@ -67,7 +67,7 @@ module _ (s : Sizes) (w : List ℕ) (f : List Float) (i : ℕ) (l : Limits) (roo
   limits-here =
       let z : floatsAt s i + 48 + 0 ≡ floatsAt s i + 48 = omega arith in
       let a : getD stored (floatsAt s i + 48) nan ≡ l .low = subst (λ (m : ℕ). getD stored m nan ≡ l .low) z (at-limit 0 (omega arith)) in
-      rw (a, at-limit 1 (omega arith), at-limit 2 (omega arith))
+      rw (a, at-limit 1 (omega arith), at-limit 2 (omega arith), at-limit 3 (omega arith))
 
   pub limit-stored : (at n : ℕ) (f′ : List Float) → at ≡ floatsAt s i → n ≡ countIn s w i → l ≡ limitsOf (pairsFrom f at n) → f′ ≡ puts f (at + 48) vs → LimitCellExit s w f f′ i
   limit-stored at n f′ ea en el e =

@@ -80,11 +80,11 @@ pub not-less : (b d : ℕ) → 0 < d → (nought ≼ round binary64 false b d) �
 not-less b d D =
     subst (λ (x : Float). (x ≼ round binary64 false b d) ≡ true) (round-zero false 1 (zero-lt-suc 0)) (round-plus 0 1 b d (zero-lt-suc 0) D (omega arith))
 
-none : (a c b d : ℕ) → 0 < d → a * d + b * c ≤ 0 → a ≡ 0
+pub none : (a c b d : ℕ) → 0 < d → a * d + b * c ≤ 0 → a ≡ 0
 none zero c b d D h = refl
 none (suc a) c b d D h = let k = mul-pos (zero-lt-suc a) D in absurd (omega arith)
 
-round-at-most : (a c b d : ℕ) → 0 < c → 0 < d → (s t : Bool) → AtMost s (a * d) t (b * c) → (round binary64 s a c ≼ round binary64 t b d) ≡ true
+pub round-at-most : (a c b d : ℕ) → 0 < c → 0 < d → (s t : Bool) → AtMost s (a * d) t (b * c) → (round binary64 s a c ≼ round binary64 t b d) ≡ true
 round-at-most a c b d C D false false h = round-plus a c b d C D (omega arith)
 round-at-most a c b d C D true true h = rw (round-neg a c, round-neg b d) (most-neg _ _ (round-plus b d a c D C (omega arith)))
 round-at-most a c b d C D true false h =
@@ -139,10 +139,10 @@ sums s t u a d b e c f h =
     rw (plus-by s a f, minus-by s a f, plus-by t b f, minus-by t b f, plus-by u c d, minus-by u c d, plus-by u c e, minus-by u c e) (omega (arith, mul-le-mul-right (f * f) k))
 
 module _ (s : Bool) (m : ℕ) (e : ℤ) (t : Bool) (n : ℕ) (d : ℤ) (h : (fin s m e ≼ fin t n d) ≡ true) where
-  order : AtMost s (m * up e * down d) t (n * up d * down e)
+  pub order : AtMost s (m * up e * down d) t (n * up d * down e)
   order = at-most-true (m * up e * down d) (n * up d * down e) s t (unfold le lt eq in h)
 
-  add-most : (u : Bool) (o : ℕ) (g : ℤ) → (fin s m e ⊕ fin u o g ≼ fin t n d ⊕ fin u o g) ≡ true
+  pub add-most : (u : Bool) (o : ℕ) (g : ℤ) → (fin s m e ⊕ fin u o g ≼ fin t n d ⊕ fin u o g) ≡ true
   unfolding add
   add-most u o g =
       let x = m * up e in
@@ -161,7 +161,7 @@ left-minus : (s : Bool) → not s ≡ unlike true s
 left-minus true = refl
 left-minus false = refl
 
-right-plus : (s : Bool) → s ≡ unlike s false
+pub right-plus : (s : Bool) → s ≡ unlike s false
 right-plus true = refl
 right-plus false = refl
 
@@ -170,7 +170,7 @@ right-minus true = refl
 right-minus false = refl
 
 -- AtMost at equal signs and numbers
-at-most-as : {s s' t t' : Bool} {a a' b b' : ℕ} → s ≡ s' → a ≡ a' → t ≡ t' → b ≡ b' → AtMost s a t b → AtMost s' a' t' b'
+pub at-most-as : {s s' t t' : Bool} {a a' b b' : ℕ} → s ≡ s' → a ≡ a' → t ≡ t' → b ≡ b' → AtMost s a t b → AtMost s' a' t' b'
 at-most-as {s} {s'} {t} {t'} {a} {a'} {b} {b'} p q p' q' h = rw (← p, ← q, ← p', ← q') h
 
 module _ (s : Bool) (m : ℕ) (e : ℤ) (t : Bool) (n : ℕ) (d : ℤ) (h : (fin s m e ≼ fin t n d) ≡ true) (o : ℕ) (g : ℤ) where
@@ -183,7 +183,7 @@ module _ (s : Bool) (m : ℕ) (e : ℤ) (t : Bool) (n : ℕ) (d : ℤ) (h : (fin
   abbrev z : ℕ
   z = o * up g
 
-  scaled : AtMost s (x * down d * (z * down g)) t (y * down e * (z * down g))
+  pub scaled : AtMost s (x * down d * (z * down g)) t (y * down e * (z * down g))
   scaled = at-most-by s t (x * down d) (y * down e) (z * down g) (order s m e t n d h)
 
   mul-plus : (fin false o g ⊗ fin s m e ≼ fin false o g ⊗ fin t n d) ≡ true
@@ -209,7 +209,7 @@ module _ (s : Bool) (m : ℕ) (e : ℤ) (t : Bool) (n : ℕ) (d : ℤ) (h : (fin
   abbrev scaled-by : AtMost s (m * up e * down d * (suc o * up g * down g)) t (n * up d * down e * (suc o * up g * down g))
   scaled-by = scaled s m e t n d h (suc o) g
 
-  div-plus : (fin s m e ⊘ fin false (suc o) g ≼ fin t n d ⊘ fin false (suc o) g) ≡ true
+  pub div-plus : (fin s m e ⊘ fin false (suc o) g ≼ fin t n d ⊘ fin false (suc o) g) ≡ true
   div-plus =
       rw (div-is s m e false o g, div-is t n d false o g)
       (round-at-most (m * up e * down g) (suc o * up g * down e) (n * up d * down g) (suc o * up g * down d) (some o g e) (some o g d) (unlike s false) (unlike t false)
@@ -227,7 +227,7 @@ data Part (x y : Float) : Type 0 where
   rising : (nought ≼ x) ≡ true → (x ≼ y) ≡ true → Part x y
   falling : (y ≼ x) ≡ true → (x ≼ nought) ≡ true → Part x y
 
-between-finite : (x y z : Float) → finite x ≡ true → finite z ≡ true → (x ≼ y) ≡ true → (y ≼ z) ≡ true → finite y ≡ true
+pub between-finite : (x y z : Float) → finite x ≡ true → finite z ≡ true → (x ≼ y) ≡ true → (y ≼ z) ≡ true → finite y ≡ true
 unfolding finite le lt eq
 between-finite nan y z f g h k = absurd (false≢true f)
 between-finite (inf s) y z f g h k = absurd (false≢true f)
@@ -257,7 +257,7 @@ to-zero s x w e h = most-through x (fin s 0 (pos 0)) nought (rw e at h) (by s)
     by true = unfold le lt eq in refl
     by false = unfold le lt eq in refl
 
-round-none : (s : Bool) (a c : ℕ) → a ≡ 0 → 0 < c → round binary64 s a c ≡ fin s 0 (pos 0)
+pub round-none : (s : Bool) (a c : ℕ) → a ≡ 0 → 0 < c → round binary64 s a c ≡ fin s 0 (pos 0)
 round-none s a c e C = rw e (round-zero s c C)
 
 mul-zero : (u : Bool) (o : ℕ) (g : ℤ) → fin u o g ⊗ nought ≡ fin (unlike u false) 0 (pos 0)
@@ -351,7 +351,7 @@ part-quotient d f v (divides s m e t n g) h p =
 
 -- ---- the point's height lies between those of the ends
 
-sub-most : (s : Bool) (m : ℕ) (e : ℤ) (t : Bool) (n : ℕ) (d : ℤ) (u : Bool) (o : ℕ) (g : ℤ) → (fin s m e ≼ fin t n d) ≡ true → (fin s m e ⊖ fin u o g ≼ fin t n d ⊖ fin u o g) ≡ true
+pub sub-most : (s : Bool) (m : ℕ) (e : ℤ) (t : Bool) (n : ℕ) (d : ℤ) (u : Bool) (o : ℕ) (g : ℤ) → (fin s m e ≼ fin t n d) ≡ true → (fin s m e ⊖ fin u o g ≼ fin t n d ⊖ fin u o g) ≡ true
 unfolding sub neg
 sub-most s m e t n d u o g h = add-most s m e t n d h (not u) o g
 
@@ -368,7 +368,7 @@ below-most : (x y : Float) → (x ≺ y) ≡ true → (x ≼ y) ≡ true
 unfolding le
 below-most x y h = rw h
 
-not-below-most : (s : Bool) (m : ℕ) (e : ℤ) (t : Bool) (n : ℕ) (d : ℤ) → (fin s m e ≺ fin t n d) ≡ false → (fin t n d ≼ fin s m e) ≡ true
+pub not-below-most : (s : Bool) (m : ℕ) (e : ℤ) (t : Bool) (n : ℕ) (d : ℤ) → (fin s m e ≺ fin t n d) ≡ false → (fin t n d ≼ fin s m e) ≡ true
 unfolding le lt eq
 not-below-most s m e t n d h = at-most-is (n * up d * down e) (m * up e * down d) t s (below-false (m * up e * down d) (n * up d * down e) s t h)
 
@@ -423,7 +423,7 @@ second (fin s m e) (fin t n d) h = refl
 
 -- ---- the larger of y and 0
 
-self : (x : Float) → finite x ≡ true → (x ≼ x) ≡ true
+pub self : (x : Float) → finite x ≡ true → (x ≼ x) ≡ true
 unfolding finite le lt eq
 self nan f = absurd (false≢true f)
 self (inf s) f = absurd (false≢true f)
@@ -482,7 +482,7 @@ nothing-above nan = refl
 nothing-above (inf s) = refl
 nothing-above (fin s m e) = refl
 
-below-nan : (x : Float) → (x ≺ nan) ≡ false
+pub below-nan : (x : Float) → (x ≺ nan) ≡ false
 unfolding lt
 below-nan nan = refl
 below-nan (inf true) = refl

@@ -5,3 +5,4 @@ pub mod LimitLaws
 pub mod ParityLaws
 pub mod SizeLaws
 pub mod ReachLaws
+pub mod RiseLaws

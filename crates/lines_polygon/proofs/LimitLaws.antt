@@ -1,11 +1,11 @@
 -- A polygon all of whose sides are within some limits contains no point outside of them. Assumes nothing.
 use Prim.Native.Nat.{ℕ, _+_, _≤_, _<_}
 use mathlib.Core.Path.{_≡_, refl, sym, ap, _∙_}
-use mathlib.Core.Bool.{Bool, true, false, cond, _&&_, _||_, false≢true}
+use mathlib.Core.Bool.{Bool, true, false, not, cond, _&&_, _||_, Bool·beq, true≢false, false≢true}
 use mathlib.Core.List.{List, [], _∷_}
 use lib.Dec.{leb}
 use lib.ListN.{length, getD, drop}
-use lib.Ieee.{Float, nan, inf, fin, lt, isNan}
+use lib.Ieee.{Float, nan, inf, fin, add, lt, le, eq, isNan, ofBits}
 use Rattle.arith.specs.F64.{_⊕_, _⊖_, _≺_, _≼_, 0·0, 1e-12, finite, fmin, fmax}
 use Rattle.arith.specs.Lists.{Side, sides, anyOf, allOf, countWhere, fold}
 use Rattle.arith.specs.Polygon.{crosses, evenOdd}
@@ -14,9 +14,10 @@ use Rattle.arith.proofs.ListLaws.{all-here, all-next, foldl-next}
 use Rattle.lines_polygon.specs.declared.Limits.{Limits}
 use Rattle.lines_polygon.specs.Vertices.{sideFrom}
 use Rattle.lines_polygon.specs.Contains.{between, onLine, onEdge, contains}
-use Rattle.lines_polygon.specs.Extent.{Outside, misses, endWithin, run, isLevel, crossingWithin, sideWithin, sideless, widened, narrowest, unlimited, limitsOf}
+use Rattle.lines_polygon.specs.Extent.{Outside, misses, endWithin, run, isLevel, crossingWithin, sideWithin, reach, sideless, widened, spared, narrowest, unlimited, limitsOf}
 use Rattle.lines_polygon.proofs.OrderLaws.{below-through, through-below, below-not-most, below-not-below}
-use Rattle.lines_polygon.proofs.CrossLaws.{crosses-left, crosses-level}
+use Rattle.lines_polygon.proofs.CrossLaws.{add-most, self, crosses-left, crosses-right, crosses-level, level-together}
+use Rattle.lines_polygon.proofs.ParityLaws.{apart, parted-even}
 use Rattle.lines_polygon.proofs.Laws.{sidesIn, side-at, in-range, sides-past}
 
 -- ---- both of two tests
@@ -59,20 +60,22 @@ record Ends (l : Limits) (p : Vec2) : Type 0 where
   above : (p .y ⊕ 1e-12 ≼ l .high) ≡ true
   high : (p .y ≼ l .high) ≡ true
   right : (p .x ⊕ 1e-12 ≼ l .right) ≡ true
+  left : (l .left ≼ p .x ⊖ 1e-12) ≡ true
 
 ends : (l : Limits) (p : Vec2) → endWithin l p ≡ true → Ends l p
 unfolding endWithin
 ends l p e =
-    by (l .low ≼ p .y ⊖ 1e-12) (l .low ≼ p .y) (p .y ⊕ 1e-12 ≼ l .high) (p .y ≼ l .high) (p .x ⊕ 1e-12 ≼ l .right) refl refl refl refl refl e
+    by (l .low ≼ p .y ⊖ 1e-12) (l .low ≼ p .y) (p .y ⊕ 1e-12 ≼ l .high) (p .y ≼ l .high) (p .x ⊕ 1e-12 ≼ l .right) (l .left ≼ p .x ⊖ 1e-12) refl refl refl refl refl refl e
   where
-    by : (a b c d f : Bool) → (l .low ≼ p .y ⊖ 1e-12) ≡ a → (l .low ≼ p .y) ≡ b → (p .y ⊕ 1e-12 ≼ l .high) ≡ c → (p .y ≼ l .high) ≡ d → (p .x ⊕ 1e-12 ≼ l .right) ≡ f
-        → ((((a && b) && c) && d) && f) ≡ true → Ends l p
-    by true true true true true u v w x y h = record { below = u; low = v; above = w; high = x; right = y }
-    by false b c d f u v w x y h = absurd (false≢true h)
-    by true false c d f u v w x y h = absurd (false≢true h)
-    by true true false d f u v w x y h = absurd (false≢true h)
-    by true true true false f u v w x y h = absurd (false≢true h)
-    by true true true true false u v w x y h = absurd (false≢true h)
+    by : (a b c d f g : Bool) → (l .low ≼ p .y ⊖ 1e-12) ≡ a → (l .low ≼ p .y) ≡ b → (p .y ⊕ 1e-12 ≼ l .high) ≡ c → (p .y ≼ l .high) ≡ d → (p .x ⊕ 1e-12 ≼ l .right) ≡ f → (l .left ≼ p .x ⊖ 1e-12) ≡ g
+        → (((((a && b) && c) && d) && f) && g) ≡ true → Ends l p
+    by true true true true true true u v w x y z h = record { below = u; low = v; above = w; high = x; right = y; left = z }
+    by false b c d f g u v w x y z h = absurd (false≢true h)
+    by true false c d f g u v w x y z h = absurd (false≢true h)
+    by true true false d f g u v w x y z h = absurd (false≢true h)
+    by true true true false f g u v w x y z h = absurd (false≢true h)
+    by true true true true false g u v w x y z h = absurd (false≢true h)
+    by true true true true true false u v w x y z h = absurd (false≢true h)
 
 -- ---- a side
 
@@ -107,15 +110,15 @@ module _ (l : Limits) (a b : Vec2) (w : sideWithin l (record { from = a; to = b 
 
   from-in : Ends l a
   unfolding sideWithin
-  from-in = ends l a (both (endWithin l a) (endWithin l b && crossingWithin (l .right) s) w .0)
+  from-in = ends l a (both (endWithin l a) (endWithin l b && crossingWithin l s) w .0)
 
   to-in : Ends l b
   unfolding sideWithin
-  to-in = ends l b (both (endWithin l b) (crossingWithin (l .right) s) (both (endWithin l a) (endWithin l b && crossingWithin (l .right) s) w .1) .0)
+  to-in = ends l b (both (endWithin l b) (crossingWithin l s) (both (endWithin l a) (endWithin l b && crossingWithin l s) w .1) .0)
 
-  crossing-in : crossingWithin (l .right) s ≡ true
+  crossing-in : crossingWithin l s ≡ true
   unfolding sideWithin
-  crossing-in = both (endWithin l b) (crossingWithin (l .right) s) (both (endWithin l a) (endWithin l b && crossingWithin (l .right) s) w .1) .1
+  crossing-in = both (endWithin l b) (crossingWithin l s) (both (endWithin l a) (endWithin l b && crossingWithin l s) w .1) .1
 
   edge-below : (q .y ≺ l .low) ≡ true → onEdge q s ≡ false
   edge-below h = by-y q s (under (q .y) (a .y) (b .y) (below-through _ _ _ h (from-in .below)) (below-through _ _ _ h (to-in .below)))
@@ -135,18 +138,42 @@ module _ (l : Limits) (a b : Vec2) (w : sideWithin l (record { from = a; to = b 
   edge-beyond : (l .right ≺ q .x) ≡ true → onEdge q s ≡ false
   edge-beyond h = by-x q s (over (q .x) (a .x) (b .x) (through-below _ _ _ (from-in .right) h) (through-below _ _ _ (to-in .right) h))
 
-  crosses-beyond : (l .right ≺ q .x) ≡ true → crosses q s ≡ false
-  crosses-beyond h =
-      by (a .y ≼ b .y) (b .y ≼ a .y) (finite (run s)) (fmax (run s) 0·0 ⊕ a .x ≼ l .right) refl refl refl refl (unfold crossingWithin isLevel in crossing-in)
+  -- no crossing to the right of the limit, and none to the left of the other
+  data Spanned : Type 0 where
+    level : (a .y ≼ b .y) ≡ true → (b .y ≼ a .y) ≡ true → Spanned
+    spans : finite (run s) ≡ true → (fmax (run s) 0·0 ⊕ a .x ≼ l .right) ≡ true → (l .left ≼ fmin (run s) 0·0 ⊕ a .x) ≡ true → Spanned
+
+  spanned : Spanned
+  spanned = by (a .y ≼ b .y) (b .y ≼ a .y) (finite (run s)) (fmax (run s) 0·0 ⊕ a .x ≼ l .right) (l .left ≼ fmin (run s) 0·0 ⊕ a .x) refl refl refl refl refl (unfold crossingWithin isLevel in crossing-in)
     where
-      by : (t u v w : Bool) → (a .y ≼ b .y) ≡ t → (b .y ≼ a .y) ≡ u → finite (run s) ≡ v → (fmax (run s) 0·0 ⊕ a .x ≼ l .right) ≡ w → ((t && u) || (v && w)) ≡ true → crosses q s ≡ false
-      by true true v w et eu ev ew e = crosses-level q a b et eu
-      by true false true true et eu ev ew e = unfold run in crosses-left q a b (l .right) ev ew h
-      by true false true false et eu ev ew e = absurd (false≢true e)
-      by true false false w et eu ev ew e = absurd (false≢true e)
-      by false u true true et eu ev ew e = unfold run in crosses-left q a b (l .right) ev ew h
-      by false u true false et eu ev ew e = absurd (false≢true e)
-      by false u false w et eu ev ew e = absurd (false≢true e)
+      by : (t u v w x : Bool) → (a .y ≼ b .y) ≡ t → (b .y ≼ a .y) ≡ u → finite (run s) ≡ v → (fmax (run s) 0·0 ⊕ a .x ≼ l .right) ≡ w → (l .left ≼ fmin (run s) 0·0 ⊕ a .x) ≡ x
+          → ((t && u) || (v && (w && x))) ≡ true → Spanned
+      by true true v w x et eu ev ew ex e = level et eu
+      by true false true true true et eu ev ew ex e = spans ev ew ex
+      by true false true true false et eu ev ew ex e = absurd (false≢true e)
+      by true false true false x et eu ev ew ex e = absurd (false≢true e)
+      by true false false w x et eu ev ew ex e = absurd (false≢true e)
+      by false u true true true et eu ev ew ex e = spans ev ew ex
+      by false u true true false et eu ev ew ex e = absurd (false≢true e)
+      by false u true false x et eu ev ew ex e = absurd (false≢true e)
+      by false u false w x et eu ev ew ex e = absurd (false≢true e)
+
+  crosses-beyond : (l .right ≺ q .x) ≡ true → crosses q s ≡ false
+  crosses-beyond h = by spanned
+    where
+      by : Spanned → crosses q s ≡ false
+      by (level et eu) = crosses-level q a b et eu
+      by (spans ev ew ex) = unfold run in crosses-left q a b (l .right) ev ew h
+
+  edge-before : (q .x ≺ l .left) ≡ true → onEdge q s ≡ false
+  edge-before h = by-x q s (under (q .x) (a .x) (b .x) (below-through _ _ _ h (from-in .left)) (below-through _ _ _ h (to-in .left)))
+
+  crosses-before : (q .x ≺ l .left) ≡ true → crosses q s ≡ apart (λ (v : Vec2). q .y ≺ v .y) s
+  crosses-before h = by spanned
+    where
+      by : Spanned → crosses q s ≡ not (Bool·beq (q .y ≺ a .y) (q .y ≺ b .y))
+      by (level et eu) = crosses-level q a b et eu ∙ sym (level-together q a b et eu)
+      by (spans ev ew ex) = unfold run in crosses-right q a b (l .left) ev ex h
 
 -- ---- all sides
 
@@ -169,19 +196,38 @@ module _ {A : Type 0} (p r : A → Bool) (h : (a : A) → p a ≡ true → r a �
   none-count [] e = refl
   none-count (a ∷ l) e = let k = all-first p a l e in rw (h a (k .0), none-count l (k .1))
 
+same-count : {A : Type 0} (p r t : A → Bool) → ((a : A) → p a ≡ true → r a ≡ t a) → (l : List A) → allOf p l ≡ true → countWhere r l ≡ countWhere t l
+unfolding countWhere
+same-count p r t h [] e = refl
+same-count p r t h (a ∷ l) e = let k = all-first p a l e in rw (h a (k .0), same-count p r t h l (k .1))
+
 module _ (polygon : List Vec2) (l : Limits) (w : allOf (sideWithin l) (sides polygon) ≡ true) (q : Vec2) where
+  -- left of all sides every side that the point's height parts is crossed: an even number
+  even : ((s : Side Vec2) → sideWithin l s ≡ true → onEdge q s ≡ false) → ((s : Side Vec2) → sideWithin l s ≡ true → crosses q s ≡ apart (λ (v : Vec2). q .y ≺ v .y) s) → contains q polygon ≡ false
+  unfolding contains evenOdd
+  even a b =
+      rw (
+        none-any (sideWithin l) (onEdge q) a (sides polygon) w,
+        same-count (sideWithin l) (crosses q) (apart (λ (v : Vec2). q .y ≺ v .y)) b (sides polygon) w,
+        parted-even (λ (v : Vec2). q .y ≺ v .y) polygon,
+      )
+      (not-second (leb 3 (length polygon)) false refl)
+
   none : ((s : Side Vec2) → sideWithin l s ≡ true → onEdge q s ≡ false) → ((s : Side Vec2) → sideWithin l s ≡ true → crosses q s ≡ false) → contains q polygon ≡ false
   unfolding contains evenOdd
   none a b =
       rw (none-any (sideWithin l) (onEdge q) a (sides polygon) w, none-count (sideWithin l) (crosses q) b (sides polygon) w)
       (not-second (leb 3 (length polygon)) false refl)
 
-pub within-outside : (polygon : List Vec2) (l : Limits) → allOf (sideWithin l) (sides polygon) ≡ true → Outside polygon l
-within-outside polygon l w =
+pub within-outside : (polygon : List Vec2) (l : Limits) → allOf (sideWithin l) (sides polygon) ≡ true → isNan (l .high) ≡ false → isNan (l .right) ≡ false → Outside polygon l
+within-outside polygon l w h r =
     record {
       below = λ q k. none polygon l w q (λ s i. edge-below l (s .from) (s .to) i q k) (λ s i. crosses-below l (s .from) (s .to) i q k);
       above = λ q k. none polygon l w q (λ s i. edge-above l (s .from) (s .to) i q k) (λ s i. crosses-above l (s .from) (s .to) i q k);
       beyond = λ q k. none polygon l w q (λ s i. edge-beyond l (s .from) (s .to) i q k) (λ s i. crosses-beyond l (s .from) (s .to) i q k);
+      before = λ q k. even polygon l w q (λ s i. edge-before l (s .from) (s .to) i q k) (λ s i. crosses-before l (s .from) (s .to) i q k);
+      high-real = h;
+      right-real = r;
     }
 
 -- ---- no limits
@@ -206,7 +252,54 @@ unlimited-outside polygon =
       below = λ q k. absurd (false≢true (sym (below-least (q .y)) ∙ k));
       above = λ q k. absurd (false≢true (sym (above-most (q .y)) ∙ k));
       beyond = λ q k. absurd (false≢true (sym (above-most (q .x)) ∙ k));
+      before = λ q k. absurd (false≢true (sym (below-least (q .x)) ∙ k));
+      high-real = unfold isNan in refl;
+      right-real = unfold isNan in refl;
     }
+
+-- ---- the narrowest limits have no NaN on the right and above
+
+below-real : (x y : Float) → (x ≺ y) ≡ true → isNan y ≡ false
+unfolding isNan
+below-real x (inf t) h = refl
+below-real x (fin t n d) h = refl
+below-real nan nan h = absurd (false≢true (unfold lt in h))
+below-real (inf s) nan h = absurd (false≢true (unfold lt in h))
+below-real (fin s m e) nan h = absurd (false≢true (unfold lt in h))
+
+max-real : (a b : Float) → isNan a ≡ false → isNan (fmax a b) ≡ false
+unfolding fmax
+max-real a b f = rw f (by (a ≺ b) refl)
+  where
+    by : (t : Bool) → (a ≺ b) ≡ t → isNan (cond t b a) ≡ false
+    by true h = below-real a b h
+    by false h = f
+
+widest-high : (k : List (Side Vec2)) (l : Limits) → isNan (l .high) ≡ false → isNan (fold widened l k .high) ≡ false
+unfolding fold widened
+widest-high [] l f = f
+widest-high (s ∷ k) l f = widest-high k (widened l s) (max-real (l .high) (s .from .y) f)
+
+widest-right : (k : List (Side Vec2)) (l : Limits) → isNan (l .right) ≡ false → isNan (fold widened l k .right) ≡ false
+unfolding fold widened
+widest-right [] l f = f
+widest-right (s ∷ k) l f = widest-right k (widened l s) (max-real (l .right) (reach s) f)
+
+most-real : (x y : Float) → (x ≼ y) ≡ true → isNan x ≡ false
+unfolding isNan
+most-real nan y h = absurd (false≢true (unfold le lt eq in h))
+most-real (inf s) y h = refl
+most-real (fin s m e) y h = refl
+
+add-real : (x c : Float) → isNan x ≡ false → finite c ≡ true → isNan (x ⊕ c) ≡ false
+add-real x nan f g = absurd (false≢true (unfold finite in g))
+add-real x (inf t) f g = absurd (false≢true (unfold finite in g))
+add-real nan (fin u o h) f g = absurd (true≢false (unfold isNan in f))
+add-real (inf s) (fin u o h) f g = unfold add isNan in refl
+add-real (fin s m e) (fin u o h) f g = most-real _ _ (add-most s m e s m e (self (fin s m e) (unfold finite in refl)) u o h)
+
+more-real : (x : Float) → isNan x ≡ false → isNan (x ⊕ 1e-12) ≡ false
+more-real x f = add-real x 1e-12 f (unfold finite ofBits in refl)
 
 -- ---- the limits that are stored
 
@@ -218,7 +311,9 @@ limits-outside polygon = by (allOf (sideWithin l) (sides polygon)) refl
     l = narrowest (sides polygon)
 
     by : (t : Bool) → allOf (sideWithin l) (sides polygon) ≡ t → Outside polygon (cond t l unlimited)
-    by true e = within-outside polygon l e
+    by true e =
+        within-outside polygon l e (unfold narrowest spared in more-real _ (widest-high (sides polygon) sideless (unfold sideless isNan in refl)))
+        (unfold narrowest spared in more-real _ (widest-right (sides polygon) sideless (unfold sideless isNan in refl)))
     by false e = unlimited-outside polygon
 
 module _ (polygon : List Vec2) (l : Limits) (t : Bool) (el : l ≡ narrowest (sides polygon)) (et : t ≡ allOf (sideWithin l) (sides polygon)) where
@@ -234,20 +329,23 @@ module _ (polygon : List Vec2) (l : Limits) (t : Bool) (el : l ≡ narrowest (si
 
 pub missed : (polygon : List Vec2) (l : Limits) (q : Vec2) → Outside polygon l → (t : Bool) → t ≡ misses l q → t ≡ true → contains q polygon ≡ false
 unfolding misses
-missed polygon l q o t e h = by (l .high ≺ q .y) (l .right ≺ q .x) (q .y ≺ l .low) refl refl refl (sym e ∙ h)
+missed polygon l q o t e h = by (l .high ≺ q .y) (l .right ≺ q .x) (q .x ≺ l .left) (q .y ≺ l .low) refl refl refl refl (sym e ∙ h)
   where
-    by : (a b c : Bool) → (l .high ≺ q .y) ≡ a → (l .right ≺ q .x) ≡ b → (q .y ≺ l .low) ≡ c → (a || (b || c)) ≡ true → contains q polygon ≡ false
-    by true b c x y z k = o .above q x
-    by false true c x y z k = o .beyond q y
-    by false false true x y z k = o .below q z
-    by false false false x y z k = absurd (false≢true k)
+    by : (a b c d : Bool) → (l .high ≺ q .y) ≡ a → (l .right ≺ q .x) ≡ b → (q .x ≺ l .left) ≡ c → (q .y ≺ l .low) ≡ d → (a || (b || (c || d))) ≡ true → contains q polygon ≡ false
+    by true b c d x y z w k = o .above q x
+    by false true c d x y z w k = o .beyond q y
+    by false false true d x y z w k = o .before q z
+    by false false false true x y z w k = o .below q w
+    by false false false false x y z w k = absurd (false≢true k)
 
 -- ---- one turn of the loops over the sides
 
 module _ (floats : List Float) (at n i : ℕ) where
-  pub narrowed : (l l₀ : Limits) → n ≤ i → fold widened l (drop i (sidesIn floats at n)) ≡ fold widened l₀ (sidesIn floats at n) → l₀ ≡ sideless → l ≡ narrowest (sidesIn floats at n)
-  unfolding fold narrowest
-  narrowed l l₀ h inv e = rw (sides-past floats at n i h, e) at inv
+  pub narrowed : (l l₀ : Limits) → n ≤ i → fold widened l (drop i (sidesIn floats at n)) ≡ fold widened l₀ (sidesIn floats at n) → l₀ ≡ sideless → (r : Limits) → r ≡ spared l → r ≡ narrowest (sidesIn floats at n)
+  unfolding narrowest
+  narrowed l l₀ h inv e r er =
+      let k : l ≡ fold widened sideless (sidesIn floats at n) = (unfold fold in (rw (sides-past floats at n i h, e) at inv)) in
+      er ∙ ap spared k
 
   pub widened-turn : (l l₀ l′ : Limits) → i < n → (a b : Vec2) → sideFrom floats at n i ≡ record { from = a; to = b } → fold widened l (drop i (sidesIn floats at n)) ≡ fold widened l₀ (sidesIn floats at n)
       → l′ ≡ widened l (record { from = a; to = b }) → fold widened l′ (drop (i + 1) (sidesIn floats at n)) ≡ fold widened l₀ (sidesIn floats at n)

@@ -1,29 +1,25 @@
 -- A polygon whose vertices lie within 1,048,576 each way contains no point of 2^53 in size or more. Assumes nothing.
 use mathlib.Core.Path.{_≡_, refl, sym, ap, _∙_}
-use mathlib.Core.Bool.{Bool, true, false, not, _&&_, _||_, Bool·beq, true≢false, false≢true}
+use mathlib.Core.Bool.{Bool, true, false, _&&_, _||_, true≢false, false≢true}
 use mathlib.Core.List.{List, [], _∷_, _++_}
 use Prim.Native.Nat.{ℕ, _+_, _*_, _^_, _≤_}
 use native.Mathlib.Nat.{mul-le-mul-right}
 use native.Mathlib.Omega.{arith}
 use lib.IntN.{pos}
-use lib.Dec.{T, leb, lit≤}
-use lib.ListN.{length}
-use lib.Ieee.{Float, nan, inf, fin, binary64, up, down, lt, le, eq, fits, ofBits}
+use lib.Dec.{T, lit≤}
+use lib.Ieee.{Float, nan, inf, fin, binary64, up, down, lt, le, eq, isNan, fits, ofBits}
 use lib.Ieee.Fits.{down-pos, sub-fits}
 use borrow.Author.Tests.{lt-ltb}
 use Rattle.arith.specs.F64.{_⊕_, _⊖_, _≺_, _≼_, 0·0, 1e-12, float, finite, abs, fmin, fmax, within}
-use Rattle.arith.specs.Lists.{Side, sidesWith, sides, allOf, countWhere}
-use Rattle.arith.specs.Polygon.{crosses, evenOdd}
+use Rattle.arith.specs.Lists.{Side, sidesWith, sides, allOf}
 use Rattle.arith.specs.declared.Vec2.{Vec2}
 use Rattle.arith.proofs.Floats.{holds}
 use Rattle.lines_polygon.specs.declared.Limits.{Limits}
 use Rattle.lines_polygon.specs.Vertices.{xyWithin}
-use Rattle.lines_polygon.specs.Contains.{onEdge, contains}
+use Rattle.lines_polygon.specs.Contains.{contains}
 use Rattle.lines_polygon.specs.Extent.{Outside, endWithin, run, isLevel, crossingWithin, sideWithin}
-use Rattle.lines_polygon.proofs.OrderLaws.{below-false, at-most-true, at-most-is, below-through}
-use Rattle.lines_polygon.proofs.CrossLaws.{crosses-right, crosses-level, level-together}
-use Rattle.lines_polygon.proofs.ParityLaws.{apart, parted-even}
-use Rattle.lines_polygon.proofs.LimitLaws.{both, not-second, min-one, max-one, by-x, under, all-first, none-any, within-outside}
+use Rattle.lines_polygon.proofs.OrderLaws.{below-false, at-most-true, at-most-is}
+use Rattle.lines_polygon.proofs.LimitLaws.{both, min-one, max-one, all-first, within-outside}
 use Rattle.lines_polygon.proofs.SizeLaws.{Sized, add-sized, sub-sized, sub-nonzero, run-sized}
 
 -- ---- the limits, 2^22 each way
@@ -35,7 +31,7 @@ abbrev fewest : Float
 fewest = fin true 1 (pos 22)
 
 abbrev wide : Limits
-wide = record { low = fewest; high = most; right = most }
+wide = record { low = fewest; high = most; right = most; left = fewest }
 
 sized-most : (x : Float) (k : ℕ) → k ≤ 4194304 → Sized x k 1 → (x ≼ most) ≡ true
 unfolding le lt eq
@@ -94,7 +90,7 @@ more-12 x h = sized-most (x ⊕ 1e-12) 1048577 (lit≤ tt) (add-sized x 1e-12 10
 end-within : (p : Vec2) → NearVertex p → endWithin wide p ≡ true
 unfolding endWithin
 end-within p n =
-    rw (less-12 (p .y) (n .of-y), sized-fewest (p .y) 1048576 (lit≤ tt) (n .of-y), more-12 (p .y) (n .of-y), sized-most (p .y) 1048576 (lit≤ tt) (n .of-y), more-12 (p .x) (n .of-x))
+    rw (less-12 (p .y) (n .of-y), sized-fewest (p .y) 1048576 (lit≤ tt) (n .of-y), more-12 (p .y) (n .of-y), sized-most (p .y) 1048576 (lit≤ tt) (n .of-y), more-12 (p .x) (n .of-x), less-12 (p .x) (n .of-x))
 
 -- ---- a side
 
@@ -120,33 +116,17 @@ module _ (a b : Vec2) (na : NearVertex a) (nb : NearVertex b) where
       sized-fewest (fmin (run s) 0·0 ⊕ a .x) 3145728 (lit≤ tt)
       (add-sized (fmin (run s) 0·0) (a .x) 2097152 1048576 (lit≤ tt) (min-one (λ (v : Float). Sized v 2097152 1) (run s) 0·0 h zero-sized) (na .of-x))
 
-  crossing-within : crossingWithin most s ≡ true
+  crossing-within : crossingWithin wide s ≡ true
   unfolding crossingWithin
   crossing-within = by (isLevel s) refl
     where
-      by : (t : Bool) → isLevel s ≡ t → (t || (finite (run s) && (fmax (run s) 0·0 ⊕ a .x ≼ most))) ≡ true
+      by : (t : Bool) → isLevel s ≡ t → (t || (finite (run s) && ((fmax (run s) 0·0 ⊕ a .x ≼ most) && (fewest ≼ fmin (run s) 0·0 ⊕ a .x)))) ≡ true
       by true e = refl
-      by false e = rw (sized-finite (run s) 2097152 (run-near e), reach-most (run-near e))
+      by false e = rw (sized-finite (run s) 2097152 (run-near e), reach-most (run-near e), reach-fewest (run-near e))
 
   side-within : sideWithin wide s ≡ true
   unfolding sideWithin
   side-within = rw (end-within a na, end-within b nb, crossing-within)
-
-  module _ (q : Vec2) (left : (q .x ≺ fewest) ≡ true) where
-    edge-before : onEdge q s ≡ false
-    edge-before =
-        by-x q s (under (q .x) (a .x) (b .x) (below-through _ _ _ left (less-12 (a .x) (na .of-x))) (below-through _ _ _ left (less-12 (b .x) (nb .of-x))))
-
-    crosses-before : crosses q s ≡ apart (λ (v : Vec2). q .y ≺ v .y) s
-    crosses-before = by (isLevel s) refl
-      where
-        by : (t : Bool) → isLevel s ≡ t → crosses q s ≡ not (Bool·beq (q .y ≺ a .y) (q .y ≺ b .y))
-        by true e =
-            let i = both (a .y ≼ b .y) (b .y ≼ a .y) (unfold isLevel in e) in
-            crosses-level q a b (i .0) (i .1) ∙ sym (level-together q a b (i .0) (i .1))
-        by false e =
-            let h = run-near e in
-            unfold run in crosses-right q a b fewest (unfold run in sized-finite (run s) 2097152 h) (unfold run in reach-fewest h) left
 
 -- ---- all sides
 
@@ -170,36 +150,11 @@ module _ {A : Type 0} (p : A → Bool) (r : Side A → Bool) (h : (a b : A) → 
   sides-all [] e = unfold allOf in refl
   sides-all (a ∷ l) e = let i = all-first p a l e in pairs-all (a ∷ l) (l ++ a ∷ []) e (all-then p l a (i .1) (i .0))
 
-same-count : {A : Type 0} (p r t : A → Bool) → ((a : A) → p a ≡ true → r a ≡ t a) → (l : List A) → allOf p l ≡ true → countWhere r l ≡ countWhere t l
-unfolding countWhere
-same-count p r t h [] e = refl
-same-count p r t h (a ∷ l) e = let k = all-first p a l e in rw (h a (k .0), same-count p r t h l (k .1))
-
 -- ---- the polygon
 
--- both ends of a side lie within
-abbrev endsWithin : Side Vec2 → Bool
-endsWithin s = xyWithin (s .from) && xyWithin (s .to)
-
-module _ (q : Vec2) (polygon : List Vec2) (w : allOf xyWithin polygon ≡ true) where
-  wide-outside : Outside polygon wide
-  wide-outside = within-outside polygon wide (sides-all xyWithin (sideWithin wide) (λ a b h k. side-within a b (vertex-near a h) (vertex-near b k)) polygon w)
-
-  all-ends : allOf endsWithin (sides polygon) ≡ true
-  all-ends = sides-all xyWithin endsWithin (λ a b h k. rw (h, k)) polygon w
-
-  module _ (left : (q .x ≺ fewest) ≡ true) where
-    no-edge : (s : Side Vec2) → endsWithin s ≡ true → onEdge q s ≡ false
-    no-edge s e = let i = both (xyWithin (s .from)) (xyWithin (s .to)) e in edge-before (s .from) (s .to) (vertex-near (s .from) (i .0)) (vertex-near (s .to) (i .1)) q left
-
-    each-crossed : (s : Side Vec2) → endsWithin s ≡ true → crosses q s ≡ apart (λ (v : Vec2). q .y ≺ v .y) s
-    each-crossed s e = let i = both (xyWithin (s .from)) (xyWithin (s .to)) e in crosses-before (s .from) (s .to) (vertex-near (s .from) (i .0)) (vertex-near (s .to) (i .1)) q left
-
-    before : contains q polygon ≡ false
-    unfolding contains evenOdd
-    before =
-        rw (none-any endsWithin (onEdge q) no-edge (sides polygon) all-ends, same-count endsWithin (crosses q) (apart (λ (v : Vec2). q .y ≺ v .y)) each-crossed (sides polygon) all-ends, parted-even (λ (v : Vec2). q .y ≺ v .y) polygon)
-        (not-second (leb 3 (length polygon)) false refl)
+wide-outside : (polygon : List Vec2) → allOf xyWithin polygon ≡ true → Outside polygon wide
+wide-outside polygon w =
+    within-outside polygon wide (sides-all xyWithin (sideWithin wide) (λ a b h k. side-within a b (vertex-near a h) (vertex-near b k)) polygon w) (unfold isNan in refl) (unfold isNan in refl)
 
 -- what is not so would be contained nowhere
 refuted : (t c : Bool) → (t ≡ true → c ≡ false) → c ≡ true → t ≡ false
@@ -220,7 +175,7 @@ small (fin true m e) f h k =
 pub contained-near : (q : Vec2) (polygon : List Vec2) → allOf xyWithin polygon ≡ true → finite (q .x) ≡ true → finite (q .y) ≡ true → contains q polygon ≡ true
     → ((abs (q .x) ≺ float 0x4340000000000000) ≡ true) × ((abs (q .y) ≺ float 0x4340000000000000) ≡ true)
 contained-near q polygon w fx fy c =
-    let o = wide-outside q polygon w in (
-      small (q .x) fx (refuted (most ≺ q .x) (contains q polygon) (λ h. o .beyond q h) c) (refuted (q .x ≺ fewest) (contains q polygon) (λ h. before q polygon w h) c),
+    let o = wide-outside polygon w in (
+      small (q .x) fx (refuted (most ≺ q .x) (contains q polygon) (λ h. o .beyond q h) c) (refuted (q .x ≺ fewest) (contains q polygon) (λ h. o .before q h) c),
       small (q .y) fy (refuted (most ≺ q .y) (contains q polygon) (λ h. o .above q h) c) (refuted (q .y ≺ fewest) (contains q polygon) (λ h. o .below q h) c),
     )

@@ -12,13 +12,14 @@ ghost use Rattle.lines_polygon.specs.Extent as Extent;
 
 // The limits whose floats start at `at`.
 pub fn limits_at(floats: &[f64], at: usize) -> Limits
-    requires { ⌜ at + 3 ≤ length (now floats) ⌝ }
+    requires { ⌜ at + 4 ≤ length (now floats) ⌝ }
     ensures { λ r. ⌜ r ≡ Extent.limitsFrom (now (floats .entry)) at ⌝ }
 {
     Limits {
         low: floats[at],
         high: floats[at + 1],
         right: floats[at + 2],
+        left: floats[at + 3],
     }
 }
 
@@ -29,6 +30,8 @@ pub fn misses(l: Limits, q: Vec2) -> bool
     if l.high < q.y {
         true
     } else if l.right < q.x {
+        true
+    } else if q.x < l.left {
         true
     } else {
         q.y < l.low
@@ -44,6 +47,7 @@ fn has_end(l: Limits, p: Vec2) -> bool
         & (p.y + 1.0e-12 <= l.high)
         & (p.y <= l.high)
         & (p.x + 1.0e-12 <= l.right)
+        & (l.left <= p.x - 1.0e-12)
 }
 
 // The run of a side, as a crossing at the height of b is computed.
@@ -60,16 +64,16 @@ fn is_level(a: Vec2, b: Vec2) -> bool
     (a.y <= b.y) & (b.y <= a.y)
 }
 
-// The side is level, or no crossing with it lies to the right of the limit.
-fn has_crossing(right: f64, a: Vec2, b: Vec2) -> bool
-    ensures { λ r. ⌜ r ≡ Extent.crossingWithin right (record { from = a; to = b }) ⌝ }
+// The side is level, or no crossing with it lies to the right or to the left of the limits.
+fn has_crossing(l: Limits, a: Vec2, b: Vec2) -> bool
+    ensures { λ r. ⌜ r ≡ Extent.crossingWithin l (record { from = a; to = b }) ⌝ }
 {
     if is_level(a, b) {
         return true;
     }
     let u = run(a, b);
     if float::is_finite(u) {
-        float::max(u, 0.0) + a.x <= right
+        (float::max(u, 0.0) + a.x <= l.right) & (l.left <= float::min(u, 0.0) + a.x)
     } else {
         false
     }
@@ -81,7 +85,7 @@ fn has_side(l: Limits, a: Vec2, b: Vec2) -> bool
 {
     if has_end(l, a) {
         if has_end(l, b) {
-            has_crossing(l.right, a, b)
+            has_crossing(l, a, b)
         } else {
             false
         }
@@ -118,14 +122,38 @@ fn reach(a: Vec2, b: Vec2) -> f64
     }
 }
 
+// How far to the left.
+fn left_reach(a: Vec2, b: Vec2) -> f64
+    ensures { λ r. ⌜ r ≡ Extent.leftReach (record { from = a; to = b }) ⌝ }
+{
+    if is_level(a, b) {
+        a.x
+    } else {
+        float::min(run(a, b), 0.0) + a.x
+    }
+}
+
 // The limits with one more side.
 fn widened(l: Limits, a: Vec2, b: Vec2) -> Limits
     ensures { λ r. ⌜ r ≡ Extent.widened l (record { from = a; to = b }) ⌝ }
 {
     Limits {
-        low: float::min(l.low, a.y - 1.0e-12),
-        high: float::max(l.high, a.y + 1.0e-12),
-        right: float::max(l.right, float::max(a.x + 1.0e-12, reach(a, b))),
+        low: float::min(l.low, a.y),
+        high: float::max(l.high, a.y),
+        right: float::max(l.right, reach(a, b)),
+        left: float::min(l.left, left_reach(a, b)),
+    }
+}
+
+// The limits with 1e-12 to spare.
+fn spared(l: Limits) -> Limits
+    ensures { λ r. ⌜ r ≡ Extent.spared l ⌝ }
+{
+    Limits {
+        low: l.low - 1.0e-12,
+        high: l.high + 1.0e-12,
+        right: l.right + 1.0e-12,
+        left: l.left - 1.0e-12,
     }
 }
 
@@ -138,6 +166,7 @@ fn sideless() -> Limits
         low: top,
         high: -top,
         right: -top,
+        left: top,
     }
 }
 
@@ -150,6 +179,7 @@ fn unlimited() -> Limits
         low: -top,
         high: top,
         right: top,
+        left: -top,
     }
 }
 
@@ -165,7 +195,7 @@ fn narrowest(floats: &[f64], at: usize, n: usize) -> Limits
         l = widened(l, s.from, s.to);
         i += 1;
     }
-    l
+    spared(l)
 }
 
 // Limits of the polygon: the narrowest where every side is found to be within them, else none.

@@ -12,11 +12,12 @@ ghost use Rattle.arith.specs.Lists.{after};
 ghost use Rattle.lines_polygon.specs.Contains as Contains;
 ghost use Rattle.lines_polygon.specs.Vertices.{pairFrom, pairsFrom, sideFrom};
 
-// A polygon contains no point below `low`, above `high` or to the right of `right`.
+// A polygon contains no point below `low`, above `high`, to the right of `right` or to the left of `left`.
 pub struct Limits {
     pub low: f64,
     pub high: f64,
     pub right: f64,
+    pub left: f64,
 }
 
 // The ends of a side of a polygon: a vertex and the next one.

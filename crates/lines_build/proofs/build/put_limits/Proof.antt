@@ -28,6 +28,15 @@ mul-floats-3 c = search needs
 slice-write-floats-3 : tie.Need-slice-write-floats-3
 slice-write-floats-3 c = simp length-set (omega arith)
 
+add-floats-3 : tie.Need-add-floats-3
+add-floats-3 c = search needs
+
+mul-floats-4 : tie.Need-mul-floats-4
+mul-floats-4 c = search needs
+
+slice-write-floats-4 : tie.Need-slice-write-floats-4
+slice-write-floats-4 c = simp length-set (omega arith)
+
 same-length : tie.Need-same-length
 same-length c = search needs
 
@@ -46,5 +55,8 @@ put-limits-spec =
     add-floats-2
     mul-floats-3
     slice-write-floats-3
+    add-floats-3
+    mul-floats-4
+    slice-write-floats-4
     same-length
     returns)

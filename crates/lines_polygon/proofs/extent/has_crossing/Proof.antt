@@ -20,9 +20,12 @@ is-finite-requires c κs = search needs
 max-requires : tie.Need-max-requires
 max-requires c κs = search needs
 
+min-requires : tie.Need-min-requires
+min-requires c κs = search needs
+
 returns-2 : tie.Need-returns-2
 unfolding crossingWithin
-returns-2 c = rw (sym (c .before .before .before .before .before .before .is-level .ensures) ∙ c .before .before .before .before .before .if1 .left, ← c .before .before .before .before .run .ensures, sym (c .before .before .before .is-finite .ensures) ∙ c .before .before .if2 .taken, c .before .max .ensures)
+returns-2 c = rw (sym (c .before .before .before .before .before .before .before .before .before .before .is-level .ensures) ∙ c .before .before .before .before .before .before .before .before .before .if1 .left, ← c .before .before .before .before .before .before .before .before .run .ensures, sym (c .before .before .before .before .before .before .before .is-finite .ensures) ∙ c .before .before .before .before .before .before .if2 .taken, c .before .before .before .before .before .max .ensures, c .before .before .min .ensures)
 
 returns-3 : tie.Need-returns-3
 unfolding crossingWithin
@@ -37,5 +40,6 @@ has-crossing-spec =
     run-requires
     is-finite-requires
     max-requires
+    min-requires
     returns-2
     returns-3)

@@ -28,6 +28,15 @@ mul-t11 c = search needs
 shared-slice-read-t13 : tie.Need-shared-slice-read-t13
 shared-slice-read-t13 c = search needs
 
+add-t14 : tie.Need-add-t14
+add-t14 c = search needs
+
+mul-t15 : tie.Need-mul-t15
+mul-t15 c = search needs
+
+shared-slice-read-t17 : tie.Need-shared-slice-read-t17
+shared-slice-read-t17 c = search needs
+
 returns : tie.Need-returns
 unfolding limitsFrom
 returns c = refl
@@ -44,4 +53,7 @@ limits-at-spec =
     add-t10
     mul-t11
     shared-slice-read-t13
+    add-t14
+    mul-t15
+    shared-slice-read-t17
     returns)

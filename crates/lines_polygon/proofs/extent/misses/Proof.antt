@@ -12,7 +12,11 @@ returns-2 c = rw (c .before .before .before .if1 .left, c .if2 .taken)
 
 returns-3 : tie.Need-returns-3
 unfolding misses
-returns-3 c = rw (c .before .before .before .before .before .if1 .left, c .before .before .if2 .left)
+returns-3 c = rw (c .before .before .before .before .before .before .if1 .left, c .before .before .before .if2 .left, c .if3 .taken)
+
+returns-4 : tie.Need-returns-4
+unfolding misses
+returns-4 c = rw (c .before .before .before .before .before .before .before .before .if1 .left, c .before .before .before .before .before .if2 .left, c .before .before .if3 .left)
 
 pub misses-spec : {M : Type 1} → statement M
-misses-spec = tie.close (tie.spec returns returns-2 returns-3)
+misses-spec = tie.close (tie.spec returns returns-2 returns-3 returns-4)

@@ -36,6 +36,9 @@ loop-less c = search needs
 loop-again : tie.Need-loop-again Inv-loop μ-loop
 loop-again c = (search needs, search (widened-turn, needs))
 
+spared-requires : tie.Need-spared-requires Inv-loop μ-loop
+spared-requires c κs = search needs
+
 returns : tie.Need-returns Inv-loop μ-loop
 returns c = search (narrowed, needs)
 
@@ -52,4 +55,5 @@ narrowest-spec =
     add-i
     loop-less
     loop-again
+    spared-requires
     returns)
