@@ -1,5 +1,5 @@
 // An index of bins in the words of a work area: for each bin the chain of the cells that are listed
-// in it, rising. From `base` on there are n records of 8 words, which start with a cell's bins:
+// in it, rising. From `base` on there are n records of 8 words, which start with a cell's range:
 // first x and y, last x and y. The index stands behind them, where it fits.
 use arith::number::narrow;
 use arith::number::wide;

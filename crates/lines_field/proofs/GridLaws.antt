@@ -1,16 +1,18 @@
 -- The grid by cases, and one turn of the loops that bound and list the cells. Assumes nothing.
-use Prim.Native.Nat.{ℕ, zero, suc, _+_, _*_, _≤_, _<_}
+use Prim.Native.Nat.{ℕ, zero, suc, _+_, _*_, _/_, _%_, _≤_, _<_, min}
 use native.Mathlib.Nat.{le-antisymm}
 use native.Mathlib.Omega.{arith}
 use mathlib.Core.Path.{_≡_, refl, sym, ap, ap₂, _∙_, subst}
 use mathlib.Core.Logic.{_⊎_, inl, inr}
-use mathlib.Core.Bool.{true, false}
+use mathlib.Core.Bool.{Bool, true, false, not, _&&_, true≢false}
 use mathlib.Core.List.{List, [], _∷_, _++_, map, map-append}
 use lib.ListN.{length, getD, take, drop}
 use lib.Seq.{take-take}
 use lib.Ieee.{Float}
 use borrow.Author.Tests.{lt-ltb, le-ltb}
+use Rattle.arith.specs.F64.{_≺_, finite}
 use Rattle.arith.specs.Lists.{fold, flatten}
+use Rattle.arith.specs.Limits.{mostBins}
 use Rattle.arith.specs.Records.{tab, puts}
 use Rattle.arith.specs.declared.Vec2.{Vec2}
 use Rattle.arith.proofs.ListLaws.{foldl-next}
@@ -24,15 +26,32 @@ use Rattle.lines_locate.specs.declared.Bin.{Bin}
 use Rattle.lines_locate.specs.declared.Grid.{Grid}
 use Rattle.lines_field.specs.declared.Built.{Built}
 use Rattle.lines_field.specs.declared.Built.the-variants.{Made, Refused}
+use Rattle.lines_field.specs.declared.BinSpan.{BinSpan}
 use Rattle.lines_field.specs.Bounds.{boundless, widened, boundsOf, lowCorner, highCorner}
 use Rattle.lines_locate.specs.Bins.{CellPolygon, binFor}
-use Rattle.lines_locate.specs.Contracts.{HasBins}
+use Rattle.lines_locate.specs.Ranges.{firstBin, lastBin, Ranged}
+use Rattle.lines_locate.specs.Contracts.{Spread, HasBins, HasRanges}
 use Rattle.lines_field.specs.Bins.{listedIn, areFlat, areMany}
 use Rattle.lines_field.specs.Field.{gridFor, builtGrid}
 use Rattle.lines_locate.specs.Layout.{wordsAt, floatsAt, countIn, polygonIn, binFrom, cellPolygonIn, cellPolygonsIn}
-use Rattle.lines_field.specs.Contracts.{polygonsIn, ListCellExit}
+use Rattle.lines_field.specs.Contracts.{polygonsIn, binWord, cellWords, SpanWithin, listedSpan, ListCellExit, ListCellsExit}
+use Rattle.lines_polygon.specs.declared.Limits.{Limits}
+use Rattle.lines_polygon.specs.Extent.{limitsFrom}
 use Rattle.lines_polygon.specs.Vertices.{pairFrom, pairsFrom}
 use Rattle.lines_polygon.proofs.Laws.{length-pairs, pairs-at}
+
+-- ---- a grid's bounds are not flat
+
+bounds-spread : (b : Box) (n : Bin) → areFlat b ≡ false → Spread (record { bounds = b; bins = n })
+unfolding areFlat
+bounds-spread b n e = by (finite (b .left)) (finite (b .bottom)) (b .left ≺ b .right) (b .bottom ≺ b .top) refl refl refl refl e
+  where
+    by : (s t u v : Bool) → finite (b .left) ≡ s → finite (b .bottom) ≡ t → (b .left ≺ b .right) ≡ u → (b .bottom ≺ b .top) ≡ v → not (s && (t && (u && v))) ≡ false → Spread (record { bounds = b; bins = n })
+    by true true true true p q r w e = record { left = p; bottom = q; wide = r; high = w }
+    by false t u v p q r w e = absurd (true≢false e)
+    by true false u v p q r w e = absurd (true≢false e)
+    by true true false v p q r w e = absurd (true≢false e)
+    by true true true false p q r w e = absurd (true≢false e)
 
 -- ---- 18, 19, or the grid
 
@@ -61,7 +80,7 @@ module _ (b : Box) (n : Bin) where
   unfolding gridFor builtGrid refuse _>>=_ areMany
   grid-made e k h x y = (
     rw (e, le-ltb 65536 (n .x) k, le-ltb 65536 (n .y) h),
-    λ g w. let i : record { bounds = b; bins = n } ≡ g = cc in rw (← i) (record { wide = x; high = y; few-wide = k; few-high = h }),
+    λ g w. let i : record { bounds = b; bins = n } ≡ g = cc in rw (← i) (record { wide = x; high = y; few-wide = k; few-high = h; spread = bounds-spread b n e }),
   )
 
 -- ---- bounds
@@ -101,12 +120,19 @@ module _ (s : Sizes) (w w′ : List ℕ) (f : List Float) where
   unfolding cellPolygonIn polygonIn countIn binFrom
   cellPolygon-same i j e h =
       rw (
-        same-below w w′ (wordsAt s i) (wordsAt s j) 0 e (omega arith),
-        same-below w w′ (wordsAt s i) (wordsAt s j + 1) 0 e (omega arith),
-        same-below w w′ (wordsAt s i) (wordsAt s j + 2) 0 e (omega arith),
-        same-below w w′ (wordsAt s i) (wordsAt s j + 2 + 1) 0 e (omega arith),
         same-below w w′ (wordsAt s i) (wordsAt s j + 4) 0 e (omega arith),
+        same-below w w′ (wordsAt s i) (wordsAt s j + 5) 0 e (omega arith),
+        same-below w w′ (wordsAt s i) (wordsAt s j + 6) 0 e (omega arith),
       )
+
+  pub ranged-same : (g : Grid) (l : Limits) (i j : ℕ) → take (wordsAt s i) w′ ≡ take (wordsAt s i) w → j < i → Ranged g l w (wordsEnd s) j → Ranged g l w′ (wordsEnd s) j
+  ranged-same g l i j e h r =
+      record {
+        first-x = same-below w w′ (wordsAt s i) (wordsAt s j + 0) 0 e (omega arith) ∙ r .first-x;
+        first-y = same-below w w′ (wordsAt s i) (wordsAt s j + 1) 0 e (omega arith) ∙ r .first-y;
+        last-x = same-below w w′ (wordsAt s i) (wordsAt s j + 2) 0 e (omega arith) ∙ r .last-x;
+        last-y = same-below w w′ (wordsAt s i) (wordsAt s j + 3) 0 e (omega arith) ∙ r .last-y;
+      }
 
   pub polygon-of : (i : ℕ) → i < s .cells → polygonsIn s w′ f ≡ polygonsIn s w f → polygonIn s w′ f i ≡ polygonIn s w f i
   unfolding polygonsIn
@@ -115,47 +141,74 @@ module _ (s : Sizes) (w w′ : List ℕ) (f : List Float) where
       ∙ ap (λ (l : List (List Vec2)). getD l i []) e
       ∙ getD-tab (polygonIn s w f) (s .cells) i [] h
 
-module _ (g : Grid) (s : Sizes) (w : List ℕ) (f : List Float) (i : ℕ) (first last : Bin) (room : wordsAt s i + 4 ≤ length w) where
+-- a bin is read from its word
+bin-here : (w : List ℕ) (at : ℕ) (b : Bin) → getD w at 0 ≡ binWord b → b .x < mostBins → binFrom w at ≡ b
+unfolding binFrom binWord
+bin-here w at b e h = rw e (
+    let x : (mostBins * b .y + b .x) % mostBins ≡ b .x = omega arith in
+    let y : (mostBins * b .y + b .x) / mostBins ≡ b .y = omega arith in
+    rw (x, y)
+    )
+
+module _ (g : Grid) (s : Sizes) (w : List ℕ) (f : List Float) (i : ℕ) (range listed : BinSpan) (room : wordsAt s i + 7 ≤ length w) where
   abbrev pub stored : List ℕ
-  stored = puts w (wordsAt s i) (first .x ∷ first .y ∷ last .x ∷ last .y ∷ [])
+  stored = puts w (wordsAt s i) (cellWords range (countIn s w i) listed)
+
+  at-word : (k : ℕ) → k < 7 → getD stored (wordsAt s i + k) 0 ≡ getD (cellWords range (countIn s w i) listed) k 0
+  at-word k h = getD-puts-at w (wordsAt s i) (cellWords range (countIn s w i) listed) k 0 h room
+
+  count-kept : (j : ℕ) → countIn s stored j ≡ countIn s w j
+  unfolding countIn
+  count-kept j = by (lt-or-ge j i)
+    where
+      here : min (getD stored (wordsAt s i + 4) 0) 24 ≡ min (getD w (wordsAt s i + 4) 0) 24
+      here = rw (at-word 4 (omega arith)) (omega arith)
+
+      by : (j < i) ⊎ (i ≤ j) → min (getD stored (wordsAt s j + 4) 0) 24 ≡ min (getD w (wordsAt s j + 4) 0) 24
+      by (inl h) = rw (getD-puts-out w (wordsAt s i) (cellWords range (countIn s w i) listed) (wordsAt s j + 4) 0 (inl (omega arith)))
+      by (inr h) = by-2 (lt-or-ge i j)
+        where
+          by-2 : (i < j) ⊎ (j ≤ i) → min (getD stored (wordsAt s j + 4) 0) 24 ≡ min (getD w (wordsAt s j + 4) 0) 24
+          by-2 (inl k) = rw (getD-puts-out w (wordsAt s i) (cellWords range (countIn s w i) listed) (wordsAt s j + 4) 0 (inr (omega arith)))
+          by-2 (inr k) = let e : j ≡ i = le-antisymm k h in rw e here
 
   polygon-kept : (j : ℕ) → polygonIn s stored f j ≡ polygonIn s w f j
-  unfolding polygonIn countIn
-  polygon-kept j =
-      rw (getD-puts-out w (wordsAt s i) (first .x ∷ first .y ∷ last .x ∷ last .y ∷ []) (wordsAt s j + 4) 0 (out (lt-or-ge j i)))
-    where
-      out : (j < i) ⊎ (i ≤ j) → (wordsAt s j + 4 < wordsAt s i) ⊎ (wordsAt s i + 4 ≤ wordsAt s j + 4)
-      out (inl h) = inl (omega arith)
-      out (inr h) = inr (omega arith)
+  unfolding polygonIn
+  polygon-kept j = rw (count-kept j)
 
-  at-bin : (k : ℕ) → k < 4 → getD stored (wordsAt s i + k) 0 ≡ getD (first .x ∷ first .y ∷ last .x ∷ last .y ∷ []) k 0
-  at-bin k h = getD-puts-at w (wordsAt s i) (first .x ∷ first .y ∷ last .x ∷ last .y ∷ []) k 0 h room
-
-  bins-here : (binFrom stored (wordsAt s i) ≡ first) × (binFrom stored (wordsAt s i + 2) ≡ last)
-  unfolding binFrom
-  bins-here =
-      let z : wordsAt s i + 0 ≡ wordsAt s i = omega arith in
-      let t : wordsAt s i + 3 ≡ wordsAt s i + 2 + 1 = omega arith in
-      let b0 : getD stored (wordsAt s i) 0 ≡ first .x = subst (λ (n : ℕ). getD stored n 0 ≡ first .x) z (at-bin 0 (omega arith)) in
-      let b1 : getD stored (wordsAt s i + 1) 0 ≡ first .y = at-bin 1 (omega arith) in
-      let b2 : getD stored (wordsAt s i + 2) 0 ≡ last .x = at-bin 2 (omega arith) in
-      let b3 : getD stored (wordsAt s i + 2 + 1) 0 ≡ last .y = subst (λ (n : ℕ). getD stored n 0 ≡ last .y) t (at-bin 3 (omega arith)) in
-      (rw (b0, b1), rw (b2, b3))
-
-  pub listed-cell : first ≡ binFor g (lowCorner (boundsOf (polygonIn s w f i))) → last ≡ binFor g (highCorner (boundsOf (polygonIn s w f i))) → ListCellExit g s w stored f i
-  listed-cell ef el =
+  pub listed-cell : listed ≡ listedSpan g (polygonIn s w f i) → SpanWithin listed mostBins → range .first ≡ firstBin g (limitsFrom f (floatsAt s i + 48))
+      → range .last ≡ lastBin g (limitsFrom f (floatsAt s i + 48)) → ListCellExit g s w stored f i
+  listed-cell el within ef eg =
       record {
-        here = unfold cellPolygonIn listedIn in rw (polygon-kept i, bins-here .0, bins-here .1, ← ef, ← el);
-        before = take-puts w (wordsAt s i) (first .x ∷ first .y ∷ last .x ∷ last .y ∷ []);
+        here = cell-here;
+        range =
+            record {
+              first-x = at-word 0 (omega arith) ∙ ap (λ (b : Bin). b .x) ef;
+              first-y = at-word 1 (omega arith) ∙ ap (λ (b : Bin). b .y) ef;
+              last-x = at-word 2 (omega arith) ∙ ap (λ (b : Bin). b .x) eg;
+              last-y = at-word 3 (omega arith) ∙ ap (λ (b : Bin). b .y) eg;
+            };
+        before = take-puts w (wordsAt s i) (cellWords range (countIn s w i) listed);
         polygons = unfold polygonsIn in tab-same (polygonIn s stored f) (polygonIn s w f) (s .cells) (λ k h. polygon-kept k);
       }
+    where
+      cell-here : cellPolygonIn s stored f i ≡ listedIn g (polygonIn s w f i)
+      cell-here =
+          let a = bin-here stored (wordsAt s i + 5) (listed .first) (at-word 5 (omega arith)) (within .first-x) in
+          let b = bin-here stored (wordsAt s i + 6) (listed .last) (at-word 6 (omega arith)) (within .last-x) in
+          unfold cellPolygonIn listedIn in rw (polygon-kept i, a, b, el) (unfold listedSpan listedIn in refl)
 
-pub listed-by : (g : Grid) (s : Sizes) (w w′ : List ℕ) (f : List Float) (i : ℕ) (own b : Box) (at n wat : ℕ) (first last : Bin) → b ≡ boundless → at ≡ floatsAt s i
-    → n ≡ countIn s w i → own ≡ fold widened b (pairsFrom f at n) → first ≡ binFor g (lowCorner own) → last ≡ binFor g (highCorner own) → wat ≡ wordsAt s i
-    → w′ ≡ puts w wat (first .x ∷ first .y ∷ last .x ∷ last .y ∷ []) → wordsAt s i + 4 ≤ length w → ListCellExit g s w w′ f i
-listed-by g s w w′ f i own b at n wat first last eb ea en eo ef el ew e room =
-    let o : own ≡ boundsOf (polygonIn s w f i) = unfold boundsOf polygonIn in eo ∙ rw (eb, ea, en) in
-    rw (e, ew) (listed-cell g s w f i first last room (ef ∙ ap (λ (x : Box). binFor g (lowCorner x)) o) (el ∙ ap (λ (x : Box). binFor g (highCorner x)) o))
+pub spanned : (g : Grid) (f : List Float) (at n : ℕ) (b own : Box) (first last : Bin) → b ≡ boundless → own ≡ fold widened b (pairsFrom f at n) → first ≡ binFor g (lowCorner own)
+    → last ≡ binFor g (highCorner own) → record { first = first; last = last } ≡ listedSpan g (pairsFrom f at n)
+unfolding listedSpan listedIn boundsOf
+spanned g f at n b own first last eb eo ef el = rw (ef, el, eo, eb)
+
+pub listed-by : (g : Grid) (s : Sizes) (w w′ : List ℕ) (f : List Float) (i at n wat : ℕ) (range listed : BinSpan) (l : Limits) → at ≡ floatsAt s i → n ≡ countIn s w i → l ≡ limitsFrom f (at + 48)
+    → range .first ≡ firstBin g l → range .last ≡ lastBin g l → listed ≡ listedSpan g (pairsFrom f at n) → SpanWithin listed mostBins → wat ≡ wordsAt s i → w′ ≡ puts w wat (cellWords range n listed)
+    → wordsAt s i + 7 ≤ length w → ListCellExit g s w w′ f i
+listed-by g s w w′ f i at n wat range listed l ea en el ef eg es within ew e room =
+    rw (e, ew, en)
+    (listed-cell g s w f i range listed room (es ∙ unfold polygonIn in rw (ea, en)) within (ef ∙ rw (el, ea)) (eg ∙ rw (el, ea)))
 
 pub map-tab : {A B : Type 0} (f : A → B) (g : ℕ → A) (n : ℕ) → map f (tab g n) ≡ tab (λ k. f (g k)) n
 unfolding tab
@@ -167,12 +220,14 @@ pub record Listing (g : Grid) (s : Sizes) (w₀ w : List ℕ) (f : List Float) (
   pub within : i ≤ s .cells
   pub as-long : length w ≡ length w₀
   pub done : tab (cellPolygonIn s w f) i ≡ tab (λ j. listedIn g (polygonIn s w₀ f j)) i
+  pub ranges : (j : ℕ) → j < i → Ranged g (limitsFrom f (floatsAt s j + 48)) w (wordsEnd s) j
   pub polygons : polygonsIn s w f ≡ polygonsIn s w₀ f
   pub before : take (wordsEnd s) w ≡ take (wordsEnd s) w₀
 
 pub listing-start : (g : Grid) (s : Sizes) (w : List ℕ) (f : List Float) → Listing g s w w f 0
 unfolding tab
-listing-start g s w f = record { within = omega arith; as-long = refl; done = refl; polygons = refl; before = refl }
+listing-start g s w f =
+    record { within = omega arith; as-long = refl; done = refl; ranges = λ j h. absurd (omega arith); polygons = refl; before = refl }
 
 pub listing-turn : (g : Grid) (s : Sizes) (w₀ w w′ : List ℕ) (f : List Float) (i : ℕ) → Listing g s w₀ w f i → i < s .cells → length w′ ≡ length w → ListCellExit g s w w′ f i
     → Listing g s w₀ w′ f (i + 1)
@@ -186,15 +241,23 @@ listing-turn g s w₀ w w′ f i l h e d =
           (tab-same (cellPolygonIn s w′ f) (cellPolygonIn s w f) i (λ k b. cellPolygon-same s w w′ f i k (d .before) b) ∙ l .done)
           (d .here ∙ ap (listedIn g) (polygon-of s w₀ w f i h (l .polygons)))
           ∙ sym (tab-next (λ j. listedIn g (polygonIn s w₀ f j)) i);
+      ranges = λ j k. by j k (lt-or-ge j i);
       polygons = d .polygons ∙ l .polygons;
       before =
           let less : wordsEnd s ≤ wordsAt s i = omega arith in
           sym (take-take (wordsEnd s) (wordsAt s i) w′ less) ∙ ap (take (wordsEnd s)) (d .before) ∙ take-take (wordsEnd s) (wordsAt s i) w less ∙ l .before;
     }
+  where
+    by : (j : ℕ) → j < i + 1 → (j < i) ⊎ (i ≤ j) → Ranged g (limitsFrom f (floatsAt s j + 48)) w′ (wordsEnd s) j
+    by j k (inl b) = ranged-same s w w′ f g (limitsFrom f (floatsAt s j + 48)) i j (d .before) b (l .ranges j b)
+    by j k (inr b) = let q : j ≡ i = le-antisymm (omega arith) b in rw q (d .range)
 
-pub listing-end : (g : Grid) (s : Sizes) (w₀ w : List ℕ) (f : List Float) (i : ℕ) → Listing g s w₀ w f i → s .cells ≤ i
-    → (cellPolygonsIn s w f ≡ map (listedIn g) (polygonsIn s w₀ f)) × (take (wordsEnd s) w ≡ take (wordsEnd s) w₀)
+pub listing-end : (g : Grid) (s : Sizes) (w₀ w : List ℕ) (f : List Float) (i : ℕ) → Listing g s w₀ w f i → s .cells ≤ i → ListCellsExit g s w₀ w f
 unfolding cellPolygonsIn polygonsIn
 listing-end g s w₀ w f i l h =
     let e : s .cells ≡ i = le-antisymm h (l .within) in
-    (rw (map-tab (listedIn g) (polygonIn s w₀ f) (s .cells)) (subst (λ (n : ℕ). tab (cellPolygonIn s w f) n ≡ tab (λ j. listedIn g (polygonIn s w₀ f j)) n) (sym e) (l .done)), l .before)
+    record {
+      polygons = rw (map-tab (listedIn g) (polygonIn s w₀ f) (s .cells)) (subst (λ (n : ℕ). tab (cellPolygonIn s w f) n ≡ tab (λ j. listedIn g (polygonIn s w₀ f j)) n) (sym e) (l .done));
+      ranges = record { each = λ j k. l .ranges j (omega arith) };
+      mesh = l .before;
+    }

@@ -1,13 +1,15 @@
 -- The contracts of the functions that build the tracer's part of the work area, here and in lines_build.
 -- `polygonsIn`: the polygons in the area. `vertexIn`, `verticesIn`: points in two lists.
 -- `push`, `add_face` and `cell_vertices`: `VerticesExit`. `MeshKept`: the mesh is as it was. `angles_about`: `AnglesAboutExit`.
--- `polygon`: `PolygonExit`. `store_polygon` and `put_polygon`: `PutPolygonExit`. `list_cell`: `ListCellExit`. `limit_cell`: `LimitCellExit`.
+-- `polygon`: `PolygonExit`. `store_polygon` and `put_polygon`: `PutPolygonExit`. `limit_cell`: `LimitCellExit`.
+-- `binWord`, `cellWords`, `SpanWithin`, `listedSpan`: the words of a cell. `list_cell`: `ListCellExit`. `list_cells`: `ListCellsExit`.
 -- `from_dataset`: `FromDatasetExit`. `bin_counts`: `BinCountsExit`. `VertexLimit`: what the mesh promises.
-use Prim.Native.Nat.{ℕ, _+_, _≤_, _<_}
+use Prim.Native.Nat.{ℕ, _+_, _*_, _≤_, _<_}
 use mathlib.Core.Path.{_≡_}
-use mathlib.Core.List.{List, map}
+use mathlib.Core.List.{List, [], _∷_, map}
 use lib.ListN.{getD, take, drop, length}
 use lib.Ieee.{Float, nan}
+use Rattle.arith.specs.Limits.{mostBins}
 use Rattle.arith.specs.Records.{tab}
 use Rattle.arith.specs.Vec.{pair}
 use Rattle.arith.specs.declared.Vec2.{Vec2}
@@ -20,8 +22,10 @@ use Rattle.mesh_area.specs.Tables.{Mesh, cellAt}
 use Rattle.mesh_area.specs.Layout.{wordsEnd, floatsEnd}
 use Rattle.lines_polygon.specs.Extent.{Outside, limitsFrom}
 use Rattle.lines_locate.specs.declared.Grid.{Grid}
-use Rattle.lines_locate.specs.Layout.{wordsAt, floatsAt, polygonIn, cellPolygonIn, fieldIn}
-use Rattle.lines_locate.specs.Contracts.{LocateCellEntry}
+use Rattle.lines_locate.specs.Layout.{wordsAt, floatsAt, polygonIn, cellPolygonIn, cellPolygonsIn, fieldIn}
+use Rattle.lines_locate.specs.Ranges.{Ranged}
+use Rattle.lines_locate.specs.Contracts.{HasRanges, LocateCellEntry}
+use Rattle.lines_field.specs.declared.BinSpan.{BinSpan}
 use Rattle.lines_field.specs.declared.Built.{Built}
 use Rattle.lines_field.specs.declared.Built.the-variants.{Made}
 use Rattle.lines_field.specs.Vertices.{about, cellVertices}
@@ -70,11 +74,38 @@ pub record PutPolygonExit (polygon : List Vec2) (s : Sizes) (w w′ : List ℕ) 
   pub words : take (wordsAt s i) w′ ≡ take (wordsAt s i) w
   pub floats : take (floatsAt s i) f′ ≡ take (floatsAt s i) f
 
--- cell i is listed in its bins, and no other record is changed
+-- a bin in one word
+unfoldable pub binWord : Bin → ℕ
+binWord b = mostBins * b .y + b .x
+
+-- the words of a cell, but for the last: its range in the index, how many vertices it has, and the bins that it is listed in
+abbrev pub cellWords : BinSpan → ℕ → BinSpan → List ℕ
+cellWords range n listed =
+    range .first .x ∷ range .first .y ∷ range .last .x ∷ range .last .y ∷ n ∷ binWord (listed .first) ∷ binWord (listed .last) ∷ []
+
+-- both ends lie below n each way
+pub record SpanWithin (b : BinSpan) (n : ℕ) : Type 0 where
+  pub first-x : b .first .x < n
+  pub first-y : b .first .y < n
+  pub last-x : b .last .x < n
+  pub last-y : b .last .y < n
+
+-- the bins that a polygon is listed in
+unfoldable pub listedSpan : Grid → List Vec2 → BinSpan
+listedSpan g polygon = record { first = listedIn g polygon .first; last = listedIn g polygon .last }
+
+-- cell i is listed in its bins and has its range in the index; no other record is changed
 pub record ListCellExit (g : Grid) (s : Sizes) (w w′ : List ℕ) (f : List Float) (i : ℕ) : Type 0 where
   pub here : cellPolygonIn s w′ f i ≡ listedIn g (polygonIn s w f i)
+  pub range : Ranged g (limitsFrom f (floatsAt s i + 48)) w′ (wordsEnd s) i
   pub before : take (wordsAt s i) w′ ≡ take (wordsAt s i) w
   pub polygons : polygonsIn s w′ f ≡ polygonsIn s w f
+
+-- so are all cells, and the mesh is as it was
+pub record ListCellsExit (g : Grid) (s : Sizes) (w w′ : List ℕ) (f : List Float) : Type 0 where
+  pub polygons : cellPolygonsIn s w′ f ≡ map (listedIn g) (polygonsIn s w f)
+  pub ranges : HasRanges g s w′ f
+  pub mesh : take (wordsEnd s) w′ ≡ take (wordsEnd s) w
 
 -- cell i has its limits; no polygon, no other cell's limits and nothing of the mesh is changed
 pub record LimitCellExit (s : Sizes) (w : List ℕ) (f f′ : List Float) (i : ℕ) : Type 0 where

@@ -9,6 +9,7 @@ use Rattle.mesh_area.specs.Tables.{Mesh}
 use Rattle.lines_locate.specs.declared.Box.{Box}
 use Rattle.lines_locate.specs.declared.Bin.{Bin}
 use Rattle.lines_locate.specs.declared.Grid.{Grid}
+use Rattle.lines_locate.specs.declared.Search.the-variants.{Bins}
 use Rattle.lines_field.specs.declared.Built.{Built}
 use Rattle.lines_field.specs.declared.Built.the-variants.{Made, Refused}
 use Rattle.lines_field.specs.Vertices.{polygonOf}
@@ -32,7 +33,7 @@ gridOf cells ls = gridFor (boundsOf (flatten ls)) (binCounts cells (boundsOf (fl
 unfoldable pub fieldOf : Mesh → Result StreamlineField
 fieldOf m =
     gridOf (length (m .cells)) (polygonsOf m) >>= λ g.
-    fine (record { polygons = map (listedIn g) (polygonsOf m); cells = m .cells; grid = g })
+    fine (record { polygons = map (listedIn g) (polygonsOf m); cells = m .cells; grid = g; search = Bins })
 
 -- what each case of the answer stands for
 unfoldable pub builtGrid : Built → Result Grid

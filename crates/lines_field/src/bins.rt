@@ -1,4 +1,5 @@
 // The bin counts of a grid, with the refusals 18 and 19, and the bins of each cell.
+use crate::BinSpan;
 use crate::Built;
 use crate::bounds;
 use arith::Vec2;
@@ -6,9 +7,11 @@ use arith::float;
 use lines_locate::Bin;
 use lines_locate::Box;
 use lines_locate::Grid;
+use lines_polygon::Limits;
+use lines_polygon::extent;
 use mesh_area::Sizes;
 ghost use mathlib.Core.Path.{_≡_};
-ghost use mathlib.Core.List.{[], _∷_, map};
+ghost use mathlib.Core.List.{map};
 ghost use Prim.Native.Nat.{_+_, _*_, _<_, _≤_, max};
 ghost use Rattle.arith.specs.Limits.{mostCells, mostBins};
 ghost use Rattle.arith.specs.F64.{ceilℕ};
@@ -19,7 +22,9 @@ ghost use Rattle.mesh_area.specs.Layout.{wordsEnd, LentWords, LentFloats};
 ghost use Rattle.lines_field.specs.Bins as Bins;
 ghost use Rattle.lines_locate.specs.Contracts.{HasBins, HasLimits, LocateCellEntry};
 ghost use Rattle.lines_field.specs.Bins.{listedIn};
-ghost use Rattle.lines_field.specs.Contracts.{BinCountsExit, polygonsIn, ListCellExit};
+ghost use Rattle.lines_polygon.specs.Vertices.{pairsFrom};
+ghost use Rattle.lines_locate.specs.Ranges.{firstBin, lastBin};
+ghost use Rattle.lines_field.specs.Contracts.{BinCountsExit, polygonsIn, binWord, SpanWithin, cellWords, listedSpan, ListCellExit, ListCellsExit};
 ghost use Rattle.lines_field.specs.Field.{gridFor, builtGrid};
 ghost use Rattle.lines_locate.specs.Layout.{cellPolygonsIn};
 
@@ -92,53 +97,85 @@ pub fn grid_for(b: Box, n: Bin) -> Built
     Built::Made(Grid { bounds: b, bins: n })
 }
 
-// Stores two bins from `at` on.
-fn put_bins(words: &mut [u32], at: usize, first: Bin, last: Bin)
-    requires { ⌜ (at + 4 ≤ length (now words)) × (first .x < mostBins) × (first .y < mostBins) × (last .x < mostBins)
-        × (last .y < mostBins) ⌝ }
-    ensures { λ _. ⌜ now (words .exit) ≡ puts (now (words .entry)) at (first .x ∷ first .y ∷ last .x ∷ last .y ∷ []) ⌝ }
+// A bin in one word.
+fn bin_word(b: Bin) -> u32
+    requires { ⌜ (b .x < mostBins) × (b .y < mostBins) ⌝ }
+    ensures { λ r. ⌜ r ≡ binWord b ⌝ }
 {
-    words[at] = first.x as u32;
-    words[at + 1] = first.y as u32;
-    words[at + 2] = last.x as u32;
-    words[at + 3] = last.y as u32;
+    (65536 * b.y + b.x) as u32
 }
 
-// Lists cell i in the bins from its low corner's to its high corner's.
+// Stores the words of a cell from `at` on: its range in the index, how many vertices it has, and the
+// first and the last bin that it is listed in.
+fn put_cell(words: &mut [u32], at: usize, range: BinSpan, n: usize, listed: BinSpan)
+    requires { ⌜ (at + 7 ≤ length (now words)) × SpanWithin range (mostBins + 1) × (n ≤ 24)
+        × SpanWithin listed mostBins ⌝ }
+    ensures { λ _. ⌜ now (words .exit) ≡ puts (now (words .entry)) at (cellWords range n listed) ⌝ }
+{
+    words[at] = range.first.x as u32;
+    words[at + 1] = range.first.y as u32;
+    words[at + 2] = range.last.x as u32;
+    words[at + 3] = range.last.y as u32;
+    words[at + 4] = n as u32;
+    words[at + 5] = bin_word(listed.first);
+    words[at + 6] = bin_word(listed.last);
+}
+
+// The bins from that of the low corner of the n points from `at` on to that of their high corner.
+fn listed_bins(floats: &[f64], g: Grid, at: usize, n: usize) -> BinSpan
+    requires { ⌜ HasBins g × (at + 2 * n ≤ length (now floats)) × (n ≤ 24) ⌝ }
+    ensures { λ r. ⌜ (r ≡ listedSpan g (pairsFrom (now (floats .entry)) at n)) × SpanWithin r mostBins ⌝ }
+{
+    let own = bounds::widened_by(bounds::boundless(), floats, at, n);
+    let low = Vec2 {
+        x: own.left,
+        y: own.bottom,
+    };
+    let high = Vec2 {
+        x: own.right,
+        y: own.top,
+    };
+    BinSpan {
+        first: lines_locate::bin_for(g, low),
+        last: lines_locate::bin_for(g, high),
+    }
+}
+
+// The bins of the index that limits meet.
+fn index_range(g: Grid, l: Limits) -> BinSpan
+    requires { ⌜ HasBins g ⌝ }
+    ensures { λ r. ⌜ (r .first ≡ firstBin g l) × (r .last ≡ lastBin g l) × SpanWithin r (mostBins + 1) ⌝ }
+{
+    let low = Vec2 {
+        x: l.left,
+        y: l.low,
+    };
+    let high = Vec2 {
+        x: l.right,
+        y: l.high,
+    };
+    BinSpan {
+        first: lines_locate::index_bin(g, low),
+        last: lines_locate::index_bin(g, high),
+    }
+}
+
+// Lists cell i in the bins from its low corner's to its high corner's, and gives its range in the index.
 fn list_cell(words: &mut [u32], floats: &[f64], s: Sizes, g: Grid, i: usize)
     requires { ⌜ LentWords s (now words) × LentFloats s (now floats) × HasBins g × (i < s .cells) ⌝ }
     ensures { λ _. ⌜ ListCellExit g s (now (words .entry)) (now (words .exit)) (now (floats .entry)) i ⌝ }
 {
     let n = lines_locate::count_in(words, s, i);
-    let own = bounds::widened_by(
-        bounds::boundless(),
-        floats,
-        lines_locate::floats_at(s, i),
-        n,
-    );
-    let first = lines_locate::bin_for(
-        g,
-        Vec2 {
-            x: own.left,
-            y: own.bottom,
-        },
-    );
-    let last = lines_locate::bin_for(
-        g,
-        Vec2 {
-            x: own.right,
-            y: own.top,
-        },
-    );
-    put_bins(words, lines_locate::words_at(s, i), first, last);
+    let at = lines_locate::floats_at(s, i);
+    let range = index_range(g, extent::limits_at(floats, at + 48));
+    let listed = listed_bins(floats, g, at, n);
+    put_cell(words, lines_locate::words_at(s, i), range, n, listed);
 }
 
 // Lists every cell.
 fn list_cells(words: &mut [u32], floats: &[f64], s: Sizes, g: Grid)
     requires { ⌜ LentWords s (now words) × LentFloats s (now floats) × HasBins g ⌝ }
-    ensures { λ _. ⌜ (cellPolygonsIn s (now (words .exit)) (now (floats .entry)) ≡ map (listedIn g)
-        (polygonsIn s (now (words .entry)) (now (floats .entry))))
-        × (take (wordsEnd s) (now (words .exit)) ≡ take (wordsEnd s) (now (words .entry))) ⌝ }
+    ensures { λ _. ⌜ ListCellsExit g s (now (words .entry)) (now (words .exit)) (now (floats .entry)) ⌝ }
 {
     let mut i = 0;
     while i < s.cells {
@@ -147,7 +184,7 @@ fn list_cells(words: &mut [u32], floats: &[f64], s: Sizes, g: Grid)
     }
 }
 
-// Lists every cell, and builds the index of the bins.
+// Lists every cell, and builds the index.
 pub fn index_cells(words: &mut [u32], floats: &[f64], s: Sizes, g: Grid)
     requires { ⌜ LentWords s (now words) × LentFloats s (now floats) × HasBins g
         × HasLimits s (now words) (now floats) ⌝ }
@@ -162,8 +199,8 @@ pub fn index_cells(words: &mut [u32], floats: &[f64], s: Sizes, g: Grid)
             words,
             16 * s.slots + 8 * s.cells,
             s.cells,
-            g.bins.x,
-            g.bins.y,
+            g.bins.x + 1,
+            g.bins.y + 1,
         );
     }
 }

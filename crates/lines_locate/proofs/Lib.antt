@@ -1,2 +1,4 @@
 pub mod LocateLaws
 pub mod IndexLaws
+pub mod RangeLaws
+pub mod SearchLaws

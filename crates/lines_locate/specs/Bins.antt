@@ -9,9 +9,13 @@ use Rattle.lines_bins.specs.Index.{reaches}
 use Rattle.lines_locate.specs.declared.Bin.{Bin}
 use Rattle.lines_locate.specs.declared.Grid.{Grid}
 
+-- where `a` lies between `low` and `high`, counted in n bins
+abbrev pub placeAlong : Float → Float → ℕ → Float → Float
+placeAlong low high n a = clamp ((a ⊖ low) ⊘ (high ⊖ low)) ⊗ ofℕ n
+
 -- the bin of `a` between `low` and `high`, of n: "`bin_for` ends in modulo, so coordinate 1.0 gives bin 0"
 unfoldable pub binAlong : Float → Float → ℕ → Float → ℕ
-binAlong low high n a = floorℕ (clamp ((a ⊖ low) ⊘ (high ⊖ low)) ⊗ ofℕ n) % n
+binAlong low high n a = floorℕ (placeAlong low high n a) % n
 
 -- `bin_for`
 unfoldable pub binFor : Grid → Vec2 → Bin

@@ -1,8 +1,10 @@
 -- What `locate_cell` and its parts need of the work area.
 use Prim.Native.Nat.{ℕ, _+_, _<_, _≤_}
 use mathlib.Core.Path.{_≡_}
+use mathlib.Core.Bool.{true}
 use mathlib.Core.List.{List}
 use lib.Ieee.{Float}
+use Rattle.arith.specs.F64.{_≺_, finite}
 use Rattle.arith.specs.Limits.{mostBins}
 use Rattle.mesh_area.specs.declared.Sizes.{Sizes}
 use Rattle.mesh_area.specs.Layout.{wordsEnd}
@@ -10,21 +12,35 @@ use Rattle.lines_bins.specs.Index.{flagIn}
 use Rattle.lines_bins.specs.Contracts.{BinIndex}
 use Rattle.lines_polygon.specs.Extent.{Outside, limitsFrom}
 use Rattle.lines_locate.specs.declared.Grid.{Grid}
+use Rattle.lines_locate.specs.Ranges.{Ranged}
 use Rattle.lines_locate.specs.Layout.{floatsAt, polygonIn}
 
 -- no polygon contains a point outside of the limits that stand with it
 pub record HasLimits (s : Sizes) (words : List ℕ) (floats : List Float) : Type 0 where
   pub each : (i : ℕ) → i < s .cells → Outside (polygonIn s words floats i) (limitsFrom floats (floatsAt s i + 48))
 
--- what `bin_for` needs of a grid
+-- bounds that are not flat, as refusal 18 leaves them
+pub record Spread (g : Grid) : Type 0 where
+  pub left : finite (g .bounds .left) ≡ true
+  pub bottom : finite (g .bounds .bottom) ≡ true
+  pub wide : (g .bounds .left ≺ g .bounds .right) ≡ true
+  pub high : (g .bounds .bottom ≺ g .bounds .top) ≡ true
+
+-- what `bin_for` and `index_bin` need of a grid
 pub record HasBins (g : Grid) : Type 0 where
   pub wide : 0 < g .bins .x
   pub high : 0 < g .bins .y
   pub few-wide : g .bins .x ≤ mostBins
   pub few-high : g .bins .y ≤ mostBins
+  pub spread : Spread g
 
--- a grid with bins; the index, where it stands, lists the cells of each bin; the polygons have limits
+-- each cell's range in the index is that of the limits that stand with it
+pub record HasRanges (g : Grid) (s : Sizes) (words : List ℕ) (floats : List Float) : Type 0 where
+  pub each : (i : ℕ) → i < s .cells → Ranged g (limitsFrom floats (floatsAt s i + 48)) words (wordsEnd s) i
+
+-- a grid with bins; the polygons have limits, and the cells their ranges; the index, where it stands, lists each cell in the bins of its range
 pub record LocateCellEntry (g : Grid) (s : Sizes) (words : List ℕ) (floats : List Float) : Type 0 where
   pub binned : HasBins g
-  pub index : 0 < s .cells → flagIn words (wordsEnd s) (s .cells) ≡ 1 → BinIndex words (wordsEnd s) (s .cells) (g .bins .x) (g .bins .y)
+  pub index : 0 < s .cells → flagIn words (wordsEnd s) (s .cells) ≡ 1 → BinIndex words (wordsEnd s) (s .cells) (g .bins .x + 1) (g .bins .y + 1)
   pub limits : HasLimits s words floats
+  pub ranges : HasRanges g s words floats

@@ -1,4 +1,5 @@
 pub mod Bins
+pub mod Ranges
 pub mod Locate
 pub mod Field
 pub mod Layout

@@ -1,4 +1,5 @@
--- `locate_cell`: "the lowest listed cell that contains the point, tolerance included"
+-- `locate_cell`: the cell of a point, by the bins or by all cells.
+use Prim.Native.Nat.{_≤_}
 use mathlib.Core.Bool.{Bool, true, false, _&&_}
 use mathlib.Core.List.{List}
 use Rattle.arith.specs.F64.{finite}
@@ -7,26 +8,39 @@ use Rattle.arith.specs.Vec.{pair}
 use Rattle.arith.specs.declared.Vec2.{Vec2}
 use Rattle.arith.specs.declared.Vec3.{Vec3}
 use Rattle.arith.specs.declared.Found.{Found}
-use Rattle.arith.specs.declared.Found.the-variants.{Nothing}
+use Rattle.arith.specs.declared.Found.the-variants.{At, Nothing}
 use Rattle.lines_polygon.specs.Contains.{contains}
 use Rattle.lines_locate.specs.declared.Bin.{Bin}
 use Rattle.lines_locate.specs.declared.Grid.{Grid}
+use Rattle.lines_locate.specs.declared.Search.{Search}
+use Rattle.lines_locate.specs.declared.Search.the-variants.{Bins, All}
 use Rattle.lines_locate.specs.Bins.{CellPolygon, binFor, isListed}
 
 -- a point without its height
 unfoldable pub xyOf : Vec3 → Vec2
 xyOf p = pair (p .x) (p .y)
 
--- listed in the point's bin, and containing it
-unfoldable pub holds : Bin → Vec2 → CellPolygon → Bool
-holds b q c = isListed b c && contains q (c .polygon)
+-- the cells that are looked at: those listed in the point's bin, or all: "bins unused"
+unfoldable pub isSearched : Search → Bin → CellPolygon → Bool
+isSearched Bins b c = isListed b c
+isSearched All b c = true
+
+-- looked at, and containing the point
+unfoldable pub holds : Search → Bin → Vec2 → CellPolygon → Bool
+holds search b q c = isSearched search b c && contains q (c .polygon)
 
 -- the lowest such cell, where the test holds
-unfoldable pub locateWhere : Bool → Grid → List CellPolygon → Vec2 → Found
-locateWhere false g cells q = Nothing
-locateWhere true g cells q = firstFrom (holds (binFor g q) q) 0 cells
+unfoldable pub locateWhere : Bool → Search → Grid → List CellPolygon → Vec2 → Found
+locateWhere false search g cells q = Nothing
+locateWhere true search g cells q = firstFrom (holds search (binFor g q) q) 0 cells
 
--- "the lowest listed cell that contains the point, tolerance included; a point whose x or y is not
--- finite locates nowhere"
-unfoldable pub locate : Grid → List CellPolygon → Vec3 → Found
-locate g cells p = locateWhere (finite (p .x) && finite (p .y)) g cells (xyOf p)
+-- by the bins "the lowest listed cell that contains the point, tolerance included", by all cells "the lowest cell whose polygon contains the point";
+-- "a point whose x or y is not finite locates nowhere"
+unfoldable pub locate : Search → Grid → List CellPolygon → Vec3 → Found
+locate search g cells p = locateWhere (finite (p .x) && finite (p .y)) search g cells (xyOf p)
+
+-- the first finds a cell where the second does, and none above it
+unfoldable pub AtOrBelow : Found → Found → Type 0
+AtOrBelow r Nothing = Unit
+AtOrBelow Nothing (At i) = ⊥
+AtOrBelow (At k) (At i) = k ≤ i

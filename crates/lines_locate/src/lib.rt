@@ -1,5 +1,5 @@
-// The bins of a grid, and the lowest listed cell that contains a point: `locate_cell`. The polygons
-// stand in the lent work area.
+// The bins of a grid, and the lowest cell that contains a point, of those listed in its bin or of all:
+// `locate_cell`. The polygons stand in the lent work area.
 use arith::Found;
 use arith::Vec2;
 use arith::Vec3;
@@ -8,19 +8,23 @@ use arith::number::wide;
 use lines_polygon::extent;
 use mesh_area::Sizes;
 ghost use mathlib.Core.Path.{_≡_};
-ghost use Prim.Native.Nat.{_+_, _*_, _<_, _≤_};
+ghost use Prim.Native.Nat.{_+_, _*_, _%_, _<_, _≤_};
 ghost use lib.ListN.{length};
 ghost use mathlib.Core.List.{List};
 ghost use lib.Ieee.{Float};
 ghost use Rattle.arith.specs.Limits.{mostCells, mostWords, mostBins};
+ghost use Rattle.arith.specs.F64.{finite, ofℕ, floorℕ};
 ghost use Rattle.arith.specs.Lists.{firstFrom};
-ghost use mathlib.Core.Bool.{true};
+ghost use mathlib.Core.Bool.{true, not};
 ghost use Rattle.mesh_area.specs.Layout.{wordsEnd, LentWords, LentFloats};
 ghost use Rattle.lines_bins.specs.Index as Index;
-ghost use Rattle.lines_bins.specs.Index.{flagIn};
+ghost use Rattle.lines_bins.specs.Index.{flagIn, headIn};
 ghost use Rattle.lines_bins.specs.Contracts.{BinIndex};
 ghost use Rattle.lines_polygon.specs.Contains.{contains};
+ghost use Rattle.lines_polygon.specs.Extent.{limitsFrom, misses};
 ghost use Rattle.lines_locate.specs.Bins as Bins;
+ghost use Rattle.lines_locate.specs.Ranges as Ranges;
+ghost use Rattle.lines_locate.specs.declared.Search.the-variants as Variants;
 ghost use Rattle.lines_locate.specs.Contracts.{HasBins};
 ghost use Rattle.lines_locate.specs.Locate as Locate;
 ghost use Rattle.lines_locate.specs.Layout as Layout;
@@ -46,25 +50,98 @@ pub struct Grid {
     pub bins: Bin,
 }
 
-// The bin of `a` between `low` and `high`, of n.
-fn bin_along(low: f64, high: f64, n: usize, a: f64) -> usize
-    requires { ⌜ (0 < n) × (n ≤ mostBins) ⌝ }
-    ensures { λ r. ⌜ (r ≡ Bins.binAlong low high n a) × (r < n) ⌝ }
+// Which cells a point is looked for in: those that are listed in its bin, or all.
+pub enum Search {
+    Bins,
+    All,
+}
+
+// A number of bins as a float; from i64 that is one machine instruction.
+fn as_float(n: usize) -> f64
+    requires { ⌜ n ≤ mostBins ⌝ }
+    ensures { λ r. ⌜ r ≡ ofℕ n ⌝ }
 {
-    let normalized = float::clamp((a - low) / (high - low));
-    let k = float::floor_usize(normalized * (n as f64));
+    n as i64 as f64
+}
+
+// Where `a` lies between `low` and `high`, counted in n bins.
+fn place_along(low: f64, high: f64, n: usize, a: f64) -> f64
+    requires { ⌜ n ≤ mostBins ⌝ }
+    ensures { λ r. ⌜ r ≡ Bins.placeAlong low high n a ⌝ }
+{
+    float::clamp((a - low) / (high - low)) * as_float(n)
+}
+
+// The bin of a place whose whole part is k.
+fn bin_at_place(n: usize, k: usize) -> usize
+    requires { ⌜ 0 < n ⌝ }
+    ensures { λ r. ⌜ (r ≡ k % n) × (r < n) ⌝ }
+{
     if k < n { k } else { k % n }
+}
+
+// The index's bin of a place whose whole part is k.
+fn index_at(n: usize, w: f64, k: usize) -> usize
+    requires { ⌜ (n ≤ mostBins) × (k ≡ floorℕ w) ⌝ }
+    ensures { λ r. ⌜ (r ≡ Ranges.indexAt n w) × (r ≤ n) ⌝ }
+{
+    if k < n {
+        if as_float(k) + 0.5 <= w { k + 1 } else { k }
+    } else {
+        n
+    }
 }
 
 // The bin of a point.
 pub fn bin_for(g: Grid, p: Vec2) -> Bin
     requires { ⌜ HasBins g ⌝ }
-    ensures { λ r. ⌜ (r ≡ Bins.binFor g p) × (r .x < mostBins) × (r .y < mostBins) × (r .x < g .bins .x)
-        × (r .y < g .bins .y) ⌝ }
+    ensures { λ r. ⌜ (r ≡ Bins.binFor g p) × (r .x < mostBins) × (r .y < mostBins) ⌝ }
 {
+    let x = place_along(g.bounds.left, g.bounds.right, g.bins.x, p.x);
+    let y = place_along(g.bounds.bottom, g.bounds.top, g.bins.y, p.y);
     Bin {
-        x: bin_along(g.bounds.left, g.bounds.right, g.bins.x, p.x),
-        y: bin_along(g.bounds.bottom, g.bounds.top, g.bins.y, p.y),
+        x: bin_at_place(g.bins.x, float::floor_usize(x)),
+        y: bin_at_place(g.bins.y, float::floor_usize(y)),
+    }
+}
+
+// The index's bin of a point.
+pub fn index_bin(g: Grid, p: Vec2) -> Bin
+    requires { ⌜ HasBins g ⌝ }
+    ensures { λ r. ⌜ (r ≡ Ranges.indexBin g p) × (r .x ≤ mostBins) × (r .y ≤ mostBins) ⌝ }
+{
+    let x = place_along(g.bounds.left, g.bounds.right, g.bins.x, p.x);
+    let y = place_along(g.bounds.bottom, g.bounds.top, g.bins.y, p.y);
+    Bin {
+        x: index_at(g.bins.x, x, float::floor_usize(x)),
+        y: index_at(g.bins.y, y, float::floor_usize(y)),
+    }
+}
+
+// The bin of a point, and that of the index.
+struct Places {
+    bin: Bin,
+    index: Bin,
+}
+
+// Both bins of a point.
+fn places_of(g: Grid, p: Vec2) -> Places
+    requires { ⌜ HasBins g ⌝ }
+    ensures { λ r. ⌜ (r .bin ≡ Bins.binFor g p) × (r .index ≡ Ranges.indexBin g p) ⌝ }
+{
+    let x = place_along(g.bounds.left, g.bounds.right, g.bins.x, p.x);
+    let y = place_along(g.bounds.bottom, g.bounds.top, g.bins.y, p.y);
+    let column = float::floor_usize(x);
+    let row = float::floor_usize(y);
+    Places {
+        bin: Bin {
+            x: bin_at_place(g.bins.x, column),
+            y: bin_at_place(g.bins.y, row),
+        },
+        index: Bin {
+            x: index_at(g.bins.x, x, column),
+            y: index_at(g.bins.y, y, row),
+        },
     }
 }
 
@@ -93,14 +170,15 @@ pub fn count_in(words: &[u32], s: Sizes, i: usize) -> usize
     if n < 24 { n } else { 24 }
 }
 
-// The bin whose two words start at `at`.
+// The bin whose word stands at `at`.
 fn bin_at(words: &[u32], at: usize) -> Bin
-    requires { ⌜ at + 2 ≤ length (now words) ⌝ }
+    requires { ⌜ at < length (now words) ⌝ }
     ensures { λ r. ⌜ r ≡ Layout.binFrom (now (words .entry)) at ⌝ }
 {
+    let word = wide(words[at]);
     Bin {
-        x: wide(words[at]),
-        y: wide(words[at + 1]),
+        x: word % 65536,
+        y: word / 65536,
     }
 }
 
@@ -118,8 +196,8 @@ fn is_listed(words: &[u32], s: Sizes, i: usize, b: Bin) -> bool
         (Layout.cellPolygonIn s (now (words .entry)) floats i)) ⌝ }
 {
     let at = words_at(s, i);
-    let first = bin_at(words, at);
-    let last = bin_at(words, at + 2);
+    let first = bin_at(words, at + 5);
+    let last = bin_at(words, at + 6);
     if reaches(first.x, last.x, b.x) {
         reaches(first.y, last.y, b.y)
     } else {
@@ -127,74 +205,107 @@ fn is_listed(words: &[u32], s: Sizes, i: usize, b: Bin) -> bool
     }
 }
 
-// Cell i contains q.
-fn has_point(words: &[u32], floats: &[f64], s: Sizes, q: Vec2, i: usize) -> bool
-    requires { ⌜ LentWords s (now words) × LentFloats s (now floats) × Contracts.HasLimits s (now words) (now floats)
-        × (i < s .cells) ⌝ }
-    ensures { λ r. ⌜ r ≡ contains q (Layout.polygonIn s (now (words .entry)) (now (floats .entry)) i) ⌝ }
+// q lies within the limits of cell i.
+fn may_contain(floats: &[f64], s: Sizes, q: Vec2, i: usize) -> bool
+    requires { ⌜ LentFloats s (now floats) × (i < s .cells) ⌝ }
+    ensures { λ r. ⌜ r ≡ not (misses (limitsFrom (now (floats .entry)) (Layout.floatsAt s i + 48)) q) ⌝ }
 {
-    let at = floats_at(s, i);
-    let limits = extent::limits_at(floats, at + 48);
+    let limits = extent::limits_at(floats, floats_at(s, i) + 48);
     if extent::misses(limits, q) {
-        return false;
+        false
+    } else {
+        true
     }
-    let n = count_in(words, s, i);
-    lines_polygon::point_in_polygon(q, floats, at, n)
 }
 
-// Cell i is listed in bin b, and contains q.
-fn holds(words: &[u32], floats: &[f64], s: Sizes, b: Bin, q: Vec2, i: usize) -> bool
-    requires { ⌜ LentWords s (now words) × LentFloats s (now floats) × Contracts.HasLimits s (now words) (now floats)
-        × (i < s .cells) ⌝ }
-    ensures { λ r. ⌜ r ≡ Locate.holds b q (Layout.cellPolygonIn s (now (words .entry)) (now (floats .entry)) i) ⌝ }
+// Cell i contains q.
+fn has_point(words: &[u32], floats: &[f64], s: Sizes, q: Vec2, i: usize) -> bool
+    requires { ⌜ LentWords s (now words) × LentFloats s (now floats) × (i < s .cells) ⌝ }
+    ensures { λ r. ⌜ r ≡ contains q (Layout.polygonIn s (now (words .entry)) (now (floats .entry)) i) ⌝ }
 {
-    if is_listed(words, s, i, b) {
+    let n = count_in(words, s, i);
+    lines_polygon::point_in_polygon(q, floats, floats_at(s, i), n)
+}
+
+// Cell i is looked at for a point of bin b.
+fn is_searched(words: &[u32], s: Sizes, search: Search, b: Bin, i: usize) -> bool
+    requires { ⌜ LentWords s (now words) × (i < s .cells) ⌝ }
+    ensures { λ r. ⌜ ((floats : List Float) → r ≡ Locate.isSearched search b
+        (Layout.cellPolygonIn s (now (words .entry)) floats i)) ⌝ }
+{
+    match search {
+        Search::Bins => is_listed(words, s, i, b),
+        Search::All => true,
+    }
+}
+
+// Cell i is looked at for a point q of bin b, and contains it.
+fn holds(words: &[u32], floats: &[f64], s: Sizes, search: Search, b: Bin, q: Vec2, i: usize) -> bool
+    requires { ⌜ LentWords s (now words) × LentFloats s (now floats) × (i < s .cells) ⌝ }
+    ensures { λ r. ⌜ r ≡ Locate.holds search b q
+        (Layout.cellPolygonIn s (now (words .entry)) (now (floats .entry)) i) ⌝ }
+{
+    if is_searched(words, s, search, b, i) {
         has_point(words, floats, s, q, i)
     } else {
         false
     }
 }
 
-// The lowest cell that is listed in bin b and contains q: over all cells.
-fn first_holding(words: &[u32], floats: &[f64], s: Sizes, b: Bin, q: Vec2) -> Found
+// The lowest cell that holds q, over all cells.
+fn first_holding(words: &[u32], floats: &[f64], s: Sizes, search: Search, b: Bin, q: Vec2) -> Found
     requires { ⌜ LentWords s (now words) × LentFloats s (now floats)
         × Contracts.HasLimits s (now words) (now floats) ⌝ }
-    ensures { λ r. ⌜ r ≡ firstFrom (Locate.holds b q) 0
+    ensures { λ r. ⌜ r ≡ firstFrom (Locate.holds search b q) 0
         (Layout.cellPolygonsIn s (now (words .entry)) (now (floats .entry))) ⌝ }
 {
     let mut i = 0;
     while i < s.cells {
-        if holds(words, floats, s, b, q, i) {
-            return Found::At(i);
+        if may_contain(floats, s, q, i) {
+            if holds(words, floats, s, search, b, q, i) {
+                return Found::At(i);
+            }
         }
         i += 1;
     }
     Found::Nothing
 }
 
-// The same of bin x, y of nx times ny, along its chain.
-fn first_listed(
+// The first node of bin c of the index.
+fn head(words: &[u32], s: Sizes, g: Grid, c: Bin) -> usize
+    requires { ⌜ LentWords s (now words) × HasBins g × (c .x < g .bins .x + 1) × (c .y < g .bins .y + 1) ⌝ }
+    requires { ⌜ BinIndex (now words) (wordsEnd s) (s .cells) (g .bins .x + 1) (g .bins .y + 1) ⌝ }
+    ensures { λ r. ⌜ r ≡ headIn (now (words .entry)) (wordsEnd s) (s .cells) (g .bins .x + 1) (c .x) (c .y) ⌝ }
+{
+    let bin = lines_bins::bin_of(g.bins.x + 1, g.bins.y + 1, c.x, c.y);
+    lines_bins::pool(words, 16 * s.slots + 8 * s.cells, s.cells, bin)
+}
+
+// The lowest cell that holds q, along the chain of the index's bin of q.
+fn first_indexed(
     words: &[u32],
     floats: &[f64],
     s: Sizes,
-    nx: usize,
-    ny: usize,
-    x: usize,
-    y: usize,
+    g: Grid,
+    search: Search,
+    at: Places,
     q: Vec2,
 ) -> Found
-    requires { ⌜ LentWords s (now words) × LentFloats s (now floats) × Contracts.HasLimits s (now words) (now floats)
-        × (x < nx) × (y < ny) ⌝ }
-    requires { ⌜ BinIndex (now words) (wordsEnd s) (s .cells) nx ny ⌝ }
-    ensures { λ r. ⌜ r ≡ firstFrom (Locate.holds (record { x = x; y = y }) q) 0
+    requires { ⌜ LentWords s (now words) × LentFloats s (now floats)
+        × Contracts.LocateCellEntry g s (now words) (now floats) × (finite (q .x) ≡ true) × (finite (q .y) ≡ true) ⌝ }
+    requires { ⌜ BinIndex (now words) (wordsEnd s) (s .cells) (g .bins .x + 1) (g .bins .y + 1)
+        × (at .index ≡ Ranges.indexBin g q) ⌝ }
+    ensures { λ r. ⌜ r ≡ firstFrom (Locate.holds search (at .bin) q) 0
         (Layout.cellPolygonsIn s (now (words .entry)) (now (floats .entry))) ⌝ }
 {
     let base = 16 * s.slots + 8 * s.cells;
-    let mut h = lines_bins::pool(words, base, s.cells, lines_bins::bin_of(nx, ny, x, y));
+    let mut h = head(words, s, g, at.index);
     while h != 0 {
         let i = lines_bins::pool(words, base, s.cells, h);
-        if has_point(words, floats, s, q, i) {
-            return Found::At(i);
+        if may_contain(floats, s, q, i) {
+            if holds(words, floats, s, search, at.bin, q, i) {
+                return Found::At(i);
+            }
         }
         h = lines_bins::pool(words, base, s.cells, h + 1);
     }
@@ -213,31 +324,42 @@ fn is_indexed(words: &[u32], s: Sizes) -> bool
     }
 }
 
-// The lowest cell that is listed in q's bin and contains q.
-fn first_at(words: &[u32], floats: &[f64], s: Sizes, g: Grid, q: Vec2) -> Found
+// The lowest cell that holds q.
+fn first_at(words: &[u32], floats: &[f64], s: Sizes, g: Grid, search: Search, q: Vec2) -> Found
     requires { ⌜ LentWords s (now words) × LentFloats s (now floats)
-        × Contracts.LocateCellEntry g s (now words) (now floats) ⌝ }
-    ensures { λ r. ⌜ r ≡ firstFrom (Locate.holds (Bins.binFor g q) q) 0
+        × Contracts.LocateCellEntry g s (now words) (now floats) × (finite (q .x) ≡ true) × (finite (q .y) ≡ true) ⌝ }
+    ensures { λ r. ⌜ r ≡ firstFrom (Locate.holds search (Bins.binFor g q) q) 0
         (Layout.cellPolygonsIn s (now (words .entry)) (now (floats .entry))) ⌝ }
 {
-    let b = bin_for(g, q);
+    let at = places_of(g, q);
     if is_indexed(words, s) {
-        first_listed(words, floats, s, g.bins.x, g.bins.y, b.x, b.y, q)
+        first_indexed(words, floats, s, g, search, at, q)
     } else {
-        first_holding(words, floats, s, b, q)
+        first_holding(words, floats, s, search, at.bin, q)
     }
 }
 
-// The lowest listed cell that contains p; nowhere for an x or y that is not finite.
-pub fn locate_cell(words: &[u32], floats: &[f64], s: Sizes, g: Grid, p: Vec3) -> Found
+// The lowest cell that contains p, of those listed in its bin or of all; nowhere for an x or y that is
+// not finite. Wherever the bins find a cell, all cells give that one or a lower one.
+pub fn locate_cell(
+    words: &[u32],
+    floats: &[f64],
+    s: Sizes,
+    g: Grid,
+    search: Search,
+    p: Vec3,
+) -> Found
     requires { ⌜ LentWords s (now words) × LentFloats s (now floats)
         × Contracts.LocateCellEntry g s (now words) (now floats) ⌝ }
-    ensures { λ r. ⌜ r ≡ Locate.locate g (Layout.cellPolygonsIn s (now (words .entry)) (now (floats .entry))) p ⌝ }
+    ensures { λ r. ⌜ r ≡ Locate.locate search g
+        (Layout.cellPolygonsIn s (now (words .entry)) (now (floats .entry))) p ⌝ }
+    ensures { λ r. ⌜ Locate.AtOrBelow r (Locate.locate Variants.Bins g
+        (Layout.cellPolygonsIn s (now (words .entry)) (now (floats .entry))) p) ⌝ }
 {
     if float::is_finite(p.x) {
         if float::is_finite(p.y) {
             let q = Vec2 { x: p.x, y: p.y };
-            first_at(words, floats, s, g, q)
+            first_at(words, floats, s, g, search, q)
         } else {
             Found::Nothing
         }

@@ -8,11 +8,14 @@ use Rattle.lines_locate.proofs.is_listed.Tie as tie
 words-at-requires : tie.Need-words-at-requires
 words-at-requires c κs = search needs
 
+add-bin-at : tie.Need-add-bin-at
+add-bin-at c = search needs
+
 bin-at-requires : tie.Need-bin-at-requires
 bin-at-requires c κs = search needs
 
-add-bin-at : tie.Need-add-bin-at
-add-bin-at c = search needs
+add-bin-at-2 : tie.Need-add-bin-at-2
+add-bin-at-2 c = search needs
 
 bin-at-requires-2 : tie.Need-bin-at-requires-2
 bin-at-requires-2 c κs = search needs
@@ -36,8 +39,9 @@ is-listed-spec =
     tie.close
     (tie.spec
     words-at-requires
-    bin-at-requires
     add-bin-at
+    bin-at-requires
+    add-bin-at-2
     bin-at-requires-2
     reaches-requires
     reaches-requires-2

@@ -16,23 +16,34 @@ mul-build-2 c = search needs
 add-build : tie.Need-add-build
 add-build c = search needs
 
+add-build-2 : tie.Need-add-build-2
+add-build-2 c = search needs
+
+add-build-3 : tie.Need-add-build-3
+add-build-3 c = search needs
+
 build-requires : tie.Need-build-requires
 build-requires c κs =
-    let l = c .before .before .before .before .before .before .before .list-cells .ensures in
-    let p = c .before .before .before .before .before .before .before .before .before .before .before .pre in
-    (ranged _ _ _ _ _ (l .0) (p .2) (lent-words _ _ _ (p .0) (search needs)), (bins-count _ (p .2), search needs))
+    let l = c .before .before .before .before .before .before .before .before .before .list-cells .ensures in
+    let p = c .before .before .before .before .before .before .before .before .before .before .before .before .before .pre in
+    (ranged _ _ _ _ _ l (p .2) (lent-words _ _ _ (p .0) (search needs)), (bins-count _ (p .2), search needs))
 
 same-length : tie.Need-same-length
 same-length c = search needs
 
 returns : tie.Need-returns
-returns c = indexed-cells _ _ _ _ _ (c .before .before .before .before .before .before .before .before .before .before .list-cells .ensures .0) (c .before .before .before .before .before .before .before .before .before .before .before .before .before .before .pre .2) _ (c .before .before .before .before .before .before .before .before .before .before .list-cells .ensures .1) (c .before .before .build .ensures) (c .before .before .before .before .before .before .before .before .before .before .before .before .before .before .pre .3)
+returns c =
+    let l = c .before .before .before .before .before .before .before .before .before .before .before .before .list-cells .ensures in
+    let p = c .before .before .before .before .before .before .before .before .before .before .before .before .before .before .before .before .pre in
+    indexed-cells _ _ _ _ _ l (p .2) _ (c .before .before .build .ensures) (p .3)
 
 same-length-2 : tie.Need-same-length-2
 same-length-2 c = search needs
 
 returns-2 : tie.Need-returns-2
-returns-2 c = none-indexed _ _ _ _ _ (c .before .before .before .before .list-cells .ensures .0) (c .before .before .before .before .before .before .before .before .pre .2) (c .if1 .left) (c .before .before .before .before .list-cells .ensures .1) (c .before .before .before .before .before .before .before .before .pre .3)
+returns-2 c =
+    let p = c .before .before .before .before .before .before .before .before .pre in
+    none-indexed _ _ _ _ _ (c .before .before .before .before .list-cells .ensures) (p .2) (c .if1 .left) (p .3)
 
 pub index-cells-spec : {M : Type 1} → statement M
 index-cells-spec =
@@ -42,6 +53,8 @@ index-cells-spec =
     mul-build
     mul-build-2
     add-build
+    add-build-2
+    add-build-3
     build-requires
     same-length
     returns
