@@ -12,9 +12,9 @@ use Rattle.lines_polygon.specs.Vertices.{xyWithin}
 use Rattle.lines_polygon.specs.Contains.{contains}
 use Rattle.lines_polygon.proofs.LimitLaws.{both, all-first}
 use Rattle.lines_polygon.proofs.ReachLaws.{contained-near}
-use Rattle.lines_locate.specs.Bins.{binFor, isListed}
+use Rattle.lines_locate.specs.Bins.{binFor}
 use Rattle.lines_locate.specs.Field.{StreamlineField}
-use Rattle.lines_locate.specs.Locate.{xyOf, holds, locateWhere, locate}
+use Rattle.lines_locate.specs.Locate.{xyOf, isSearched, holds, locateWhere, locate}
 use Rattle.lines_velocity.specs.Velocity.{locateIn}
 use Rattle.lines_velocity.specs.Contracts.{verticesWithin}
 
@@ -37,13 +37,13 @@ pub located-near : (f : StreamlineField) (p : Vec3) (i : ℕ) → verticesWithin
 unfolding verticesWithin locateIn locate xyOf
 located-near f p i w e = by (finite (p .x) && finite (p .y)) refl e
   where
-    by : (t : Bool) → (finite (p .x) && finite (p .y)) ≡ t → locateWhere t (f .grid) (f .polygons) (xyOf p) ≡ At i
+    by : (t : Bool) → (finite (p .x) && finite (p .y)) ≡ t → locateWhere t (f .search) (f .grid) (f .polygons) (xyOf p) ≡ At i
         → ((abs (p .x) ≺ float 0x4340000000000000) ≡ true) × ((abs (p .y) ≺ float 0x4340000000000000) ≡ true)
     by false h k = absurd (nothing-found {i = i} (unfold locateWhere in k))
     by true h k =
         let fine = both (finite (p .x)) (finite (p .y)) h in
-        found (holds (binFor (f .grid) (xyOf p)) (xyOf p)) (λ c. allOf xyWithin (c .polygon)) _
+        found (holds (f .search) (binFor (f .grid) (xyOf p)) (xyOf p)) (λ c. allOf xyWithin (c .polygon)) _
         (λ c g v.
         contained-near (xyOf p) (c .polygon) v (fine .0) (fine .1)
-        (both (isListed (binFor (f .grid) (xyOf p)) c) (contains (xyOf p) (c .polygon)) (unfold holds in g) .1))
+        (both (isSearched (f .search) (binFor (f .grid) (xyOf p)) c) (contains (xyOf p) (c .polygon)) (unfold holds in g) .1))
         (f .polygons) 0 i w (unfold locateWhere in k)

@@ -9,14 +9,19 @@ use Rattle.case_file.specs.declared.Opened.the-variants.{Case}
 use Rattle.case_file.specs.Trailer.{opened}
 use Rattle.mesh_area.specs.Layout.{LentWords, LentFloats}
 use Rattle.lines_polygon.specs.Vertices.{xyWithin}
-use Rattle.lines_locate.specs.Field.{StreamlineField}
+use Rattle.lines_locate.specs.declared.Search.{Search}
+use Rattle.lines_locate.specs.Field.{StreamlineField, searching}
 use Rattle.lines_locate.specs.Layout.{fieldIn}
 use Rattle.lines_locate.specs.Contracts.{LocateCellEntry}
 use Rattle.lines_velocity.specs.declared.Tracer.{Tracer}
 
 -- the field that the area holds under a tracer
 unfoldable pub tracerField : Tracer → List ℕ → List Float → StreamlineField
-tracerField t words floats = fieldIn (t .grid) (t .sizes) words floats
+tracerField t words floats = searching (t .search) (fieldIn (t .grid) (t .sizes) words floats)
+
+-- the same tracer under another search
+unfoldable pub tracerSearching : Search → Tracer → Tracer
+tracerSearching search t = record { counts = t .counts; sizes = t .sizes; grid = t .grid; search = search }
 
 -- every vertex of every polygon lies within 1,048,576 each way, as refusal 10 leaves it
 unfoldable pub verticesWithin : StreamlineField → Bool

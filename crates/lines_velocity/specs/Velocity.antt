@@ -25,7 +25,7 @@ use Rattle.lines_velocity.specs.declared.Vector.the-variants.{Here, Nowh
 
 -- `locate_cell`
 unfoldable pub locateIn : StreamlineField → Vec3 → Found
-locateIn f p = locate (f .grid) (f .polygons) p
+locateIn f p = locate (f .search) (f .grid) (f .polygons) p
 
 -- the centre of a cell
 unfoldable pub centreOf : List Cell → ℕ → Vec3

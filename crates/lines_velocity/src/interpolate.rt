@@ -160,7 +160,8 @@ pub fn locate(words: &[u32], floats: &[f64], t: Tracer, p: Vec3) -> Found
     requires { ⌜ LocateEntry (now words) (now floats) t ⌝ }
     ensures { λ r. ⌜ r ≡ Velocity.locateIn (tracerField t (now (words .entry)) (now (floats .entry))) p ⌝ }
 {
-    lines_locate::locate_cell(words, floats, t.sizes, t.grid, p)
+    let search = t.search;
+    lines_locate::locate_cell(words, floats, t.sizes, t.grid, search, p)
 }
 
 // The velocity at p; nowhere where p locates nowhere.

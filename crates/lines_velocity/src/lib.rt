@@ -4,13 +4,18 @@ pub mod interpolate;
 use arith::Vec3;
 use case_file::Counts;
 use lines_locate::Grid;
+use lines_locate::Search;
 use mesh_area::Sizes;
+ghost use mathlib.Core.Path.{_≡_};
+ghost use Rattle.lines_velocity.specs.Contracts.{tracerSearching};
 
-// What a 2D case is traced with: its counts, the sizes of its work area, and the grid of its bins.
+// What a 2D case is traced with: its counts, the sizes of its work area, the grid of its bins, and
+// which cells a point is looked for in.
 pub struct Tracer {
     pub counts: Counts,
     pub sizes: Sizes,
     pub grid: Grid,
+    pub search: Search,
 }
 
 // A velocity, a direction or a point; or that there is none.
@@ -23,4 +28,19 @@ pub enum Vector {
 struct Near {
     cell: usize,
     distance_squared: f64,
+}
+
+// The same tracer under another search.
+pub fn searching(t: Tracer, search: Search) -> Tracer
+    ensures { λ r. ⌜ r ≡ tracerSearching search t ⌝ }
+{
+    let counts = t.counts;
+    let sizes = t.sizes;
+    let grid = t.grid;
+    Tracer {
+        counts,
+        sizes,
+        grid,
+        search,
+    }
 }

@@ -1,3 +1,4 @@
+use Rattle.lines_locate.specs.Field.{searching}
 use Rattle.lines_locate.specs.Layout.{fieldIn}
 use Rattle.lines_velocity.specs.Velocity.{locateIn}
 use Rattle.lines_velocity.specs.Contracts.{tracerField}
@@ -9,8 +10,8 @@ locate-cell-requires : tie.Need-locate-cell-requires
 locate-cell-requires c κs = search needs
 
 returns : tie.Need-returns
-unfolding locateIn tracerField fieldIn
-returns c = c .locate-cell .ensures
+unfolding locateIn tracerField searching fieldIn
+returns c = c .locate-cell .ensures .0
 
 pub locate-spec : {M : Type 1} → statement M
 locate-spec = tie.close (tie.spec locate-cell-requires returns)
