@@ -29,11 +29,12 @@ use Rattle.mesh_coordinates.specs.Coordinates.{acceptedAs}
 use Rattle.mesh.specs.declared.Built.{Built}
 use Rattle.mesh.specs.declared.Built.the-variants as Built
 use Rattle.mesh.proofs.Laws.{Surveys, survey-right, area-long, building-refused, building-mesh}
+use Rattle.lines_locate.specs.declared.Search.the-variants.{Bins}
 use Rattle.lines_locate.specs.declared.Grid.{Grid}
 use Rattle.lines_field.specs.declared.Built as polygons
 use Rattle.lines_field.specs.declared.Built.the-variants as Traced
 use Rattle.lines_field.specs.Field.{polygonsOf, gridOf, fieldOf, builtGrid}
-use Rattle.lines_locate.specs.Field.{StreamlineField}
+use Rattle.lines_locate.specs.Field.{StreamlineField, searching}
 use Rattle.lines_locate.specs.Layout.{fieldIn}
 use Rattle.lines_velocity.specs.Contracts.{tracerField, verticesWithin}
 use Rattle.lines_field.specs.Contracts.{FromDatasetExit}
@@ -143,11 +144,11 @@ module _ (case : List ℕ) (n : Counts) (s : Sizes) (w : List ℕ) (f : List Flo
       add-field-refused k e =
           let g : roomFrom (n .dimension) m ≡ refused k = room-from-flat ∙ rw (field-refused k e, _>>=_) in barred g
 
-      pub add-field-flat : (g : Grid) → r ≡ Traced.Made g → length w′ ≡ length w → length f′ ≡ length f → PrepareExit (roomFrom (n .dimension) m) case w′ f′ (Prepared.Ready (Flat (record { counts = n; sizes = s; grid = g })))
-      unfolding _>>=_ roomIn Servable countsIn tracerField
+      pub add-field-flat : (g : Grid) → r ≡ Traced.Made g → length w′ ≡ length w → length f′ ≡ length f → PrepareExit (roomFrom (n .dimension) m) case w′ f′ (Prepared.Ready (Flat (record { counts = n; sizes = s; grid = g; search = Bins })))
+      unfolding _>>=_ roomIn Servable countsIn tracerField searching fieldIn
       add-field-flat g e lw lf =
           let whole : roomFrom (n .dimension) m ≡ fine (flat (fieldIn g s w′ f′)) = room-from-flat ∙ rw (t .field g e, _>>=_) in
-          standing {p = Flat (record { counts = n; sizes = s; grid = g })} whole
+          standing {p = Flat (record { counts = n; sizes = s; grid = g; search = Bins })} whole
           (record {
             opens = d .opens;
             servable =

@@ -23,6 +23,7 @@ use Rattle.mesh_area.specs.Tables.{Mesh, Cell, pointAt, faceAt}
 use Rattle.mesh_area.specs.Layout.{pointsIn}
 use Rattle.lines_polygon.specs.Vertices.{xyWithin}
 use Rattle.lines_polygon.proofs.LimitLaws.{both, all-first}
+use Rattle.lines_locate.specs.declared.Search.the-variants.{Bins}
 use Rattle.lines_locate.specs.declared.Grid.{Grid}
 use Rattle.lines_locate.specs.Bins.{CellPolygon}
 use Rattle.lines_locate.specs.Locate.{xyOf}
@@ -108,6 +109,6 @@ module _ (m : Mesh) (w : (k : ℕ) → xyWithin (xyOf (pointAt (m .points) k)) �
   unfolding fieldOf verticesWithin polygonsOf
   field-within f e =
       let b = bound _ _ _ e in
-      let s : record { polygons = map (listedIn (b .value)) (map (polygonOf m) (m .cells)); cells = m .cells; grid = b .value } ≡ f = fine-same (b .then) in
+      let s : record { polygons = map (listedIn (b .value)) (map (polygonOf m) (m .cells)); cells = m .cells; grid = b .value; search = Bins } ≡ f = fine-same (b .then) in
       subst (λ (f : StreamlineField). allOf (λ (c : CellPolygon). allOf xyWithin (c .polygon)) (f .polygons) ≡ true) s
       (each-all (λ (c : CellPolygon). allOf xyWithin (c .polygon)) (map (listedIn (b .value)) (map (polygonOf m) (m .cells))) (listed-within (b .value) (m .cells)))

@@ -1,6 +1,7 @@
 // The room of a case: its mesh in the work area and, in 2D, its field. Refusals 1 to 19.
 use case_file::Counts;
 use lines_build::build;
+use lines_locate::Search;
 use lines_velocity::Tracer;
 use mesh::Surveyed;
 use mesh_area::Sizes;
@@ -47,6 +48,7 @@ fn add_field(case: &[u8], n: Counts, s: Sizes, words: &mut [u32], floats: &mut [
                 counts: n,
                 sizes: s,
                 grid: g,
+                search: Search::Bins,
             };
             Prepared::Ready(Place::Flat(t))
         }
