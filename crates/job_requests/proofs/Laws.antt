@@ -1,5 +1,5 @@
 -- The words of a request, one turn over its unused words, and what the refusals leave. Assumes nothing.
-use Prim.Native.Nat.{ℕ, _+_, _*_, _/_, _≤_, _<_}
+use Prim.Native.Nat.{ℕ, _+_, _-_, _*_, _/_, _≤_, _<_}
 use native.Mathlib.Nat.{zero-add}
 use native.Mathlib.Omega.{arith}
 use mathlib.Core.Path.{_≡_, refl, ap, sym, _∙_}
@@ -13,6 +13,7 @@ use Rattle.arith.specs.Lists.{anyOf}
 use Rattle.arith.proofs.ListLaws.{any-here, any-next}
 use Rattle.arith.proofs.RecordLaws.{drop-end}
 use Rattle.case_file.proofs.ReadLaws.{length-readAll, getD-readAll}
+use Rattle.lines_locate.specs.declared.Search.{Search}
 use Rattle.lines_millimetres.specs.declared.Rounding.the-variants.{AwayFromZero}
 use Rattle.lines_words.specs.declared.Style.{Style}
 use Rattle.lines_words.specs.declared.Style.the-variants.{Points, Sheet}
@@ -20,7 +21,7 @@ use Rattle.planes_cut.specs.declared.Plane.{Plane}
 use Rattle.job_requests.specs.declared.Code.{Code}
 use Rattle.job_requests.specs.declared.Request.{Request}
 use Rattle.job_requests.specs.Codes.{codeOf}
-use Rattle.job_requests.specs.Requests.{wordsAt, requestsIn, number, refuseIf, illFormed, wrongDimension, settings, streamline, rakeOf, rake, planeOf, statistics, overPlane, planar, byCode, requestOf}
+use Rattle.job_requests.specs.Requests.{wordsAt, requestsIn, number, refuseIf, illFormed, wrongDimension, settings, streamline, rakeOf, rake, overField, plainCode, isPlanar, planeOf, statistics, overPlane, planar, byCode, requestOf}
 use Rattle.job_requests.specs.declared.Request.the-variants.{Refused}
 use Rattle.job_requests.specs.Bounds.{Allowed}
 
@@ -73,15 +74,21 @@ allowed-either true r q h k = h
 allowed-either false r q h k = k
 
 module _ (r : List ℕ) where
-  allowed-streamline : (k : ℕ) (style : Style) → Allowed (streamline r k style)
+  allowed-streamline : (k : ℕ) (style : Style) (search : Search) → Allowed (streamline r k style search)
   unfolding streamline Allowed
-  allowed-streamline k style = allowed-unless 33 _ _ (ltb-false 65536 (settings r k .options .«max_steps»))
+  allowed-streamline k style search = allowed-unless 33 _ _ (ltb-false 65536 (settings r k .options .«max_steps»))
 
-  allowed-rake : (k : ℕ) → Allowed (rake r k)
+  allowed-rake : (k : ℕ) (search : Search) → Allowed (rake r k search)
   unfolding rake rakeOf Allowed
-  allowed-rake k =
+  allowed-rake k search =
       allowed-unless 32 _ _ (λ a. allowed-unless 33 _ _ (λ b. allowed-unless 33 _ _ (λ c.
       (ltb-false (number r 7) 2 a, ltb-false 64 (number r 7) b, ltb-false 65536 (settings r k .options .«max_steps») c))))
+
+  allowed-field : (code k : ℕ) (search : Search) → Allowed (overField r code k search)
+  unfolding overField Allowed
+  allowed-field code k search =
+      allowed-either (eqb code 1) _ _ tt (allowed-either (eqb code 2) _ _ tt
+      (allowed-either (eqb code 3) _ _ (allowed-streamline k Points search) (allowed-rake k search)))
 
   allowed-over : (code : ℕ) (s : Plane) → Allowed (overPlane r code s)
   unfolding overPlane statistics Allowed
@@ -93,11 +100,10 @@ module _ (r : List ℕ) where
   allowed-planar code = allowed-unless _ _ _ (λ a. allowed-over code (planeOf r))
 
   allowed-code : (code k : ℕ) → Allowed (byCode r code k)
-  unfolding byCode Allowed
+  unfolding byCode
   allowed-code code k =
-      allowed-either (eqb code 1) _ _ tt (allowed-either (eqb code 2) _ _ tt
-      (allowed-either (eqb code 3) _ _ (allowed-streamline k Points) (allowed-either (eqb code 4) _ _ (allowed-rake k)
-      (allowed-either (eqb code 13) _ _ (allowed-streamline k (Sheet AwayFromZero)) (allowed-planar code)))))
+      allowed-either (ltb 12 code) _ _ (allowed-streamline k (Sheet AwayFromZero) _)
+      (allowed-either (isPlanar code) _ _ (allowed-planar code) (allowed-field (plainCode code) k _))
 
   allowed-request : (flat : Bool) → Allowed (requestOf flat r)
   unfolding requestOf

@@ -7,10 +7,10 @@ use Rattle.job_requests.specs.declared.Request.the-variants.{Refused, Lo
 -- the limits of a request that is not refused
 unfoldable pub Allowed : Request → Type 0
 Allowed (Refused n) = Unit
-Allowed (Locate p) = Unit
-Allowed (Velocity p) = Unit
-Allowed (Streamline p s style) = s .options .«max_steps» ≤ mostSteps
-Allowed (Rake r s) = (2 ≤ r .count) × (r .count ≤ 64) × (s .options .«max_steps» ≤ mostSteps)
+Allowed (Locate p search) = Unit
+Allowed (Velocity p search) = Unit
+Allowed (Streamline p s style search) = s .options .«max_steps» ≤ mostSteps
+Allowed (Rake r s search) = (2 ≤ r .count) × (r .count ≤ 64) × (s .options .«max_steps» ≤ mostSteps)
 Allowed (Section s) = Unit
 Allowed (Statistics s field) = Unit
 Allowed (Integrals s) = Unit

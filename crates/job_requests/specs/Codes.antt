@@ -34,11 +34,13 @@ codes =
     ∷ row 3 10 0
     -- 8 probe: as 5, then a point
     ∷ row 3 13 0
-    ∷ unknown
-    ∷ unknown
-    ∷ unknown
-    ∷ unknown
-    -- 13 sheet: as 3
+    -- 9 to 12: as 1 to 4
+    ∷ row 2 4 0
+    ∷ row 2 4 0
+    ∷ row 2 9 4
+    ∷ row 2 13 8
+    -- 13 sheet: as 3; 14: as 13
+    ∷ row 2 9 4
     ∷ row 2 9 4
     ∷ []
 

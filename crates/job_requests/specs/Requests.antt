@@ -2,13 +2,14 @@
 -- `wordsAt`, `requestsIn`: the words of one request, and all requests.
 -- `number`, `real`, `point`: an argument as a whole number or a float, and three as a point. `refuseIf`: a refusal, where a test holds.
 -- `unusedSet`, `badDirection`, `illFormed`: refusal 30. `wrongDimension`: refusal 31.
--- `direction`, `options`, `settings`: the settings of a line. `streamline`: codes 3 and 13. `rakeOf`, `rake`: code 4.
+-- `direction`, `options`, `settings`: the settings of a line. `streamline`: codes 3, 11, 13 and 14. `rakeOf`, `rake`: codes 4 and 12.
+-- `overField`: codes 1 to 4 and 9 to 12.
 -- `planeOf`: the plane. `statistics`: code 6. `overPlane`, `planar`: codes 5 to 8.
--- `byCode`, `requestOf`: all codes.
-use Prim.Native.Nat.{ℕ, _+_, _/_}
+-- `searchOf`, `plainCode`, `isPlanar`, `byCode`, `requestOf`: all codes.
+use Prim.Native.Nat.{ℕ, _+_, _-_, _/_}
 use mathlib.Core.Bool.{Bool, not, cond, _&&_, _||_}
 use mathlib.Core.List.{List, [], _∷_}
-use lib.Dec.{ltb, eqb}
+use lib.Dec.{ltb, leb, eqb}
 use lib.ListN.{length, getD, drop}
 use lib.Ieee.{Float}
 use Rattle.arith.specs.Limits.{mostSteps}
@@ -17,6 +18,8 @@ use Rattle.arith.specs.Bytes.{le64, readAll}
 use Rattle.arith.specs.Lists.{anyOf}
 use Rattle.arith.specs.Vec.{vec}
 use Rattle.arith.specs.declared.Vec3.{Vec3}
+use Rattle.lines_locate.specs.declared.Search.{Search}
+use Rattle.lines_locate.specs.declared.Search.the-variants.{Bins, All}
 use Rattle.lines_step.specs.declared.StreamlineOptions.{StreamlineOptions}
 use Rattle.lines.specs.declared.StreamlineDirection.{StreamlineDirection}
 use Rattle.lines.specs.declared.StreamlineDirection.the-variants.{Forward, Backward}
@@ -69,7 +72,7 @@ badDirection r c = ltb 0 (c .line) && ltb 1 (number r (c .line))
 unfoldable pub illFormed : List ℕ → Code → Bool
 illFormed r c = isUnknown c || (unusedSet r c || badDirection r c)
 
--- refusal 31: "codes 1 to 4 need 2D, 5 to 8 need 3D"
+-- refusal 31: "codes 1 to 4 need 2D, 5 to 8 need 3D"; 9 to 14 as 1 to 4
 unfoldable pub wrongDimension : Bool → Code → Bool
 wrongDimension flat c = not (eqb (c .dimension) (cond flat 2 3))
 
@@ -94,16 +97,24 @@ unfoldable pub settings : List ℕ → ℕ → StreamlineSettings
 settings r k = record { direction = direction r k; options = options r k }
 
 -- refusal 33: "max_steps above 65,536"
-unfoldable pub streamline : List ℕ → ℕ → Style → Request
-streamline r k style = refuseIf 33 (ltb mostSteps (settings r k .options .«max_steps»)) (Streamline (point r 1) (settings r k) style)
+unfoldable pub streamline : List ℕ → ℕ → Style → Search → Request
+streamline r k style search = refuseIf 33 (ltb mostSteps (settings r k .options .«max_steps»)) (Streamline (point r 1) (settings r k) style search)
 
 -- the same of a rake with so many seeds
-unfoldable pub rakeOf : List ℕ → ℕ → ℕ → Request
-rakeOf r k count = refuseIf 33 (ltb mostSteps (settings r k .options .«max_steps»)) (Rake (record { start = point r 1; end = point r 4; count = count }) (settings r k))
+unfoldable pub rakeOf : List ℕ → ℕ → ℕ → Search → Request
+rakeOf r k count search =
+    refuseIf 33 (ltb mostSteps (settings r k .options .«max_steps»)) (Rake (record { start = point r 1; end = point r 4; count = count }) (settings r k) search)
 
 -- refusal 32: "rake count below 2"; 33: "count above 64 or max_steps above 65,536"
-unfoldable pub rake : List ℕ → ℕ → Request
-rake r k = refuseIf 32 (ltb (number r 7) 2) (refuseIf 33 (ltb 64 (number r 7)) (rakeOf r k (number r 7)))
+unfoldable pub rake : List ℕ → ℕ → Search → Request
+rake r k search = refuseIf 32 (ltb (number r 7) 2) (refuseIf 33 (ltb 64 (number r 7)) (rakeOf r k (number r 7) search))
+
+-- codes 1 to 4, by a search
+unfoldable pub overField : List ℕ → ℕ → ℕ → Search → Request
+overField r code k search =
+    cond (eqb code 1) (Locate (point r 1) search)
+    (cond (eqb code 2) (Velocity (point r 1) search)
+    (cond (eqb code 3) (streamline r k Points search) (rake r k search)))
 
 -- ---- planes
 
@@ -127,14 +138,23 @@ planar r code =
 
 -- ---- all codes
 
+-- "Codes 1 to 4 and 13 keep the bins."; "Code 14 is code 13's sheet over code 11's line"
+unfoldable pub searchOf : ℕ → Search
+searchOf code = cond (leb code 4 || eqb code 13) Bins All
+
+-- "Codes 9 to 12 do what 1 to 4 do, but locate the lowest cell whose polygon contains the point"
+unfoldable pub plainCode : ℕ → ℕ
+plainCode code = cond (ltb 8 code) (code - 8) code
+
+-- codes 5 to 8
+unfoldable pub isPlanar : ℕ → Bool
+isPlanar code = ltb 4 code && leb code 8
+
 -- a request by its code; lines' arguments stand from word k on
 unfoldable pub byCode : List ℕ → ℕ → ℕ → Request
 byCode r code k =
-    cond (eqb code 1) (Locate (point r 1))
-    (cond (eqb code 2) (Velocity (point r 1))
-    (cond (eqb code 3) (streamline r k Points)
-    (cond (eqb code 4) (rake r k)
-    (cond (eqb code 13) (streamline r k (Sheet AwayFromZero)) (planar r code)))))
+    cond (ltb 12 code) (streamline r k (Sheet AwayFromZero) (searchOf code))
+    (cond (isPlanar code) (planar r code) (overField r (plainCode code) k (searchOf code)))
 
 -- "30 unknown code ..; 31 codes 1 to 4 need 2D, 5 to 8 need 3D", then by code
 unfoldable pub requestOf : Bool → List ℕ → Request

@@ -7,6 +7,7 @@ use arith::bytes;
 use lines::Rake;
 use lines::StreamlineDirection;
 use lines::StreamlineSettings;
+use lines_locate::Search;
 use lines_millimetres::Rounding;
 use lines_step::StreamlineOptions;
 use lines_words::Style;
@@ -31,10 +32,10 @@ pub struct Code {
 
 pub enum Request {
     Refused(u64),
-    Locate(Vec3),
-    Velocity(Vec3),
-    Streamline(Vec3, StreamlineSettings, Style),
-    Rake(Rake, StreamlineSettings),
+    Locate(Vec3, Search),
+    Velocity(Vec3, Search),
+    Streamline(Vec3, StreamlineSettings, Style, Search),
+    Rake(Rake, StreamlineSettings, Search),
     Section(Plane),
     Statistics(Plane, u64),
     Integrals(Plane),
@@ -149,22 +150,22 @@ fn settings(bytes: &[u8], at: usize, k: usize) -> StreamlineSettings
     }
 }
 
-// A line, in a style.
-fn streamline(bytes: &[u8], at: usize, k: usize, style: Style) -> Request
+// A line, in a style, by a search.
+fn streamline(bytes: &[u8], at: usize, k: usize, style: Style, search: Search) -> Request
     requires { ⌜ (at + 128 ≤ length (now bytes)) × (k < 12) ⌝ }
-    ensures { λ r. ⌜ r ≡ Requests.streamline (wordsAt (now (bytes .entry)) at) k style ⌝ }
+    ensures { λ r. ⌜ r ≡ Requests.streamline (wordsAt (now (bytes .entry)) at) k style search ⌝ }
 {
     let s = settings(bytes, at, k);
     if s.options.max_steps > 65536 {
         return Request::Refused(33);
     }
-    Request::Streamline(point(bytes, at, 1), s, style)
+    Request::Streamline(point(bytes, at, 1), s, style, search)
 }
 
-// The lines from `count` seeds.
-fn rake_of(bytes: &[u8], at: usize, k: usize, count: usize) -> Request
+// The lines from `count` seeds, by a search.
+fn rake_of(bytes: &[u8], at: usize, k: usize, count: usize, search: Search) -> Request
     requires { ⌜ (at + 128 ≤ length (now bytes)) × (k < 12) ⌝ }
-    ensures { λ r. ⌜ r ≡ Requests.rakeOf (wordsAt (now (bytes .entry)) at) k count ⌝ }
+    ensures { λ r. ⌜ r ≡ Requests.rakeOf (wordsAt (now (bytes .entry)) at) k count search ⌝ }
 {
     let s = settings(bytes, at, k);
     if s.options.max_steps > 65536 {
@@ -175,12 +176,12 @@ fn rake_of(bytes: &[u8], at: usize, k: usize, count: usize) -> Request
         end: point(bytes, at, 4),
         count,
     };
-    Request::Rake(rake, s)
+    Request::Rake(rake, s, search)
 }
 
-fn rake(bytes: &[u8], at: usize, k: usize) -> Request
+fn rake(bytes: &[u8], at: usize, k: usize, search: Search) -> Request
     requires { ⌜ (at + 128 ≤ length (now bytes)) × (k < 12) ⌝ }
-    ensures { λ r. ⌜ r ≡ Requests.rake (wordsAt (now (bytes .entry)) at) k ⌝ }
+    ensures { λ r. ⌜ r ≡ Requests.rake (wordsAt (now (bytes .entry)) at) k search ⌝ }
 {
     let count = number(bytes, at, 7) as usize;
     if count < 2 {
@@ -189,7 +190,20 @@ fn rake(bytes: &[u8], at: usize, k: usize) -> Request
     if count > 64 {
         return Request::Refused(33);
     }
-    rake_of(bytes, at, k, count)
+    rake_of(bytes, at, k, count, search)
+}
+
+// Codes 1 to 4, by a search; lines' arguments stand from k on.
+fn over_field(bytes: &[u8], at: usize, code: u64, k: usize, search: Search) -> Request
+    requires { ⌜ (at + 128 ≤ length (now bytes)) × (k < 12) ⌝ }
+    ensures { λ r. ⌜ r ≡ Requests.overField (wordsAt (now (bytes .entry)) at) code k search ⌝ }
+{
+    match code {
+        1 => Request::Locate(point(bytes, at, 1), search),
+        2 => Request::Velocity(point(bytes, at, 1), search),
+        3 => streamline(bytes, at, k, Style::Points, search),
+        _ => rake(bytes, at, k, search),
+    }
 }
 
 // Origin, u and v.
@@ -236,19 +250,47 @@ fn planar(bytes: &[u8], at: usize, code: u64) -> Request
     over_plane(bytes, at, code, plane)
 }
 
+// Codes 1 to 4 and 13 search the bins, the others of a 2D mesh all cells.
+fn search_of(code: u64) -> Search
+    ensures { λ r. ⌜ r ≡ Requests.searchOf code ⌝ }
+{
+    if code <= 4 {
+        return Search::Bins;
+    }
+    if code == 13 {
+        Search::Bins
+    } else {
+        Search::All
+    }
+}
+
+// Codes 9 to 12 do what 1 to 4 do.
+fn plain_code(code: u64) -> u64
+    ensures { λ r. ⌜ r ≡ Requests.plainCode code ⌝ }
+{
+    if code > 8 { code - 8 } else { code }
+}
+
+// Codes 5 to 8.
+fn is_planar(code: u64) -> bool
+    ensures { λ r. ⌜ r ≡ Requests.isPlanar code ⌝ }
+{
+    if code > 4 { code <= 8 } else { false }
+}
+
 // A request that is well-formed, over a mesh of this dimension; lines' arguments stand from k on.
 fn by_code(bytes: &[u8], at: usize, code: u64, k: usize) -> Request
     requires { ⌜ (at + 128 ≤ length (now bytes)) × (k < 12) ⌝ }
     ensures { λ r. ⌜ r ≡ Requests.byCode (wordsAt (now (bytes .entry)) at) code k ⌝ }
 {
-    match code {
-        1 => Request::Locate(point(bytes, at, 1)),
-        2 => Request::Velocity(point(bytes, at, 1)),
-        3 => streamline(bytes, at, k, Style::Points),
-        4 => rake(bytes, at, k),
-        13 => streamline(bytes, at, k, Style::Sheet(Rounding::AwayFromZero)),
-        _ => planar(bytes, at, code),
+    let search = search_of(code);
+    if code > 12 {
+        return streamline(bytes, at, k, Style::Sheet(Rounding::AwayFromZero), search);
     }
+    if is_planar(code) {
+        return planar(bytes, at, code);
+    }
+    over_field(bytes, at, plain_code(code), k, search)
 }
 
 // The code needs the other dimension.

@@ -1,7 +1,7 @@
 use native.Mathlib.Omega.{arith}
 use mathlib.Core.Path.{refl}
 use Rattle.job_requests.specs.Codes.{row, codes, codeOf}
-use Rattle.job_requests.proofs.CodeLaws.{row-is, next, row-unknown}
+use Rattle.job_requests.proofs.CodeLaws.{row-is, row-unknown}
 use borrow.Author.Needs.{needs}
 use Rattle.job_requests.proofs.codes.code_of.Statement.{statement}
 use Rattle.job_requests.proofs.codes.code_of.Tie as tie
@@ -40,15 +40,40 @@ returns-8 c = row-is _ 8 (omega arith) refl (c .before .match .keys8) (c .row8 .
 
 returns-9 : tie.Need-returns-9
 unfolding codeOf codes row
-returns-9 c = row-is _ 13 (omega arith) refl (c .before .match .keys9) (c .row9 .ensures)
+returns-9 c = row-is _ 9 (omega arith) refl (c .before .match .keys9) (c .row9 .ensures)
 
 returns-10 : tie.Need-returns-10
-returns-10 c = let no = c .before .match .rest in row-unknown _ (λ l. next _ 8 (next _ 7 (next _ 6 (next _ 5 (next _ 4 (next _ 3 (next _ 2 (next _ 1 l (no .0 .0 .0 .0 .0 .0 .0 .0 .1)) (no .0 .0 .0 .0 .0 .0 .0 .1)) (no .0 .0 .0 .0 .0 .0 .1)) (no .0 .0 .0 .0 .0 .1)) (no .0 .0 .0 .0 .1)) (no .0 .0 .0 .1)) (no .0 .0 .1)) (no .0 .1)) (no .1) (c .row10 .ensures)
+unfolding codeOf codes row
+returns-10 c = row-is _ 10 (omega arith) refl (c .before .match .keys10) (c .row10 .ensures)
+
+returns-11 : tie.Need-returns-11
+unfolding codeOf codes row
+returns-11 c = row-is _ 11 (omega arith) refl (c .before .match .keys11) (c .row11 .ensures)
+
+returns-12 : tie.Need-returns-12
+unfolding codeOf codes row
+returns-12 c = row-is _ 12 (omega arith) refl (c .before .match .keys12) (c .row12 .ensures)
+
+returns-13 : tie.Need-returns-13
+unfolding codeOf codes row
+returns-13 c = row-is _ 13 (omega arith) refl (c .before .match .keys13) (c .row13 .ensures)
+
+returns-14 : tie.Need-returns-14
+unfolding codeOf codes row
+returns-14 c = row-is _ 14 (omega arith) refl (c .before .match .keys14) (c .row14 .ensures)
+
+returns-15 : tie.Need-returns-15
+returns-15 c = row-unknown _ (c .before .match .rest) (c .row15 .ensures)
 
 pub code-of-spec : {M : Type 1} → statement M
 code-of-spec =
     tie.close
     (tie.spec
+    (λ c κs. search needs)
+    (λ c κs. search needs)
+    (λ c κs. search needs)
+    (λ c κs. search needs)
+    (λ c κs. search needs)
     (λ c κs. search needs)
     (λ c κs. search needs)
     (λ c κs. search needs)
@@ -68,4 +93,9 @@ code-of-spec =
     returns-7
     returns-8
     returns-9
-    returns-10)
+    returns-10
+    returns-11
+    returns-12
+    returns-13
+    returns-14
+    returns-15)
