@@ -20,7 +20,8 @@ use Rattle.reading.proofs.AsksLaws.{run-bind, reads-bind}
 use Rattle.mesh_area.specs.Tables.{Mesh}
 use Rattle.mesh_area.specs.Layout.{pointsIn, meshIn}
 use Rattle.mesh_area.specs.declared.Sizes.{Sizes}
-use Rattle.lines_locate.specs.Field.{StreamlineField}
+use Rattle.lines_locate.specs.declared.Search.{Search}
+use Rattle.lines_locate.specs.Field.{StreamlineField, searching}
 use Rattle.case_file.specs.declared.Counts.{Counts}
 use Rattle.planes_cut.specs.declared.Plane.{Plane}
 use Rattle.planes_sections.specs.Intersect.{intersect}
@@ -67,7 +68,7 @@ module _ {f : ℕ → Values} {o m : List ℕ} where
   unfolding answerOf lengthOf replied
   replied-yes ws n e h = record { result = rw e; answers = h; marks = refl }
 
--- ---- codes 1 to 4
+-- ---- codes 1 to 4, and 9 to 12
 
 found-one : (r : Found) → length (foundWords r) ≡ 1
 unfolding foundWords
@@ -80,33 +81,35 @@ velocity-four (Here u) = refl
 velocity-four Nowhere = refl
 
 module _ {v : ℕ → Values} {o o′ m : List ℕ} where
-  pub locate-reply : (F : StreamlineField) (p : Vec3) (r : Found) → r ≡ locateIn F p → o′ ≡ sets o 0 (foundWords r)
-      → Reply (serveFlat F (Locate p)) v o (Answered.Words 1) o o′ m m
+  pub locate-reply : (F G : StreamlineField) (p : Vec3) (search : Search) (r : Found) → G ≡ searching search F → r ≡ locateIn G p → o′ ≡ sets o 0 (foundWords r)
+      → Reply (serveFlat F (Locate p search)) v o (Answered.Words 1) o o′ m m
   unfolding serveFlat
-  locate-reply F p r e h = rw (sym e) (replied-yes (foundWords r) 1 (found-one r) h)
+  locate-reply F G p search r g e h = rw (sym g, sym e) (replied-yes (foundWords r) 1 (found-one r) h)
 
-  pub velocity-reply : (F : StreamlineField) {m′ : List ℕ} (p : Vec3) (r : Vector) → Served (velocityAt F p) v m m′ r → o′ ≡ sets o 0 (velocityWords r)
-      → Reply (serveFlat F (Velocity p)) v o (Answered.Words 4) o o′ m m′
+  pub velocity-reply : (F G : StreamlineField) {m′ : List ℕ} (p : Vec3) (search : Search) (r : Vector) → G ≡ searching search F → Served (velocityAt G p) v m m′ r → o′ ≡ sets o 0 (velocityWords r)
+      → Reply (serveFlat F (Velocity p search)) v o (Answered.Words 4) o o′ m m′
   unfolding serveFlat answerOf lengthOf replied
-  velocity-reply F p r t h =
+  velocity-reply F G p search r g t h =
       let tail : Vector → Asks (Result (List ℕ)) = λ u. give (fine (velocityWords u)) in
-      let answer : run (velocityAt F p >>= tail) v ≡ fine (velocityWords r) = run-bind (velocityAt F p) tail v ∙ ap (λ (u : Vector). fine (velocityWords u)) (sym (t .answer)) in
-      record {
+      let answer : run (velocityAt G p >>= tail) v ≡ fine (velocityWords r) = run-bind (velocityAt G p) tail v ∙ ap (λ (u : Vector). fine (velocityWords u)) (sym (t .answer)) in
+      rw (sym g)
+      (record {
         result = rw answer (ap fine (sym (velocity-four r)));
         answers = rw answer h;
-        marks = t .marks ∙ ap (markAll m) (sym (reads-bind (velocityAt F p) tail v ∙ append-nil (reads (velocityAt F p) v)));
-      }
+        marks = t .marks ∙ ap (markAll m) (sym (reads-bind (velocityAt G p) tail v ∙ append-nil (reads (velocityAt G p) v)));
+      })
 
 -- ---- which code it is
 
-pub allowed-streamline : (q : Request) (p : Vec3) (s : StreamlineSettings) (style : Style) → q ≡ Streamline p s style → Allowed q → s .options .«max_steps» ≤ 65536
+pub allowed-streamline : (q : Request) (p : Vec3) (s : StreamlineSettings) (style : Style) (search : Search) → q ≡ Streamline p s style search → Allowed q
+    → s .options .«max_steps» ≤ 65536
 unfolding Allowed
-allowed-streamline q p s style e h = rw e at h
+allowed-streamline q p s style search e h = rw e at h
 
-pub allowed-rake : (q : Request) (k : declared.Rake) (s : StreamlineSettings) → q ≡ Rake k s → Allowed q
+pub allowed-rake : (q : Request) (k : declared.Rake) (s : StreamlineSettings) (search : Search) → q ≡ Rake k s search → Allowed q
     → (2 ≤ k .count) × (k .count ≤ 64) × (s .options .«max_steps» ≤ 65536)
 unfolding Allowed
-allowed-rake q k s e h = rw e at h
+allowed-rake q k s search e h = rw e at h
 
 abbrev tag : Request → ℕ
 tag = tagOf the-type
@@ -131,10 +134,10 @@ module _ (F : StreamlineField) {v : ℕ → Values} {o m : List ℕ} where
   pub flat-other : (q : Request) → OneOf (5 ∷ 6 ∷ 7 ∷ 8 ∷ []) (tag q) → Reply (serveFlat F q) v o (Answered.Refused 31) o o m m
   unfolding serveFlat
   flat-other (Refused n) h = absurd (let k = high 0 h in omega arith)
-  flat-other (Locate p) h = absurd (let k = high 1 h in omega arith)
-  flat-other (Velocity p) h = absurd (let k = high 2 h in omega arith)
-  flat-other (Streamline p s style) h = absurd (let k = high 3 h in omega arith)
-  flat-other (Rake k s) h = absurd (let k = high 4 h in omega arith)
+  flat-other (Locate p search) h = absurd (let k = high 1 h in omega arith)
+  flat-other (Velocity p search) h = absurd (let k = high 2 h in omega arith)
+  flat-other (Streamline p s style search) h = absurd (let k = high 3 h in omega arith)
+  flat-other (Rake k s search) h = absurd (let k = high 4 h in omega arith)
   flat-other (Section s) h = replied-no 31
   flat-other (Statistics s field) h = replied-no 31
   flat-other (Integrals s) h = replied-no 31
@@ -143,14 +146,14 @@ module _ (F : StreamlineField) {v : ℕ → Values} {o m : List ℕ} where
   pub flat-code : {r : Answered} {o′ m′ : List ℕ} (q k : Request) → q ≡ k → Reply (serveFlat F k) v o r o o′ m m′ → Reply (serveFlat F q) v o r o o′ m m′
   flat-code q k e h = rw e h
 
-  module _ {r : Answered} {o′ m′ : List ℕ} (q : Request) (s : StreamlineSettings) where
-    pub flat-streamline : (p : Vec3) (style : Style) → q ≡ Streamline p s style → Reply (decided (integrate F p s style)) v o r o o′ m m′ → Reply (serveFlat F q) v o r o o′ m m′
+  module _ {r : Answered} {o′ m′ : List ℕ} (G : StreamlineField) (q : Request) (s : StreamlineSettings) (search : Search) (g : G ≡ searching search F) where
+    pub flat-streamline : (p : Vec3) (style : Style) → q ≡ Streamline p s style search → Reply (decided (integrate G p s style)) v o r o o′ m m′ → Reply (serveFlat F q) v o r o o′ m m′
     unfolding serveFlat
-    flat-streamline p style e h = rw e h
+    flat-streamline p style e h = rw (e, sym g) h
 
-    pub flat-rake : (k : declared.Rake) → q ≡ Rake k s → Reply (decided (integrateRake F k s)) v o r o o′ m m′ → Reply (serveFlat F q) v o r o o′ m m′
+    pub flat-rake : (k : declared.Rake) → q ≡ Rake k s search → Reply (decided (integrateRake G k s)) v o r o o′ m m′ → Reply (serveFlat F q) v o r o o′ m m′
     unfolding serveFlat
-    flat-rake k e h = rw e h
+    flat-rake k e h = rw (e, sym g) h
 
 module _ (M : Mesh) (v : ℕ → Values) (o : List ℕ) {m : List ℕ} where
   pub solid-refused : (q : Request) (n : ℕ) → q ≡ Refused n → Reply (serveSolid M q) v (leftUnder (solid M) q v o) (Answered.Refused n) o o m m
@@ -160,10 +163,10 @@ module _ (M : Mesh) (v : ℕ → Values) (o : List ℕ) {m : List ℕ} where
   pub solid-other : (q : Request) → OneOf (1 ∷ 2 ∷ 3 ∷ 4 ∷ []) (tag q) → Reply (serveSolid M q) v (leftUnder (solid M) q v o) (Answered.Refused 31) o o m m
   unfolding serveSolid leftUnder
   solid-other (Refused n) h = absurd (let k = low 0 h in omega arith)
-  solid-other (Locate p) h = replied-no 31
-  solid-other (Velocity p) h = replied-no 31
-  solid-other (Streamline p s style) h = replied-no 31
-  solid-other (Rake k s) h = replied-no 31
+  solid-other (Locate p search) h = replied-no 31
+  solid-other (Velocity p search) h = replied-no 31
+  solid-other (Streamline p s style search) h = replied-no 31
+  solid-other (Rake k s search) h = replied-no 31
   solid-other (Section s) h = absurd (let k = low 5 h in omega arith)
   solid-other (Statistics s field) h = absurd (let k = low 6 h in omega arith)
   solid-other (Integrals s) h = absurd (let k = low 7 h in omega arith)
@@ -215,10 +218,10 @@ pub left-long : (room : Room) (q : Request) (v : ℕ → Values) (o : List ℕ) 
 unfolding leftUnder leftBy
 left-long (flat f) q v o = refl
 left-long (solid m) (Refused n) v o = refl
-left-long (solid m) (Locate p) v o = refl
-left-long (solid m) (Velocity p) v o = refl
-left-long (solid m) (Streamline p s style) v o = refl
-left-long (solid m) (Rake k s) v o = refl
+left-long (solid m) (Locate p search) v o = refl
+left-long (solid m) (Velocity p search) v o = refl
+left-long (solid m) (Streamline p s style search) v o = refl
+left-long (solid m) (Rake k s search) v o = refl
 left-long (solid m) (Section s) v o = length-sets o 1 (flatten (map sampleWords (run (taken (intersect m s)) v .samples)))
 left-long (solid m) (Statistics s field) v o = refl
 left-long (solid m) (Integrals s) v o = refl

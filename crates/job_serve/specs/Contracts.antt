@@ -12,10 +12,10 @@ use Rattle.job_room.specs.Room.{Room, flat, solid}
 unfoldable pub leftUnder : Room → Request → (ℕ → Values) → List ℕ → List ℕ
 leftUnder (flat f) q v o = o
 leftUnder (solid m) (Refused n) v o = o
-leftUnder (solid m) (Locate p) v o = o
-leftUnder (solid m) (Velocity p) v o = o
-leftUnder (solid m) (Streamline p s style) v o = o
-leftUnder (solid m) (Rake r s) v o = o
+leftUnder (solid m) (Locate p search) v o = o
+leftUnder (solid m) (Velocity p search) v o = o
+leftUnder (solid m) (Streamline p s style search) v o = o
+leftUnder (solid m) (Rake r s search) v o = o
 leftUnder (solid m) (Section s) v o = leftBy v (intersect m s) o
 leftUnder (solid m) (Statistics s field) v o = o
 leftUnder (solid m) (Integrals s) v o = o

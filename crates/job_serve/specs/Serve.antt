@@ -1,5 +1,5 @@
 -- The answer of each code, whatever room there is for it. Refusals 34, 35 and 39 to 43.
--- `foundWords`, `velocityWords`: the words of codes 1 and 2. `serveFlat`, `serveSolid`, `serve`: the answers in 2D, in 3D, and in any room.
+-- `foundWords`, `velocityWords`: the words of codes 1 and 2, and 9 and 10. `serveFlat`, `serveSolid`, `serve`: the answers in 2D, in 3D, and in any room.
 use Prim.Native.Nat.{ℕ, _-_, _^_}
 use mathlib.Core.List.{List, [], _∷_}
 use Rattle.arith.specs.declared.Found.{Found}
@@ -7,7 +7,7 @@ use Rattle.arith.specs.declared.Found.the-variants.{At, Nothing}
 use Rattle.reading.specs.Result.{Result, refused, fine}
 use Rattle.reading.specs.Asks.{Asks, give, _>>=_}
 use Rattle.mesh_area.specs.Tables.{Mesh}
-use Rattle.lines_locate.specs.Field.{StreamlineField}
+use Rattle.lines_locate.specs.Field.{StreamlineField, searching}
 use Rattle.lines_velocity.specs.declared.Vector.{Vector}
 use Rattle.lines_velocity.specs.declared.Vector.the-variants.{Here, Nowhere}
 use Rattle.lines_velocity.specs.Velocity.{locateIn, velocityAt}
@@ -30,26 +30,26 @@ unfoldable pub velocityWords : Vector → List ℕ
 velocityWords (Here v) = 1 ∷ vecWords v
 velocityWords Nowhere = 0 ∷ 0 ∷ 0 ∷ 0 ∷ []
 
--- codes 1 to 4 and 13. 31 is due before a request's arguments are looked at: `requestOf` (crates/job_requests/specs/Requests.antt) refuses with it, and makes no
+-- codes 1 to 4 and 9 to 14. 31 is due before a request's arguments are looked at: `requestOf` (crates/job_requests/specs/Requests.antt) refuses with it, and makes no
 -- request of codes 5 to 8 over a 2D mesh. So the last four cases do not come in a job; they are here since the definition is of every request.
 unfoldable pub serveFlat : StreamlineField → Request → Asks (Result (List ℕ))
 serveFlat f (Refused n) = give (refused n)
-serveFlat f (Locate p) = give (fine (foundWords (locateIn f p)))
-serveFlat f (Velocity p) = velocityAt f p >>= λ v. give (fine (velocityWords v))
-serveFlat f (Streamline p s style) = decided (integrate f p s style)
-serveFlat f (Rake r s) = decided (integrateRake f r s)
+serveFlat f (Locate p search) = give (fine (foundWords (locateIn (searching search f) p)))
+serveFlat f (Velocity p search) = velocityAt (searching search f) p >>= λ v. give (fine (velocityWords v))
+serveFlat f (Streamline p s style search) = decided (integrate (searching search f) p s style)
+serveFlat f (Rake r s search) = decided (integrateRake (searching search f) r s)
 serveFlat f (Section s) = give (refused 31)
 serveFlat f (Statistics s field) = give (refused 31)
 serveFlat f (Integrals s) = give (refused 31)
 serveFlat f (Probe s p) = give (refused 31)
 
--- codes 5 to 8; in the same way codes 1 to 4 and 13 do not come over a 3D mesh
+-- codes 5 to 8; in the same way codes 1 to 4 and 9 to 14 do not come over a 3D mesh
 unfoldable pub serveSolid : Mesh → Request → Asks (Result (List ℕ))
 serveSolid m (Refused n) = give (refused n)
-serveSolid m (Locate p) = give (refused 31)
-serveSolid m (Velocity p) = give (refused 31)
-serveSolid m (Streamline p s style) = give (refused 31)
-serveSolid m (Rake r s) = give (refused 31)
+serveSolid m (Locate p search) = give (refused 31)
+serveSolid m (Velocity p search) = give (refused 31)
+serveSolid m (Streamline p s style search) = give (refused 31)
+serveSolid m (Rake r s search) = give (refused 31)
 serveSolid m (Section s) = sectionOf m s
 serveSolid m (Statistics s field) = statisticsOf m s field
 serveSolid m (Integrals s) = integralsOf m s

@@ -7,6 +7,7 @@ use job_requests::Request;
 use job_room::Place;
 use lines::integrate;
 use lines::rakes;
+use lines_locate::Search;
 use lines_velocity::Tracer;
 use lines_velocity::Vector;
 use lines_velocity::interpolate;
@@ -57,18 +58,26 @@ fn put_velocity(r: Vector, out: &mut [u64])
     }
 }
 
-// Code 1.
-fn serve_locate(words: &[u32], floats: &[f64], t: Tracer, out: &mut [u64], p: Vec3) -> Answered
+// Codes 1 and 9.
+fn serve_locate(
+    words: &[u32],
+    floats: &[f64],
+    t: Tracer,
+    out: &mut [u64],
+    p: Vec3,
+    search: Search,
+) -> Answered
     requires { ⌜ LocateEntry (now words) (now floats) t ⌝ }
     ensures { λ r. ⌜ ((f : ℕ → Values) (m : List ℕ) → Reply
-        (Serve.serveFlat (tracerField t (now (words .entry)) (now (floats .entry))) (Code.Locate p)) f
-        (now (out .entry)) r (now (out .entry)) (now (out .exit)) m m) ⌝ }
+        (Serve.serveFlat (tracerField t (now (words .entry)) (now (floats .entry))) (Code.Locate p search))
+        f (now (out .entry)) r (now (out .entry)) (now (out .exit)) m m) ⌝ }
 {
-    put_found(interpolate::locate(words, floats, t, p), out);
+    let tracer = lines_velocity::searching(t, search);
+    put_found(interpolate::locate(words, floats, tracer, p), out);
     Answered::Words(1)
 }
 
-// Code 2.
+// Codes 2 and 10.
 fn serve_velocity(
     case: &[u8],
     words: &[u32],
@@ -77,18 +86,20 @@ fn serve_velocity(
     marks: &mut [u8],
     out: &mut [u64],
     p: Vec3,
+    search: Search,
 ) -> Answered
     requires { ⌜ TracerEntry (now case) (now words) (now floats) t ⌝ }
     ensures { λ r. ⌜ Reply (Serve.serveFlat (tracerField t (now (words .entry)) (now (floats .entry)))
-        (Code.Velocity p)) (valuesOf (now (case .entry))) (now (out .entry)) r (now (out .entry)) (now (out .exit))
-        (now (marks .entry)) (now (marks .exit)) ⌝ }
+        (Code.Velocity p search)) (valuesOf (now (case .entry))) (now (out .entry)) r (now (out .entry))
+        (now (out .exit)) (now (marks .entry)) (now (marks .exit)) ⌝ }
 {
-    let v = interpolate::velocity_at(case, words, floats, t, marks, p);
+    let tracer = lines_velocity::searching(t, search);
+    let v = interpolate::velocity_at(case, words, floats, tracer, marks, p);
     put_velocity(v, out);
     Answered::Words(4)
 }
 
-// Codes 1 to 4 and 13.
+// Codes 1 to 4 and 9 to 14.
 fn serve_flat(
     case: &[u8],
     words: &[u32],
@@ -106,13 +117,17 @@ fn serve_flat(
 {
     match q {
         Request::Refused(k) => Answered::Refused(k),
-        Request::Locate(p) => serve_locate(words, floats, t, out, p),
-        Request::Velocity(p) => serve_velocity(case, words, floats, t, marks, out, p),
-        Request::Streamline(p, s, style) => {
-            integrate::integrate(case, words, floats, t, marks, out, p, s, style)
+        Request::Locate(p, search) => serve_locate(words, floats, t, out, p, search),
+        Request::Velocity(p, search) => {
+            serve_velocity(case, words, floats, t, marks, out, p, search)
         }
-        Request::Rake(rake, s) => {
-            rakes::integrate_rake(case, words, floats, t, marks, out, rake, s)
+        Request::Streamline(p, s, style, search) => {
+            let tracer = lines_velocity::searching(t, search);
+            integrate::integrate(case, words, floats, tracer, marks, out, p, s, style)
+        }
+        Request::Rake(rake, s, search) => {
+            let tracer = lines_velocity::searching(t, search);
+            rakes::integrate_rake(case, words, floats, tracer, marks, out, rake, s)
         }
         _ => Answered::Refused(31), // request_of gave 31 already
     }

@@ -1,3 +1,4 @@
+use Rattle.lines_velocity.proofs.SearchLaws.{searching-field, searching-traces}
 use Rattle.job_serve.proofs.Laws.{flat-refused, flat-other, flat-code, flat-streamline, flat-rake, allowed-streamline, allowed-rake}
 use borrow.Author.Needs.{needs}
 use Rattle.job_serve.proofs.serve_flat.Statement.{statement}
@@ -21,14 +22,24 @@ serve-velocity-requires c κs = search needs
 enum-known-q-4 : tie.Need-enum-known-q-4
 enum-known-q-4 c = search needs
 
+searching-requires : tie.Need-searching-requires
+searching-requires c κs = search needs
+
 integrate-requires : tie.Need-integrate-requires
-integrate-requires c κs = (c .before .before .before .before .before .before .before .before .before .before .pre .0, allowed-streamline _ _ _ _ (c .before .before .before .q4 .given .1) (c .before .before .before .before .before .before .before .before .before .before .pre .1))
+integrate-requires c κs =
+    let p = c .before .before .before .before .before .before .before .before .before .before .before .pre in
+    (searching-traces _ _ _ _ _ (c .before .before .searching .ensures) (p .0), allowed-streamline _ _ _ _ _ (c .before .before .before .before .q4 .given .1) (p .1))
 
 enum-known-q-5 : tie.Need-enum-known-q-5
 enum-known-q-5 c = search needs
 
+searching-requires-2 : tie.Need-searching-requires-2
+searching-requires-2 c κs = search needs
+
 integrate-rake-requires : tie.Need-integrate-rake-requires
-integrate-rake-requires c κs = (c .before .before .before .before .before .before .before .before .before .before .pre .0, allowed-rake _ _ _ (c .before .before .before .q5 .given .1) (c .before .before .before .before .before .before .before .before .before .before .pre .1))
+integrate-rake-requires c κs =
+    let p = c .before .before .before .before .before .before .before .before .before .before .before .pre in
+    (searching-traces _ _ _ _ _ (c .before .before .searching2 .ensures) (p .0), allowed-rake _ _ _ _ (c .before .before .before .before .q5 .given .1) (p .1))
 
 returns : tie.Need-returns
 returns c = flat-refused _ _ _ (c .before .q .given .1)
@@ -55,7 +66,8 @@ same-length-5 : tie.Need-same-length-5
 same-length-5 c = search needs
 
 returns-4 : tie.Need-returns-4
-returns-4 c = flat-streamline _ _ _ _ _ (c .before .before .before .before .before .before .before .before .q4 .given .1) (c .before .before .before .before .integrate .ensures)
+returns-4 c =
+    flat-streamline _ _ _ _ _ (searching-field _ _ _ _ _ (c .before .before .before .before .before .before .before .searching .ensures)) _ _ (c .before .before .before .before .before .before .before .before .before .q4 .given .1) (c .before .before .before .before .integrate .ensures)
 
 same-length-6 : tie.Need-same-length-6
 same-length-6 c = search needs
@@ -64,7 +76,8 @@ same-length-7 : tie.Need-same-length-7
 same-length-7 c = search needs
 
 returns-5 : tie.Need-returns-5
-returns-5 c = flat-rake _ _ _ _ (c .before .before .before .before .before .before .before .before .q5 .given .1) (c .before .before .before .before .integrate-rake .ensures)
+returns-5 c =
+    flat-rake _ _ _ _ _ (searching-field _ _ _ _ _ (c .before .before .before .before .before .before .before .searching2 .ensures)) _ (c .before .before .before .before .before .before .before .before .before .q5 .given .1) (c .before .before .before .before .integrate-rake .ensures)
 
 returns-6 : tie.Need-returns-6
 returns-6 c = flat-other _ _ (c .match .keys6)
@@ -79,8 +92,10 @@ serve-flat-spec =
     enum-known-q-3
     serve-velocity-requires
     enum-known-q-4
+    searching-requires
     integrate-requires
     enum-known-q-5
+    searching-requires-2
     integrate-rake-requires
     returns
     same-length

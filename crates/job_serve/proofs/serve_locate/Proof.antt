@@ -1,10 +1,14 @@
+use Rattle.lines_velocity.proofs.SearchLaws.{searching-field, searching-locates}
 use Rattle.job_serve.proofs.Laws.{locate-reply}
 use borrow.Author.Needs.{needs}
 use Rattle.job_serve.proofs.serve_locate.Statement.{statement}
 use Rattle.job_serve.proofs.serve_locate.Tie as tie
 
+searching-requires : tie.Need-searching-requires
+searching-requires c κs = search needs
+
 locate-requires : tie.Need-locate-requires
-locate-requires c κs = search needs
+locate-requires c κs = searching-locates _ _ _ _ _ (c .searching .ensures) (c .before .before .before .before .pre)
 
 put-found-requires : tie.Need-put-found-requires
 put-found-requires c κs = search needs
@@ -13,8 +17,10 @@ same-length : tie.Need-same-length
 same-length c = search needs
 
 returns : tie.Need-returns
-returns c = λ f m. locate-reply _ _ _ (c .before .before .before .before .locate .ensures) (c .before .before .put-found .ensures)
+returns c =
+    λ f m.
+    locate-reply _ _ _ _ _ (searching-field _ _ _ _ _ (c .before .before .before .before .before .searching .ensures)) (c .before .before .before .before .locate .ensures) (c .before .before .put-found .ensures)
 
 pub serve-locate-spec : {M : Type 1} → statement M
 serve-locate-spec =
-    tie.close (tie.spec locate-requires put-found-requires same-length returns)
+    tie.close (tie.spec searching-requires locate-requires put-found-requires same-length returns)
