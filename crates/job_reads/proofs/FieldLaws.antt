@@ -9,6 +9,7 @@ use Rattle.reading.proofs.ResultLaws.{bound}
 use Rattle.mesh_area.specs.Tables.{Mesh}
 use Rattle.lines_field.specs.Vertices.{polygonOf}
 use Rattle.lines_field.specs.Bins.{listedIn}
+use Rattle.lines_locate.specs.declared.Search.the-variants.{Bins}
 use Rattle.lines_locate.specs.Field.{StreamlineField}
 use Rattle.lines_field.specs.Field.{polygonsOf, fieldOf}
 use Rattle.lines_velocity.specs.Velocity.{neighboursOf}
@@ -18,7 +19,7 @@ pub field-from : (m : Mesh) (f : StreamlineField) → fieldOf m ≡ fine f → F
 unfolding fieldOf polygonsOf
 field-from m f e =
     let a = bound _ _ _ e in
-    let w : record { polygons = map (listedIn (a .value)) (polygonsOf m); cells = m .cells; grid = a .value } ≡ f = cc (a .then) in
+    let w : record { polygons = map (listedIn (a .value)) (polygonsOf m); cells = m .cells; grid = a .value; search = Bins } ≡ f = cc (a .then) in
     rw (← w) (record { cells = refl; polygons = length-map (map (polygonOf m) (m .cells)) (listedIn (a .value)) ∙ length-map (m .cells) (polygonOf m) })
 
 -- the field of a mesh of n cells

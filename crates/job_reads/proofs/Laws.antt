@@ -16,7 +16,8 @@ use Rattle.case_file.specs.declared.Opened.the-variants.{Case, Refused}
 use Rattle.case_file.specs.Trailer.{countsOf, opened, openedCase}
 use Rattle.case_file.proofs.TrailerLaws.{opens}
 use Rattle.case_definitions.proofs.Walking.{length-definitions}
-use Rattle.lines_locate.specs.Field.{StreamlineField}
+use Rattle.lines_locate.specs.declared.Search.{Search}
+use Rattle.lines_locate.specs.Field.{StreamlineField, searching}
 use Rattle.lines_field.specs.Field.{fieldOf}
 use Rattle.mesh.specs.Case.{CaseSurvey, surveyOf, meshOf}
 use Rattle.job_requests.specs.declared.Request.{Request}
@@ -31,13 +32,18 @@ use Rattle.job_reads.proofs.FieldLaws.{field-sound}
 
 -- ---- the requests
 
+-- the same field under another search
+searching-sound : (n : ℕ) (f : StreamlineField) → Sound n f → (search : Search) → Sound n (searching search f)
+unfolding searching
+searching-sound n f h search = record { few = h .few; near = h .near }
+
 flat-within : (n : ℕ) (f : StreamlineField) → Sound n f → (q : Request) → Within n (serveFlat f q)
 unfolding serveFlat
 flat-within n f h (requests.Refused k) = given
-flat-within n f h (requests.Locate p) = given
-flat-within n f h (requests.Velocity p) = within-bind (velocity-within n f h p) (λ v. given)
-flat-within n f h (requests.Streamline p s style) = integrate-within n f h p s style
-flat-within n f h (requests.Rake r s) = rake-within n f h r s
+flat-within n f h (requests.Locate p search) = given
+flat-within n f h (requests.Velocity p search) = within-bind (velocity-within n _ (searching-sound n f h search) p) (λ v. given)
+flat-within n f h (requests.Streamline p s style search) = integrate-within n _ (searching-sound n f h search) p s style
+flat-within n f h (requests.Rake r s search) = rake-within n _ (searching-sound n f h search) r s
 flat-within n f h (requests.Section s) = given
 flat-within n f h (requests.Statistics s field) = given
 flat-within n f h (requests.Integrals s) = given
@@ -46,10 +52,10 @@ flat-within n f h (requests.Probe s p) = given
 solid-within : (n : ℕ) (m : Mesh) → length (m .cells) ≤ n → (q : Request) → Within n (serveSolid m q)
 unfolding serveSolid
 solid-within n m h (requests.Refused k) = given
-solid-within n m h (requests.Locate p) = given
-solid-within n m h (requests.Velocity p) = given
-solid-within n m h (requests.Streamline p s style) = given
-solid-within n m h (requests.Rake r s) = given
+solid-within n m h (requests.Locate p search) = given
+solid-within n m h (requests.Velocity p search) = given
+solid-within n m h (requests.Streamline p s style search) = given
+solid-within n m h (requests.Rake r s search) = given
 solid-within n m h (requests.Section s) = section-within n m h s
 solid-within n m h (requests.Statistics s field) = statistics-within n m h s field
 solid-within n m h (requests.Integrals s) = integrals-within n m h s

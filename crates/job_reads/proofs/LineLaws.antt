@@ -49,7 +49,7 @@ first-below p k (a ∷ l) i e = by (p a) (first-below p (suc k) l i) e
 -- ---- the velocity at a point
 
 module _ (n : ℕ) (f : StreamlineField) (sound : Sound n f) where
-  where-below : (t : Bool) (q : Vec2) (i : ℕ) → locateWhere t (f .grid) (f .polygons) q ≡ At i → i < n
+  where-below : (t : Bool) (q : Vec2) (i : ℕ) → locateWhere t (f .search) (f .grid) (f .polygons) q ≡ At i → i < n
   unfolding locateWhere
   where-below false q i e = absurd (let z : _≡_ {A = ℕ} 0 1 = cc in omega arith)
   where-below true q i e = let w = first-below _ 0 (f .polygons) i e in omega (arith, sound .few)

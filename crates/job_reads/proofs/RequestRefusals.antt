@@ -1,9 +1,9 @@
 -- A request is refused with a number from 30 to 44. Assumes nothing.
-use Prim.Native.Nat.{ℕ}
+use Prim.Native.Nat.{ℕ, _-_}
 use mathlib.Core.Path.{_≡_, refl, sym, subst}
 use mathlib.Core.Bool.{Bool, true, false, not, cond}
 use mathlib.Core.List.{List, [], _∷_}
-use lib.Dec.{eqb}
+use lib.Dec.{ltb, eqb}
 use lib.Ieee.{Float}
 use Rattle.arith.specs.F64.{finite}
 use Rattle.arith.specs.declared.Vec3.{Vec3}
@@ -14,6 +14,7 @@ use Rattle.reading.proofs.AsksLaws.{run-bind}
 use Rattle.mesh_area.specs.Tables.{Mesh}
 use Rattle.planes_cut.specs.declared.Plane.{Plane}
 use Rattle.planes_cut.specs.Plane.{invalid, originBeyond, planeRefusal}
+use Rattle.lines_locate.specs.declared.Search.{Search}
 use Rattle.lines_locate.specs.Field.{StreamlineField}
 use Rattle.planes_sections.specs.Intersect.{PlaneCell, intersect}
 use Rattle.planes_sums.specs.declared.Sums.{Sums}
@@ -31,7 +32,7 @@ use Rattle.lines.specs.Line.{integrate}
 use Rattle.lines.specs.Rake.{integrateRake}
 use Rattle.job_requests.specs.declared.Request.{Request}
 use Rattle.job_requests.specs.declared.Request.the-variants as requests
-use Rattle.job_requests.specs.Requests.{number, refuseIf, streamline, rakeOf, rake, planeOf, statistics as fieldStatistics, overPlane, planar, byCode, requestOf}
+use Rattle.job_requests.specs.Requests.{number, refuseIf, streamline, rakeOf, rake, overField, plainCode, isPlanar, planeOf, statistics as fieldStatistics, overPlane, planar, byCode, requestOf}
 use Rattle.job_room.specs.Room.{Room, flat, solid}
 use Rattle.answers.specs.Contracts.{decided}
 use Rattle.job_serve.specs.Serve.{serveFlat, serveSolid, serve}
@@ -44,10 +45,10 @@ Answer r = Ranged 30 44 r
 
 data Good : Request → Type 0 where
   refusal : (k : ℕ) → among 30 44 k ≡ true → Good (requests.Refused k)
-  locate : {p : Vec3} → Good (requests.Locate p)
-  velocity : {p : Vec3} → Good (requests.Velocity p)
-  line : {p : Vec3} {s : StreamlineSettings} {style : Style} → Good (requests.Streamline p s style)
-  lines : {r : Rake} {s : StreamlineSettings} → Good (requests.Rake r s)
+  locate : {p : Vec3} {search : Search} → Good (requests.Locate p search)
+  velocity : {p : Vec3} {search : Search} → Good (requests.Velocity p search)
+  line : {p : Vec3} {s : StreamlineSettings} {style : Style} {search : Search} → Good (requests.Streamline p s style search)
+  lines : {r : Rake} {s : StreamlineSettings} {search : Search} → Good (requests.Rake r s search)
   section : {s : Plane} → Good (requests.Section s)
   sums : {s : Plane} {field : ℕ} → Good (requests.Statistics s field)
   means : {s : Plane} → Good (requests.Integrals s)
@@ -69,13 +70,19 @@ good-plane false true g = refusal 37 refl
 good-plane false false g = g
 
 module _ (r : List ℕ) where
-  good-line : (k : ℕ) (style : Style) → Good (streamline r k style)
+  good-line : (k : ℕ) (style : Style) (search : Search) → Good (streamline r k style search)
   unfolding streamline
-  good-line k style = good-unless 33 _ refl line
+  good-line k style search = good-unless 33 _ refl line
 
-  good-rake : (k : ℕ) → Good (rake r k)
+  good-rake : (k : ℕ) (search : Search) → Good (rake r k search)
   unfolding rake rakeOf
-  good-rake k = good-unless 32 _ refl (good-unless 33 _ refl (good-unless 33 _ refl lines))
+  good-rake k search = good-unless 32 _ refl (good-unless 33 _ refl (good-unless 33 _ refl lines))
+
+  good-field : (code k : ℕ) (search : Search) → Good (overField r code k search)
+  unfolding overField
+  good-field code k search =
+      good-either (eqb code 1) locate (good-either (eqb code 2) velocity
+      (good-either (eqb code 3) (good-line k Points search) (good-rake k search)))
 
   good-planes : (code : ℕ) → Good (planar r code)
   unfolding planar planeRefusal overPlane fieldStatistics
@@ -88,9 +95,8 @@ module _ (r : List ℕ) where
   good-request in-2D =
       let code = number r 0 in
       good-unless 30 _ refl (good-unless 31 _ refl
-      (good-either (eqb code 1) locate (good-either (eqb code 2) velocity
-      (good-either (eqb code 3) (good-line _ Points) (good-either (eqb code 4) (good-rake _)
-      (good-either (eqb code 13) (good-line _ (Sheet AwayFromZero)) (good-planes code)))))))
+      (good-either (ltb 12 code) (good-line _ (Sheet AwayFromZero) _)
+      (good-either (isPlanar code) (good-planes code) (good-field (plainCode code) _ _))))
 
 module _ (f : ℕ → Values) where
   -- a tree that gives what h makes of its answer
