@@ -11,6 +11,8 @@ use lib.Ieee.Bits.{toBits-lt}
 use Rattle.arith.specs.F64.{word}
 use Rattle.arith.specs.declared.Vec3.{Vec3}
 use Rattle.arith.proofs.All.{All, all-append}
+use Rattle.lines_locate.specs.declared.Search.{Search}
+use Rattle.lines_locate.specs.declared.Search.the-variants as Search
 use Rattle.lines_step.specs.declared.StreamlineOptions.{StreamlineOptions}
 use Rattle.lines.specs.declared.StreamlineDirection.{StreamlineDirection}
 use Rattle.lines.specs.declared.StreamlineDirection.the-variants.{Forward, Backward}
@@ -21,7 +23,7 @@ use Rattle.answers.specs.Words.{vecWords}
 use Rattle.job_requests.specs.Requests.{requestsIn}
 use Rattle.job_requests.specs.Encode.{bytesOf}
 use Rattle.job_requests.proofs.EncodeLaws.{Word, length-bytesOf, one-request}
-use Rattle.job_encoding.specs.Single.{padded, directionWord, lineWords, planeWords, locateWords, velocityWords, oneLineWords, rakeWords, sectionWords, statisticsWords, integralsWords, probeWords}
+use Rattle.job_encoding.specs.Single.{padded, codeBy, sheetCode, directionWord, lineWords, planeWords, locateWords, velocityWords, oneLineWords, streamlineWords, sheetWords, rakeWords, sectionWords, statisticsWords, integralsWords, probeWords}
 
 -- ---- the words that are stored
 
@@ -29,23 +31,23 @@ use Rattle.job_encoding.specs.Single.{padded, directionWord, lineWords, 
 abbrev coded : ℕ → List ℕ
 coded code = set (replicate 16 0) 0 code
 
-pub locate-stored : (p : Vec3) {ws : List ℕ} → ws ≡ sets (coded 1) 1 (vecWords p) → ws ≡ locateWords p
+pub locate-stored : (p : Vec3) (search : Search) {code : ℕ} {ws : List ℕ} → code ≡ codeBy search 1 → ws ≡ sets (coded code) 1 (vecWords p) → ws ≡ locateWords p search
 unfolding locateWords padded vecWords
-locate-stored p e = e
+locate-stored p search k e = rw k at e
 
-pub velocity-stored : (p : Vec3) {ws : List ℕ} → ws ≡ sets (coded 2) 1 (vecWords p) → ws ≡ velocityWords p
+pub velocity-stored : (p : Vec3) (search : Search) {code : ℕ} {ws : List ℕ} → code ≡ codeBy search 2 → ws ≡ sets (coded code) 1 (vecWords p) → ws ≡ velocityWords p search
 unfolding velocityWords padded vecWords
-velocity-stored p e = e
+velocity-stored p search k e = rw k at e
 
 module _ (s : StreamlineSettings) where
   pub one-line-stored : (code : ℕ) (seed : Vec3) {ws ws′ : List ℕ} → ws ≡ sets (coded code) 1 (vecWords seed) → ws′ ≡ sets ws 4 (lineWords s) → ws′ ≡ oneLineWords code seed s
   unfolding oneLineWords padded vecWords lineWords
   one-line-stored code seed e f = rw e at f
 
-  pub rake-stored : (r : Rake) {ws ws′ ws″ : List ℕ} → ws ≡ sets (coded 4) 1 (vecWords (r .start)) → ws′ ≡ sets ws 4 (vecWords (r .end))
-      → ws″ ≡ sets (set ws′ 7 (r .count)) 8 (lineWords s) → ws″ ≡ rakeWords r s
+  pub rake-stored : (r : Rake) (search : Search) {code : ℕ} {ws ws′ ws″ : List ℕ} → code ≡ codeBy search 4 → ws ≡ sets (coded code) 1 (vecWords (r .start))
+      → ws′ ≡ sets ws 4 (vecWords (r .end)) → ws″ ≡ sets (set ws′ 7 (r .count)) 8 (lineWords s) → ws″ ≡ rakeWords r s search
   unfolding rakeWords padded vecWords lineWords
-  rake-stored r e f g = rw (f, e) at g
+  rake-stored r search k e f g = rw (f, e, k) at g
 
 module _ (s : Plane) where
   pub section-stored : {ws : List ℕ} → ws ≡ sets (coded 5) 1 (planeWords s) → ws ≡ sectionWords s
@@ -126,13 +128,23 @@ padded-whole ws n h =
       words = all-append Word ws _ h (zeros (16 - length ws));
     }
 
-pub locate-whole : (p : Vec3) → F64s p → Whole (locateWords p)
-unfolding locateWords vecWords
-locate-whole p h = padded-whole (1 ∷ vecWords p) (omega arith) (omega arith, vec-words p h)
+code-is : (search : Search) (code : ℕ) → code ≤ 4 → Word (codeBy search code)
+unfolding codeBy
+code-is Search.Bins code h = omega arith
+code-is Search.All code h = omega arith
 
-pub velocity-whole : (p : Vec3) → F64s p → Whole (velocityWords p)
+sheet-code-is : (search : Search) → Word (sheetCode search)
+unfolding sheetCode
+sheet-code-is Search.Bins = omega arith
+sheet-code-is Search.All = omega arith
+
+pub locate-whole : (p : Vec3) (search : Search) → F64s p → Whole (locateWords p search)
+unfolding locateWords vecWords
+locate-whole p search h = padded-whole (codeBy search 1 ∷ vecWords p) (omega arith) (code-is search 1 (omega arith), vec-words p h)
+
+pub velocity-whole : (p : Vec3) (search : Search) → F64s p → Whole (velocityWords p search)
 unfolding velocityWords vecWords
-velocity-whole p h = padded-whole (2 ∷ vecWords p) (omega arith) (omega arith, vec-words p h)
+velocity-whole p search h = padded-whole (codeBy search 2 ∷ vecWords p) (omega arith) (code-is search 2 (omega arith), vec-words p h)
 
 -- the seeds of a rake
 pub record RakeHeld (r : Rake) : Type 0 where
@@ -146,12 +158,12 @@ module _ (s : StreamlineSettings) (l : OptionsHeld (s .options)) where
   one-line-whole code seed w h =
       padded-whole (code ∷ (vecWords seed ++ lineWords s)) (omega arith) (w, all-append Word (vecWords seed) (lineWords s) (vec-words seed h) (line-words s l))
 
-  pub rake-whole : (r : Rake) → RakeHeld r → Whole (rakeWords r s)
+  pub rake-whole : (r : Rake) (search : Search) → RakeHeld r → Whole (rakeWords r s search)
   unfolding rakeWords vecWords lineWords
-  rake-whole r h =
+  rake-whole r search h =
       let later : List ℕ = vecWords (r .end) ++ r .count ∷ lineWords s in
-      padded-whole (4 ∷ (vecWords (r .start) ++ later)) (omega arith)
-      (omega arith, all-append Word (vecWords (r .start)) later (vec-words (r .start) (h .start)) (all-append Word (vecWords (r .end)) (r .count ∷ lineWords s) (vec-words (r .end) (h .end)) (h .count, line-words s l)))
+      padded-whole (codeBy search 4 ∷ (vecWords (r .start) ++ later)) (omega arith)
+      (code-is search 4 (omega arith), all-append Word (vecWords (r .start)) later (vec-words (r .start) (h .start)) (all-append Word (vecWords (r .end)) (r .count ∷ lineWords s) (vec-words (r .end) (h .end)) (h .count, line-words s l)))
 
 module _ (s : Plane) (h : PlaneHeld s) where
   pub section-whole : Whole (sectionWords s)
@@ -179,18 +191,21 @@ list-of-one {ws} w = one-request ws (w .long) (w .words)
 abbrev pub Alone : List ℕ → Type 0
 Alone ws = requestsIn (bytesOf ws) ≡ ws ∷ []
 
-pub locate-alone : (p : Vec3) → F64s p → Alone (locateWords p)
-locate-alone p h = list-of-one (locate-whole p h)
+pub locate-alone : (p : Vec3) (search : Search) → F64s p → Alone (locateWords p search)
+locate-alone p search h = list-of-one (locate-whole p search h)
 
-pub velocity-alone : (p : Vec3) → F64s p → Alone (velocityWords p)
-velocity-alone p h = list-of-one (velocity-whole p h)
+pub velocity-alone : (p : Vec3) (search : Search) → F64s p → Alone (velocityWords p search)
+velocity-alone p search h = list-of-one (velocity-whole p search h)
 
 module _ (s : StreamlineSettings) (l : OptionsHeld (s .options)) where
-  pub one-line-alone : (code : ℕ) (seed : Vec3) → Word code → F64s seed → Alone (oneLineWords code seed s)
-  one-line-alone code seed w h = list-of-one (one-line-whole s l code seed w h)
+  pub streamline-alone : (seed : Vec3) (search : Search) → F64s seed → Alone (streamlineWords seed s search)
+  streamline-alone seed search h = list-of-one (one-line-whole s l (codeBy search 3) seed (code-is search 3 (omega arith)) h)
 
-  pub rake-alone : (r : Rake) → RakeHeld r → Alone (rakeWords r s)
-  rake-alone r h = list-of-one (rake-whole s l r h)
+  pub sheet-alone : (seed : Vec3) (search : Search) → F64s seed → Alone (sheetWords seed s search)
+  sheet-alone seed search h = list-of-one (one-line-whole s l (sheetCode search) seed (sheet-code-is search) h)
+
+  pub rake-alone : (r : Rake) (search : Search) → RakeHeld r → Alone (rakeWords r s search)
+  rake-alone r search h = list-of-one (rake-whole s l r search h)
 
 module _ (s : Plane) (h : PlaneHeld s) where
   pub section-alone : Alone (sectionWords s)

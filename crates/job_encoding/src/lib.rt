@@ -5,12 +5,34 @@ use job_requests::encode;
 use lines::Rake;
 use lines::StreamlineDirection;
 use lines::StreamlineSettings;
+use lines_locate::Search;
 use planes_cut::Plane;
 ghost use mathlib.Core.Path.{_≡_};
-ghost use Prim.Native.Nat.{_<_};
+ghost use Prim.Native.Nat.{_≤_, _<_};
 ghost use lib.Seq.{sets};
 ghost use Rattle.job_requests.specs.Encode.{bytesOf};
-ghost use Rattle.job_encoding.specs.Single.{directionWord, lineWords, planeWords, locateWords, velocityWords, oneLineWords, streamlineWords, sheetWords, rakeWords, sectionWords, statisticsWords, integralsWords, probeWords};
+ghost use Rattle.job_encoding.specs.Single.{codeBy, sheetCode, directionWord, lineWords, planeWords, locateWords, velocityWords, oneLineWords, streamlineWords, sheetWords, rakeWords, sectionWords, statisticsWords, integralsWords, probeWords};
+
+// Codes 1 to 4 by the bins, 9 to 12 by all cells.
+fn code_by(search: Search, code: u64) -> u64
+    requires { ⌜ code ≤ 4 ⌝ }
+    ensures { λ r. ⌜ r ≡ codeBy search code ⌝ }
+{
+    match search {
+        Search::Bins => code,
+        Search::All => code + 8,
+    }
+}
+
+// 13 by the bins, 14 by all cells.
+fn sheet_code(search: Search) -> u64
+    ensures { λ r. ⌜ r ≡ sheetCode search ⌝ }
+{
+    match search {
+        Search::Bins => 13,
+        Search::All => 14,
+    }
+}
 
 // 0 forward, 1 backward.
 fn direction_word(d: StreamlineDirection) -> u64
@@ -55,21 +77,21 @@ fn encoded(request: &[u64; 16]) -> [u8; 128]
 }
 
 // The cell at a point.
-pub fn locate(p: Vec3) -> [u8; 128]
-    ensures { λ r. ⌜ r ≡ bytesOf (locateWords p) ⌝ }
+pub fn locate(p: Vec3, search: Search) -> [u8; 128]
+    ensures { λ r. ⌜ r ≡ bytesOf (locateWords p search) ⌝ }
 {
     let mut request = [0; 16];
-    request[0] = 1;
+    request[0] = code_by(search, 1);
     answers::put_vec(&mut request, 1, p);
     encoded(&request)
 }
 
 // The velocity at a point.
-pub fn velocity(p: Vec3) -> [u8; 128]
-    ensures { λ r. ⌜ r ≡ bytesOf (velocityWords p) ⌝ }
+pub fn velocity(p: Vec3, search: Search) -> [u8; 128]
+    ensures { λ r. ⌜ r ≡ bytesOf (velocityWords p search) ⌝ }
 {
     let mut request = [0; 16];
-    request[0] = 2;
+    request[0] = code_by(search, 2);
     answers::put_vec(&mut request, 1, p);
     encoded(&request)
 }
@@ -86,25 +108,25 @@ fn one_line(code: u64, seed: Vec3, settings: StreamlineSettings) -> [u8; 128]
 }
 
 // The line from a seed.
-pub fn streamline(seed: Vec3, settings: StreamlineSettings) -> [u8; 128]
-    ensures { λ r. ⌜ r ≡ bytesOf (streamlineWords seed settings) ⌝ }
+pub fn streamline(seed: Vec3, settings: StreamlineSettings, search: Search) -> [u8; 128]
+    ensures { λ r. ⌜ r ≡ bytesOf (streamlineWords seed settings search) ⌝ }
 {
-    one_line(3, seed, settings)
+    one_line(code_by(search, 3), seed, settings)
 }
 
 // Its sheet.
-pub fn sheet(seed: Vec3, settings: StreamlineSettings) -> [u8; 128]
-    ensures { λ r. ⌜ r ≡ bytesOf (sheetWords seed settings) ⌝ }
+pub fn sheet(seed: Vec3, settings: StreamlineSettings, search: Search) -> [u8; 128]
+    ensures { λ r. ⌜ r ≡ bytesOf (sheetWords seed settings search) ⌝ }
 {
-    one_line(13, seed, settings)
+    one_line(sheet_code(search), seed, settings)
 }
 
 // The lines from the seeds of a rake.
-pub fn rake(seeds: Rake, settings: StreamlineSettings) -> [u8; 128]
-    ensures { λ r. ⌜ r ≡ bytesOf (rakeWords seeds settings) ⌝ }
+pub fn rake(seeds: Rake, settings: StreamlineSettings, search: Search) -> [u8; 128]
+    ensures { λ r. ⌜ r ≡ bytesOf (rakeWords seeds settings search) ⌝ }
 {
     let mut request = [0; 16];
-    request[0] = 4;
+    request[0] = code_by(search, 4);
     answers::put_vec(&mut request, 1, seeds.start);
     answers::put_vec(&mut request, 4, seeds.end);
     request[7] = seeds.count as u64;

@@ -6,12 +6,13 @@ use Rattle.job_encoding.proofs.locate.Statement.{statement}
 use Rattle.job_encoding.proofs.locate.Tie as tie
 
 returns : tie.Need-returns
-returns c = c .encoded .ensures ∙ ap bytesOf (locate-stored _ (c .before .before .before .put-vec .ensures))
+returns c = c .encoded .ensures ∙ ap bytesOf (locate-stored _ _ (c .before .before .before .before .before .code-by .ensures) (c .before .before .before .put-vec .ensures))
 
 pub locate-spec : {M : Type 1} → statement M
 locate-spec =
     tie.close
     (tie.spec
+    (λ c κs. search needs)
     (λ c. search needs)
     (λ c. search needs)
     (λ c κs. search needs)

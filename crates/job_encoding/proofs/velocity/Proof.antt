@@ -6,12 +6,13 @@ use Rattle.job_encoding.proofs.velocity.Statement.{statement}
 use Rattle.job_encoding.proofs.velocity.Tie as tie
 
 returns : tie.Need-returns
-returns c = c .encoded .ensures ∙ ap bytesOf (velocity-stored _ (c .before .before .before .put-vec .ensures))
+returns c = c .encoded .ensures ∙ ap bytesOf (velocity-stored _ _ (c .before .before .before .before .before .code-by .ensures) (c .before .before .before .put-vec .ensures))
 
 pub velocity-spec : {M : Type 1} → statement M
 velocity-spec =
     tie.close
     (tie.spec
+    (λ c κs. search needs)
     (λ c. search needs)
     (λ c. search needs)
     (λ c κs. search needs)
