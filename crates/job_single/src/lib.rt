@@ -3,6 +3,7 @@ use arith::Vec3;
 use job_promise::Outcome;
 use lines::Rake;
 use lines::StreamlineSettings;
+use lines_locate::Search;
 use planes_cut::Plane;
 ghost use mathlib.Core.Path.{_≡_};
 ghost use lib.ListN.{length};
@@ -15,17 +16,18 @@ ghost use Rattle.job_encoding.specs.Single.{locateWords, velocityWords, streaml
 pub fn locate(
     case: &[u8],
     p: Vec3,
+    search: Search,
     words: &mut [u32],
     floats: &mut [f64],
     marks: &mut [u8],
     answers: &mut [u64],
 ) -> Outcome
-    ensures { λ r. ⌜ JobPromise (now (case .entry)) (bytesOf (locateWords p))
+    ensures { λ r. ⌜ JobPromise (now (case .entry)) (bytesOf (locateWords p search))
         (length (now (words .entry))) (length (now (floats .entry))) (now (answers .entry)) (now (marks .entry))
         (record { result = numberOf r; answers = now (answers .exit); marks = now (marks .exit) }) ⌝ }
     ensures { λ r. ⌜ r ≡ outcomeOf (numberOf r) ⌝ }
 {
-    let request = job_encoding::locate(p);
+    let request = job_encoding::locate(p, search);
     job::job(case, &request, words, floats, marks, answers)
 }
 
@@ -33,17 +35,18 @@ pub fn locate(
 pub fn velocity(
     case: &[u8],
     p: Vec3,
+    search: Search,
     words: &mut [u32],
     floats: &mut [f64],
     marks: &mut [u8],
     answers: &mut [u64],
 ) -> Outcome
-    ensures { λ r. ⌜ JobPromise (now (case .entry)) (bytesOf (velocityWords p))
+    ensures { λ r. ⌜ JobPromise (now (case .entry)) (bytesOf (velocityWords p search))
         (length (now (words .entry))) (length (now (floats .entry))) (now (answers .entry)) (now (marks .entry))
         (record { result = numberOf r; answers = now (answers .exit); marks = now (marks .exit) }) ⌝ }
     ensures { λ r. ⌜ r ≡ outcomeOf (numberOf r) ⌝ }
 {
-    let request = job_encoding::velocity(p);
+    let request = job_encoding::velocity(p, search);
     job::job(case, &request, words, floats, marks, answers)
 }
 
@@ -52,17 +55,18 @@ pub fn streamline(
     case: &[u8],
     seed: Vec3,
     settings: StreamlineSettings,
+    search: Search,
     words: &mut [u32],
     floats: &mut [f64],
     marks: &mut [u8],
     answers: &mut [u64],
 ) -> Outcome
-    ensures { λ r. ⌜ JobPromise (now (case .entry)) (bytesOf (streamlineWords seed settings))
+    ensures { λ r. ⌜ JobPromise (now (case .entry)) (bytesOf (streamlineWords seed settings search))
         (length (now (words .entry))) (length (now (floats .entry))) (now (answers .entry)) (now (marks .entry))
         (record { result = numberOf r; answers = now (answers .exit); marks = now (marks .exit) }) ⌝ }
     ensures { λ r. ⌜ r ≡ outcomeOf (numberOf r) ⌝ }
 {
-    let request = job_encoding::streamline(seed, settings);
+    let request = job_encoding::streamline(seed, settings, search);
     job::job(case, &request, words, floats, marks, answers)
 }
 
@@ -71,17 +75,18 @@ pub fn sheet(
     case: &[u8],
     seed: Vec3,
     settings: StreamlineSettings,
+    search: Search,
     words: &mut [u32],
     floats: &mut [f64],
     marks: &mut [u8],
     answers: &mut [u64],
 ) -> Outcome
-    ensures { λ r. ⌜ JobPromise (now (case .entry)) (bytesOf (sheetWords seed settings))
+    ensures { λ r. ⌜ JobPromise (now (case .entry)) (bytesOf (sheetWords seed settings search))
         (length (now (words .entry))) (length (now (floats .entry))) (now (answers .entry)) (now (marks .entry))
         (record { result = numberOf r; answers = now (answers .exit); marks = now (marks .exit) }) ⌝ }
     ensures { λ r. ⌜ r ≡ outcomeOf (numberOf r) ⌝ }
 {
-    let request = job_encoding::sheet(seed, settings);
+    let request = job_encoding::sheet(seed, settings, search);
     job::job(case, &request, words, floats, marks, answers)
 }
 
@@ -90,17 +95,18 @@ pub fn rake(
     case: &[u8],
     seeds: Rake,
     settings: StreamlineSettings,
+    search: Search,
     words: &mut [u32],
     floats: &mut [f64],
     marks: &mut [u8],
     answers: &mut [u64],
 ) -> Outcome
-    ensures { λ r. ⌜ JobPromise (now (case .entry)) (bytesOf (rakeWords seeds settings))
+    ensures { λ r. ⌜ JobPromise (now (case .entry)) (bytesOf (rakeWords seeds settings search))
         (length (now (words .entry))) (length (now (floats .entry))) (now (answers .entry)) (now (marks .entry))
         (record { result = numberOf r; answers = now (answers .exit); marks = now (marks .exit) }) ⌝ }
     ensures { λ r. ⌜ r ≡ outcomeOf (numberOf r) ⌝ }
 {
-    let request = job_encoding::rake(seeds, settings);
+    let request = job_encoding::rake(seeds, settings, search);
     job::job(case, &request, words, floats, marks, answers)
 }
 
