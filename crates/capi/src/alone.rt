@@ -1,4 +1,5 @@
-// Each request alone: 0 or the refusal.
+// Each request alone: 0 or the refusal. Where `all_cells` holds, a point is looked for in all cells
+// (codes 9 to 12 and 14), and else in those of its bin (codes 1 to 4 and 13).
 use capi_values::LineOptions;
 use capi_values::SectionPlane;
 use capi_values::Vector;
@@ -8,23 +9,33 @@ ghost use lib.ListN.{length};
 ghost use Rattle.job_requests.specs.Encode.{bytesOf};
 ghost use Rattle.job_promise.specs.Promise.{JobPromise};
 ghost use Rattle.job_encoding.specs.Single.{locateWords, velocityWords, streamlineWords, sheetWords, rakeWords, sectionWords, statisticsWords, integralsWords, probeWords};
-ghost use Rattle.capi_values.specs.Convert.{vectorOf, planeOf, settingsOf, rakeOf};
+ghost use Rattle.capi_values.specs.Convert.{vectorOf, planeOf, settingsOf, rakeOf, searchOf};
 
 // The cell at a point.
 #[no_mangle]
 pub extern "C" fn hookyellow_locate(
     case: &[u8],
     p: Vector,
+    all_cells: bool,
     words: &mut [u32],
     floats: &mut [f64],
     marks: &mut [u8],
     answers: &mut [u64],
 ) -> u64
-    ensures { λ r. ⌜ JobPromise (now (case .entry)) (bytesOf (locateWords (vectorOf p)))
+    ensures { λ r. ⌜ JobPromise (now (case .entry))
+        (bytesOf (locateWords (vectorOf p) (searchOf «all_cells»)))
         (length (now (words .entry))) (length (now (floats .entry))) (now (answers .entry)) (now (marks .entry))
         (record { result = r; answers = now (answers .exit); marks = now (marks .exit) }) ⌝ }
 {
-    number_of(job_single::locate(case, convert::vector(p), words, floats, marks, answers))
+    number_of(job_single::locate(
+        case,
+        convert::vector(p),
+        convert::search(all_cells),
+        words,
+        floats,
+        marks,
+        answers,
+    ))
 }
 
 // The velocity at a point.
@@ -32,16 +43,26 @@ pub extern "C" fn hookyellow_locate(
 pub extern "C" fn hookyellow_velocity(
     case: &[u8],
     p: Vector,
+    all_cells: bool,
     words: &mut [u32],
     floats: &mut [f64],
     marks: &mut [u8],
     answers: &mut [u64],
 ) -> u64
-    ensures { λ r. ⌜ JobPromise (now (case .entry)) (bytesOf (velocityWords (vectorOf p)))
+    ensures { λ r. ⌜ JobPromise (now (case .entry))
+        (bytesOf (velocityWords (vectorOf p) (searchOf «all_cells»)))
         (length (now (words .entry))) (length (now (floats .entry))) (now (answers .entry)) (now (marks .entry))
         (record { result = r; answers = now (answers .exit); marks = now (marks .exit) }) ⌝ }
 {
-    number_of(job_single::velocity(case, convert::vector(p), words, floats, marks, answers))
+    number_of(job_single::velocity(
+        case,
+        convert::vector(p),
+        convert::search(all_cells),
+        words,
+        floats,
+        marks,
+        answers,
+    ))
 }
 
 // The line from a seed.
@@ -57,7 +78,8 @@ pub extern "C" fn hookyellow_streamline(
     answers: &mut [u64],
 ) -> u64
     ensures { λ r. ⌜ JobPromise (now (case .entry))
-        (bytesOf (streamlineWords (vectorOf seed) (settingsOf backward options)))
+        (bytesOf (streamlineWords (vectorOf seed) (settingsOf backward options)
+        (searchOf (options .«all_cells»))))
         (length (now (words .entry))) (length (now (floats .entry))) (now (answers .entry)) (now (marks .entry))
         (record { result = r; answers = now (answers .exit); marks = now (marks .exit) }) ⌝ }
 {
@@ -65,6 +87,7 @@ pub extern "C" fn hookyellow_streamline(
         case,
         convert::vector(seed),
         convert::settings(backward, options),
+        convert::search(options.all_cells),
         words,
         floats,
         marks,
@@ -85,7 +108,8 @@ pub extern "C" fn hookyellow_sheet(
     answers: &mut [u64],
 ) -> u64
     ensures { λ r. ⌜ JobPromise (now (case .entry))
-        (bytesOf (sheetWords (vectorOf seed) (settingsOf backward options)))
+        (bytesOf (sheetWords (vectorOf seed) (settingsOf backward options)
+        (searchOf (options .«all_cells»))))
         (length (now (words .entry))) (length (now (floats .entry))) (now (answers .entry)) (now (marks .entry))
         (record { result = r; answers = now (answers .exit); marks = now (marks .exit) }) ⌝ }
 {
@@ -93,6 +117,7 @@ pub extern "C" fn hookyellow_sheet(
         case,
         convert::vector(seed),
         convert::settings(backward, options),
+        convert::search(options.all_cells),
         words,
         floats,
         marks,
@@ -115,7 +140,8 @@ pub extern "C" fn hookyellow_rake(
     answers: &mut [u64],
 ) -> u64
     ensures { λ r. ⌜ JobPromise (now (case .entry))
-        (bytesOf (rakeWords (rakeOf start end count) (settingsOf backward options)))
+        (bytesOf (rakeWords (rakeOf start end count) (settingsOf backward options)
+        (searchOf (options .«all_cells»))))
         (length (now (words .entry))) (length (now (floats .entry))) (now (answers .entry)) (now (marks .entry))
         (record { result = r; answers = now (answers .exit); marks = now (marks .exit) }) ⌝ }
 {
@@ -123,6 +149,7 @@ pub extern "C" fn hookyellow_rake(
         case,
         convert::seeds(start, end, count),
         convert::settings(backward, options),
+        convert::search(options.all_cells),
         words,
         floats,
         marks,

@@ -1,5 +1,6 @@
 -- The values of the exported functions as those of the crates below.
 -- `vectorOf`, `planeOf`: a vector, a plane. `directionOf`, `optionsOf`, `settingsOf`: the settings of a line. `rakeOf`: a rake.
+-- `searchOf`: which cells a point is looked for in.
 use Prim.Native.Nat.{ℕ}
 use mathlib.Core.Bool.{Bool, true, false}
 use Rattle.arith.specs.declared.Vec3.{Vec3}
@@ -8,6 +9,8 @@ use Rattle.lines.specs.declared.StreamlineDirection.{StreamlineDirection}
 use Rattle.lines.specs.declared.StreamlineDirection.the-variants.{Forward, Backward}
 use Rattle.lines.specs.declared.StreamlineSettings.{StreamlineSettings}
 use Rattle.lines.specs.declared.Rake.{Rake}
+use Rattle.lines_locate.specs.declared.Search.{Search}
+use Rattle.lines_locate.specs.declared.Search.the-variants.{Bins, All}
 use Rattle.planes_cut.specs.declared.Plane.{Plane}
 use Rattle.capi_values.specs.declared.Vector.{Vector}
 use Rattle.capi_values.specs.declared.SectionPlane.{SectionPlane}
@@ -43,3 +46,8 @@ settingsOf backward o = record { direction = directionOf backward; options = opt
 -- a rake by its two ends and its number of seeds
 unfoldable pub rakeOf : Vector → Vector → ℕ → Rake
 rakeOf start end count = record { start = vectorOf start; end = vectorOf end; count = count }
+
+-- all cells, or those that are listed in the point's bin
+unfoldable pub searchOf : Bool → Search
+searchOf true = All
+searchOf false = Bins

@@ -6,10 +6,11 @@ use arith::Vec3;
 use lines::Rake;
 use lines::StreamlineDirection;
 use lines::StreamlineSettings;
+use lines_locate::Search;
 use lines_step::StreamlineOptions;
 use planes_cut::Plane;
 ghost use mathlib.Core.Path.{_≡_};
-ghost use Rattle.capi_values.specs.Convert.{vectorOf, planeOf, directionOf, optionsOf, settingsOf, rakeOf};
+ghost use Rattle.capi_values.specs.Convert.{vectorOf, planeOf, directionOf, optionsOf, settingsOf, rakeOf, searchOf};
 
 pub fn vector(p: Vector) -> Vec3
     ensures { λ r. ⌜ r ≡ vectorOf p ⌝ }
@@ -69,4 +70,10 @@ pub fn seeds(start: Vector, end: Vector, count: usize) -> Rake
         end: vector(end),
         count,
     }
+}
+
+pub fn search(all_cells: bool) -> Search
+    ensures { λ r. ⌜ r ≡ searchOf «all_cells» ⌝ }
+{
+    if all_cells { Search::All } else { Search::Bins }
 }

@@ -17,11 +17,13 @@ pub struct SectionPlane {
     pub v: Vector,
 }
 
-// How a line is followed.
+// How a line is followed, and whether a point is looked for in all cells, not in those of its bin
+// alone.
 #[repr(C)]
 pub struct LineOptions {
     pub step_size: f64,
     pub max_steps: usize,
     pub max_length: f64,
     pub stagnation_speed: f64,
+    pub all_cells: bool,
 }
