@@ -6,6 +6,7 @@ pub mod Starred
 pub mod Rakes
 pub mod AboveMesh
 pub mod BadField
+pub mod FarBorder
 pub mod Fluxes
 pub mod Heights
 pub mod Listing
