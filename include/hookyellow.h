@@ -34,12 +34,14 @@ typedef struct hookyellow_plane {
     hookyellow_vector origin, u, v;
 } hookyellow_plane;
 
-/* How a line is followed. */
+/* How a line is followed. all_cells says among which cells its points are located: false, those of
+ * the point's bin (codes 3, 4 and 13); true, all cells (codes 11, 12 and 14). */
 typedef struct hookyellow_line_options {
     double step_size;
     size_t max_steps;
     double max_length;
     double stagnation_speed;
+    bool all_cells;
 } hookyellow_line_options;
 
 /* The least lengths of the buffers of a job on a case: needs[0] words, needs[1] floats and needs[2] marks.
@@ -60,25 +62,29 @@ uint64_t hookyellow_job(const uint8_t *case_bytes, size_t case_length,
                         uint8_t *marks, size_t marks_length,
                         uint64_t *answers, size_t answers_length);
 
-/* Each request alone: a job of that one request. Result, buffers and answer are as in hookyellow_job; 2 answer words at least. */
+/* Each request alone: a job of that one request. Result, buffers and answer are as in hookyellow_job; 2 answer words at least.
+ *
+ * A point locates in the lowest cell whose polygon contains it: with all_cells of all cells, else
+ * of those that are listed in the point's bin, where some cells at the far border are listed in none
+ * (docs/DIFFERENCES.md, "Bins lose the far border"). */
 
-/* 1: the cell that a point locates in. */
+/* 1, with all_cells 9: the cell that a point locates in. */
 uint64_t hookyellow_locate(const uint8_t *case_bytes, size_t case_length,
-                           hookyellow_vector point,
+                           hookyellow_vector point, bool all_cells,
                            uint32_t *words, size_t words_length,
                            double *floats, size_t floats_length,
                            uint8_t *marks, size_t marks_length,
                            uint64_t *answers, size_t answers_length);
 
-/* 2: the velocity at a point. */
+/* 2, with all_cells 10: the velocity at a point. */
 uint64_t hookyellow_velocity(const uint8_t *case_bytes, size_t case_length,
-                             hookyellow_vector point,
+                             hookyellow_vector point, bool all_cells,
                              uint32_t *words, size_t words_length,
                              double *floats, size_t floats_length,
                              uint8_t *marks, size_t marks_length,
                              uint64_t *answers, size_t answers_length);
 
-/* 3: the line from a seed. */
+/* 3, with all_cells 11: the line from a seed. */
 uint64_t hookyellow_streamline(const uint8_t *case_bytes, size_t case_length,
                                hookyellow_vector seed, bool backward, hookyellow_line_options options,
                                uint32_t *words, size_t words_length,
@@ -86,7 +92,7 @@ uint64_t hookyellow_streamline(const uint8_t *case_bytes, size_t case_length,
                                uint8_t *marks, size_t marks_length,
                                uint64_t *answers, size_t answers_length);
 
-/* 4: the lines from count seeds, spread from start to end. */
+/* 4, with all_cells 12: the lines from count seeds, spread from start to end. */
 uint64_t hookyellow_rake(const uint8_t *case_bytes, size_t case_length,
                          hookyellow_vector start, hookyellow_vector end, size_t count, bool backward, hookyellow_line_options options,
                          uint32_t *words, size_t words_length,
@@ -126,7 +132,8 @@ uint64_t hookyellow_probe(const uint8_t *case_bytes, size_t case_length,
                           uint8_t *marks, size_t marks_length,
                           uint64_t *answers, size_t answers_length);
 
-/* 13: the line from a seed in whole millimetres: a point count, then x and y of each point, int64_t in the words. */
+/* 13, with all_cells 14: the line from a seed in whole millimetres: a point count, then x and y of
+ * each point, int64_t in the words. */
 uint64_t hookyellow_sheet(const uint8_t *case_bytes, size_t case_length,
                           hookyellow_vector seed, bool backward, hookyellow_line_options options,
                           uint32_t *words, size_t words_length,

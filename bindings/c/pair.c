@@ -4,7 +4,9 @@
  *     cc -std=c11 -Wall -Wextra -pedantic -Werror -I include bindings/c/pair.c target/staticlib/libcapi.a -o pair && ./pair
  *
  * Everything that is expected stands in docs/01-scope.md: in "Known rooms", or under the number of a refusal. The sheet is
- * 01's 0.5 line in millimetres (docs/FORMAT.md). Ends with 1 where a check fails. */
+ * 01's 0.5 line in millimetres (docs/FORMAT.md). Among all cells the points of the right square are
+ * found too: it is the lowest cell whose polygon contains them (docs/02-change-requests.md, Q-2).
+ * Ends with 1 where a check fails. */
 #include "hookyellow.h"
 #include <stdio.h>
 #include <string.h>
@@ -115,23 +117,45 @@ static void check_job(void) {
 /* The starred rooms of Pair, each request alone */
 static void check_alone(void) {
     const hookyellow_vector inside = {0.5, 0.5, 0}, end = {2, 0.5, 0}, quarter = {0.25, 0.5, 0};
-    const hookyellow_line_options still = {0.25, 10, 0.5, 1}, half = {0.25, 10, 0.5, 0};
+    const hookyellow_line_options still = {0.25, 10, 0.5, 1, false}, half = {0.25, 10, 0.5, 0, false};
     const uint64_t sheet[9] = {0, 7, 3, 250, 500, 500, 500, 750, 500};
     const uint64_t cell[3] = {0, 1, 0}, none[3] = {0, 1, NONE}, one[6] = {0, 4, 1, 0x3ff0000000000000, 0, 0};
     const uint64_t seed[6] = {0, 4, 1, 0x3fd0000000000000, 0x3fe0000000000000, 0};
     fill();
-    check(hookyellow_locate(CASE, inside, BUFFERS) == 0 && leaves(cell, 3, 0, 0), "locate (0.5,0.5): 0");
-    check(hookyellow_locate(CASE, end, BUFFERS) == 0 && leaves(none, 3, 0, 0), "locate (2,0.5): none");
-    check(hookyellow_velocity(CASE, quarter, BUFFERS) == 0 && leaves(one, 6, 1, 1), "velocity at (0.25,0.5): (1,0,0)");
+    check(hookyellow_locate(CASE, inside, false, BUFFERS) == 0 && leaves(cell, 3, 0, 0), "locate (0.5,0.5): 0");
+    check(hookyellow_locate(CASE, end, false, BUFFERS) == 0 && leaves(none, 3, 0, 0), "locate (2,0.5): none");
+    check(hookyellow_velocity(CASE, quarter, false, BUFFERS) == 0 && leaves(one, 6, 1, 1), "velocity at (0.25,0.5): (1,0,0)");
     check(hookyellow_streamline(CASE, quarter, false, still, BUFFERS) == 0 && leaves(seed, 6, 1, 1),
           "line with stagnation 1: the seed alone");
     check(hookyellow_sheet(CASE, quarter, false, half, BUFFERS) == 0 && leaves(sheet, 9, 1, 1), "the 0.5 line in millimetres");
 }
 
+/* The right square, whose points locate by no bin, among all cells: a line from its centre
+ * (1.5, 0.5) in steps of 0.25 ends on the far side, x = 2 */
+static void check_all_cells(void) {
+    const hookyellow_vector shared = {1, 0.5, 0}, centre = {1.5, 0.5, 0}, end = {2, 0.5, 0};
+    const hookyellow_vector low = {1.5, 0.25, 0}, high = {1.5, 0.75, 0};
+    const hookyellow_line_options all = {0.25, 10, 9, 0, true}, bins = {0.25, 10, 9, 0, false};
+    const uint64_t left[3] = {0, 1, 0}, right[3] = {0, 1, 1}, three[6] = {0, 4, 1, bits(3), 0, 0}, no_seed[2] = {35, 0};
+    const uint64_t line[12] = {0, 10, 3, bits(1.5), bits(0.5), 0, bits(1.75), bits(0.5), 0, bits(2), bits(0.5), 0};
+    const uint64_t rake[23] = {0, 21, 2, 3, bits(1.5), bits(0.25), 0, bits(1.75), bits(0.25), 0, bits(2), bits(0.25), 0,
+                               3, bits(1.5), bits(0.75), 0, bits(1.75), bits(0.75), 0, bits(2), bits(0.75), 0};
+    const uint64_t sheet[9] = {0, 7, 3, 1500, 500, 1750, 500, 2000, 500};
+    fill();
+    check(hookyellow_locate(CASE, shared, true, BUFFERS) == 0 && leaves(left, 3, 0, 0), "all cells, (1,0.5): 0");
+    check(hookyellow_locate(CASE, centre, true, BUFFERS) == 0 && leaves(right, 3, 0, 0), "all cells, (1.5,0.5): 1");
+    check(hookyellow_locate(CASE, end, true, BUFFERS) == 0 && leaves(right, 3, 0, 0), "all cells, (2,0.5): 1");
+    check(hookyellow_velocity(CASE, centre, true, BUFFERS) == 0 && leaves(three, 6, 1, 1), "all cells, velocity: 3");
+    check(hookyellow_streamline(CASE, centre, false, bins, BUFFERS) == 0 && leaves(no_seed, 2, 0, 0), "by bins: 35");
+    check(hookyellow_streamline(CASE, centre, false, all, BUFFERS) == 0 && leaves(line, 12, 1, 1), "all cells, line");
+    check(hookyellow_rake(CASE, low, high, 2, false, all, BUFFERS) == 0 && leaves(rake, 23, 1, 1), "all cells, rake");
+    check(hookyellow_sheet(CASE, centre, false, all, BUFFERS) == 0 && leaves(sheet, 9, 1, 1), "all cells, sheet");
+}
+
 /* Refusals 1, 4 and 32, with NULL for what has length 0; how much Pair needs: "16F+96C words or 12F+64C floats" */
 static void check_limits(void) {
     const hookyellow_vector start = {0.25, 0.25, 0}, end = {0.25, 0.75, 0};
-    const hookyellow_line_options options = {0.25, 10, 0.5, 0};
+    const hookyellow_line_options options = {0.25, 10, 0.5, 0, false};
     const uint64_t refused[2] = {32, 0};
     size_t needs[3] = {9, 9, 9};
     check(hookyellow_needs(CASE, needs, 2) == 21 && needs[0] == 9 && needs[1] == 9, "two places for three needs");
@@ -158,6 +182,7 @@ int main(void) {
     build_pair();
     check_job();
     check_alone();
+    check_all_cells();
     check_limits();
     build_cube();
     check_cube();

@@ -68,8 +68,11 @@ static void ask(task *t, uint64_t code, uint32_t n) {
     uint64_t line[5] = {0, bits(0.125), 4096, bits(1e6), 0};
     uint64_t plane[9] = {bits(m), bits(m), bits(m + 0.25), bits(0.6), 0, bits(0.8), 0, bits(1), 0};
     uint64_t words[16] = {code, bits(m + 0.75), bits(m + 0.25), 0};
-    if (code == 3 || code == 13) memcpy(words + 4, line, sizeof line);
-    if (code == 4) words[4] = bits(m - 0.75), words[5] = bits(m - 0.25), words[7] = 8, memcpy(words + 8, line, sizeof line);
+    if (code == 3 || code == 11 || code >= 13) memcpy(words + 4, line, sizeof line);
+    if (code == 4 || code == 12) {
+        words[4] = bits(m - 0.75), words[5] = bits(m - 0.25), words[7] = 8;
+        memcpy(words + 8, line, sizeof line);
+    }
     if (code >= 5 && code <= 8) memcpy(words + 1, plane, sizeof plane);
     if (code == 8) memcpy(words + 10, plane, 3 * sizeof *plane);
     size_t at = 0;
@@ -107,10 +110,8 @@ int main(void) {
               .answers = calloc(ANSWERS, 8)};
     if (!t.bytes || !t.words || !t.floats || !t.marks || !t.answers) return 2;
     size_t most = 0, thread = used(nothing, &t);
-    const uint64_t codes[] = {1, 2, 3, 4, 5, 6, 7, 8, 13};
-    for (size_t k = 0; k < sizeof codes / sizeof *codes; k++) {
-        uint64_t code = codes[k];
-        int flat = code < 5 || code == 13;
+    for (uint64_t code = 1; code <= 14; code++) {
+        int flat = code < 5 || code > 8;
         uint32_t small = 4, large = flat ? 128 : 25;
         for (uint32_t n = small; n <= large; n += large - small) {
             build(&t, flat ? 2 : 3, n);
