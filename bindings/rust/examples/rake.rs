@@ -4,8 +4,9 @@
 //! A rake is one request, and a job names the cells of all that it served together. So each line is traced once more alone: a job
 //! of one line names the cells that this line was made from. The sheet of the first line is what the drill crew marks.
 //!
-//! A line ends at the floor or before x = 7: cells that reach the right or the upper wall are found by no point
-//! (docs/DIFFERENCES.md).
+//! By the bins a line ends at the floor or before x = 7: cells that reach the right or the upper
+//! wall are found by no point (docs/DIFFERENCES.md). The same rake among all cells goes on to the
+//! wall.
 use hookyellow::*;
 
 const COLUMNS: u32 = 8;
@@ -14,14 +15,14 @@ const ROWS: u32 = 4;
 fn main() -> Result<(), Box<dyn std::error::Error>> {
     let case = room()?;
     let mut workspace = Workspace::for_case(&case)?;
-    let options = LineOptions { step_size: 0.25, max_steps: 100, max_length: 20.0, stagnation_speed: 0.0 };
+    let options = LineOptions { step_size: 0.25, max_steps: 100, max_length: 20.0, stagnation_speed: 0.0, all_cells: false };
     let (start, end) = (Vector::new(0.5, 0.75, 0.0), Vector::new(0.5, 2.75, 0.0));
     let lines = rake(&case, start, end, 5, Direction::Forward, options, &mut workspace)?.answer?;
     for line in &lines {
         let (seed, last) = (line.points[0], line.points[line.points.len() - 1]);
         let alone = streamline(&case, seed, Direction::Forward, options, &mut workspace)?;
         assert_eq!(alone.answer.as_ref(), Ok(line));
-        let cell = locate(&case, last, &mut workspace)?.answer?;
+        let cell = locate(&case, last, false, &mut workspace)?.answer?;
         println!(
             "from ({:.2}, {:.2}): {} points, ends at ({:.3}, {:.3}) in cell {}, made from cells {:?}",
             seed.x,
@@ -40,6 +41,11 @@ fn main() -> Result<(), Box<dyn std::error::Error>> {
         marks[0],
         marks[marks.len() - 1]
     );
+    let all = LineOptions { all_cells: true, ..options };
+    let lines = rake(&case, start, end, 5, Direction::Forward, all, &mut workspace)?.answer?;
+    let ends = lines.iter().map(|line| line.points[line.points.len() - 1]);
+    let ends: Vec<String> = ends.map(|last| format!("({:.3}, {:.3})", last.x, last.y)).collect();
+    println!("among all cells the lines end at {}", ends.join(", "));
     Ok(())
 }
 

@@ -7,14 +7,14 @@ const NONE: u64 = u64::MAX;
 /// An answer. Every float is the one whose bits the answer word holds.
 #[derive(Clone, Debug, PartialEq)]
 pub enum Answer {
-    /// 1: the cell that the point locates in; none where it locates nowhere, as some points of a cell do (docs/DIFFERENCES.md,
-    /// "Bins lose the far border").
+    /// 1, 9: the cell that the point locates in; none where it locates nowhere, as by code 1 some
+    /// points of a cell do (docs/DIFFERENCES.md, "Bins lose the far border").
     Locate(Option<usize>),
-    /// 2: the velocity at the point; none where it locates nowhere.
+    /// 2, 10: the velocity at the point; none where it locates nowhere.
     Velocity(Option<Vector>),
-    /// 3: the line from the seed.
+    /// 3, 11: the line from the seed.
     Streamline(Streamline),
-    /// 4: the lines, in the order of the seeds.
+    /// 4, 12: the lines, in the order of the seeds.
     Rake(Vec<Streamline>),
     /// 5: the polygons, by rising cell.
     Section(Vec<SectionPolygon>),
@@ -24,7 +24,7 @@ pub enum Answer {
     Integrals(Integrals),
     /// 8: the sample at the point, if it lies in a polygon of the section.
     Probe(Option<Sample>),
-    /// 13: the line from the seed in whole millimetres.
+    /// 13, 14: the line from the seed in whole millimetres.
     Sheet(Sheet),
 }
 
@@ -121,15 +121,15 @@ impl Answer {
     /// The answer of a request with this code, from the words after the refusal and the count. None if they are not of the format.
     pub fn from_words(code: u64, words: &[u64]) -> Option<Self> {
         match code {
-            1 => whole(words, locate).map(Self::Locate),
-            2 => whole(words, velocity).map(Self::Velocity),
-            3 => whole(words, streamline).map(Self::Streamline),
-            4 => whole(words, rake).map(Self::Rake),
+            1 | 9 => whole(words, locate).map(Self::Locate),
+            2 | 10 => whole(words, velocity).map(Self::Velocity),
+            3 | 11 => whole(words, streamline).map(Self::Streamline),
+            4 | 12 => whole(words, rake).map(Self::Rake),
             5 => whole(words, section).map(Self::Section),
             6 => whole(words, statistics).map(Self::Statistics),
             7 => whole(words, integrals).map(Self::Integrals),
             8 => whole(words, probe).map(Self::Probe),
-            13 => whole(words, sheet).map(Self::Sheet),
+            13 | 14 => whole(words, sheet).map(Self::Sheet),
             _ => None,
         }
     }

@@ -18,7 +18,7 @@
 //!     .velocities([[1., 0., 0.], [3., 0., 0.]])
 //!     .pressures([0., 0.])
 //!     .build()?;
-//! let request = Request::Velocity { point: Vector::new(0.75, 0.5, 0.) };
+//! let request = Request::Velocity { point: Vector::new(0.75, 0.5, 0.), all_cells: false };
 //! let outcome = job(&case, &[request], &mut Workspace::new())?;
 //! assert_eq!(outcome.answers, [Ok(Answer::Velocity(Some(Vector::new(1.5, 0., 0.))))]);
 //! assert_eq!(outcome.cells_read(), [0, 1]);
@@ -31,14 +31,39 @@
 //! ```
 //! use hookyellow::{locate, Case, Refusal, Vector, Workspace};
 //!
-//! let refusal = locate(&Case::from_bytes(vec![7; 100]), Vector::default(), &mut Workspace::new()).unwrap_err();
+//! let refusal = locate(&Case::from_bytes(vec![7; 100]), Vector::default(), false, &mut Workspace::new()).unwrap_err();
 //! assert_eq!(refusal, Refusal::Trailer);
 //! assert_eq!(refusal.number(), 1);
 //! ```
 //!
-//! The formats are those of docs/FORMAT.md; docs/01-scope.md says what each answer is, and docs/02-change-requests.md what a sheet
-//! is. The work is done by the proved code in the static library that `rt staticlib capi` writes; [`raw`] has its functions as
-//! they are.
+//! Points are located by bins, as in FLURSYS, and some cells at the far border are listed in no
+//! bin. With `all_cells` every cell is searched: (1.5, 0.5) lies in the right square, and a line
+//! from it goes on up to the far side.
+//!
+//! ```
+//! # use hookyellow::{Case, Cell, Dimension};
+//! use hookyellow::{locate, streamline, Direction, LineOptions, Vector, Workspace};
+//! # let case = Case::builder(Dimension::Two)
+//! #     .points([[0., 0., 0.], [1., 0., 0.], [2., 0., 0.], [0., 1., 0.], [1., 1., 0.], [2., 1., 0.]])
+//! #     .cells([Cell::Polygon(vec![0, 1, 4, 3]), Cell::Polygon(vec![1, 2, 5, 4])])
+//! #     .velocities([[1., 0., 0.], [3., 0., 0.]])
+//! #     .pressures([0., 0.])
+//! #     .build()?;
+//!
+//! let (point, workspace) = (Vector::new(1.5, 0.5, 0.), &mut Workspace::new());
+//! assert_eq!(locate(&case, point, false, workspace)?.answer, Ok(None));
+//! assert_eq!(locate(&case, point, true, workspace)?.answer, Ok(Some(1)));
+//!
+//! let options = LineOptions { step_size: 0.25, max_steps: 10, max_length: 9., stagnation_speed: 0., all_cells: true };
+//! let line = streamline(&case, point, Direction::Forward, options, workspace)?.answer?;
+//! assert_eq!(line.points.iter().map(|p| p.x).collect::<Vec<_>>(), [1.5, 1.75, 2.]);
+//! # Ok::<(), Box<dyn std::error::Error>>(())
+//! ```
+//!
+//! The formats are those of docs/FORMAT.md; docs/01-scope.md says what each answer is, and
+//! docs/02-change-requests.md what a sheet is and what `all_cells` asks for. The work is done by
+//! the proved code in the static library that `rt staticlib capi` writes; [`raw`] has its functions
+//! as they are.
 #![warn(missing_docs)]
 
 #[macro_use]

@@ -22,11 +22,12 @@ extern "C" {
         answers: *mut u64,
         answers_length: usize,
     ) -> u64;
-    /// A job of one request, code 1: the cell that a point locates in.
+    /// A job of one request, code 1, with `all_cells` 9: the cell that a point locates in.
     pub fn hookyellow_locate(
         case: *const u8,
         case_length: usize,
         point: Vector,
+        all_cells: bool,
         words: *mut u32,
         words_length: usize,
         floats: *mut f64,
@@ -36,11 +37,12 @@ extern "C" {
         answers: *mut u64,
         answers_length: usize,
     ) -> u64;
-    /// A job of one request, code 2: the velocity at a point.
+    /// A job of one request, code 2, with `all_cells` 10: the velocity at a point.
     pub fn hookyellow_velocity(
         case: *const u8,
         case_length: usize,
         point: Vector,
+        all_cells: bool,
         words: *mut u32,
         words_length: usize,
         floats: *mut f64,
@@ -50,7 +52,7 @@ extern "C" {
         answers: *mut u64,
         answers_length: usize,
     ) -> u64;
-    /// A job of one request, code 3: the streamline from a seed.
+    /// A job of one request, code 3, with `all_cells` 11: the streamline from a seed.
     pub fn hookyellow_streamline(
         case: *const u8,
         case_length: usize,
@@ -66,7 +68,8 @@ extern "C" {
         answers: *mut u64,
         answers_length: usize,
     ) -> u64;
-    /// A job of one request, code 4: the streamlines from `count` seeds, spread from `start` to `end`.
+    /// A job of one request, code 4, with `all_cells` 12: the streamlines from `count` seeds,
+    /// spread from `start` to `end`.
     pub fn hookyellow_rake(
         case: *const u8,
         case_length: usize,
@@ -142,7 +145,8 @@ extern "C" {
         answers: *mut u64,
         answers_length: usize,
     ) -> u64;
-    /// A job of one request, code 13: the streamline from a seed in whole millimetres.
+    /// A job of one request, code 13, with `all_cells` 14: the streamline from a seed in whole
+    /// millimetres.
     pub fn hookyellow_sheet(
         case: *const u8,
         case_length: usize,

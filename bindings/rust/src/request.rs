@@ -57,22 +57,34 @@ pub struct LineOptions {
     pub max_length: f64,
     /// The line ends where the speed is this or less.
     pub stagnation_speed: f64,
+    /// Whether the points of the line are located among all cells (codes 11, 12 and 14), or among
+    /// those of their bin (3, 4 and 13).
+    pub all_cells: bool,
 }
 
 /// One request. [`Request::Locate`] to [`Request::Rake`] and [`Request::Sheet`] need a 2D case, the others a 3D one (else 31).
+///
+/// A point locates in the lowest cell whose polygon contains it: with `all_cells` of all cells, so
+/// that a line goes on up to the border; without it of those that are listed in the point's bin, as
+/// in FLURSYS, where some cells at the far border are listed in none (docs/DIFFERENCES.md, "Bins
+/// lose the far border").
 #[derive(Clone, Copy, Debug, PartialEq)]
 pub enum Request {
-    /// 1: the cell that a point locates in.
+    /// 1 or, among all cells, 9: the cell that a point locates in.
     Locate {
         /// The point.
         point: Vector,
+        /// Whether all cells are searched, or those of the point's bin.
+        all_cells: bool,
     },
-    /// 2: the velocity at a point.
+    /// 2 or, among all cells, 10: the velocity at a point.
     Velocity {
         /// The point.
         point: Vector,
+        /// Whether all cells are searched, or those of the point's bin.
+        all_cells: bool,
     },
-    /// 3: the streamline from a seed.
+    /// 3 or, among all cells, 11: the streamline from a seed.
     Streamline {
         /// The first point of the line.
         seed: Vector,
@@ -81,7 +93,7 @@ pub enum Request {
         /// How the line is followed.
         options: LineOptions,
     },
-    /// 4: the streamlines from seeds that are spread evenly over a segment.
+    /// 4 or, among all cells, 12: the streamlines from seeds that are spread evenly over a segment.
     Rake {
         /// The first seed.
         start: Vector,
@@ -118,7 +130,7 @@ pub enum Request {
         /// The point, within 1e-8 of the plane.
         point: Vector,
     },
-    /// 13: the streamline from a seed, in whole millimetres.
+    /// 13 or, among all cells, 14: the streamline from a seed, in whole millimetres.
     Sheet {
         /// The first point of the line.
         seed: Vector,
@@ -133,15 +145,15 @@ impl Request {
     /// The code.
     pub fn code(&self) -> u64 {
         match self {
-            Self::Locate { .. } => 1,
-            Self::Velocity { .. } => 2,
-            Self::Streamline { .. } => 3,
-            Self::Rake { .. } => 4,
+            Self::Locate { all_cells, .. } => [1, 9][usize::from(*all_cells)],
+            Self::Velocity { all_cells, .. } => [2, 10][usize::from(*all_cells)],
+            Self::Streamline { options, .. } => [3, 11][usize::from(options.all_cells)],
+            Self::Rake { options, .. } => [4, 12][usize::from(options.all_cells)],
             Self::Section { .. } => 5,
             Self::Statistics { .. } => 6,
             Self::Integrals { .. } => 7,
             Self::Probe { .. } => 8,
-            Self::Sheet { .. } => 13,
+            Self::Sheet { options, .. } => [13, 14][usize::from(options.all_cells)],
         }
     }
 
@@ -150,7 +162,7 @@ impl Request {
         let mut words = Words { list: [0; 16], used: 0 };
         words.put(&[self.code()]);
         match *self {
-            Self::Locate { point } | Self::Velocity { point } => words.put(&point.to_bits()),
+            Self::Locate { point, .. } | Self::Velocity { point, .. } => words.put(&point.to_bits()),
             Self::Streamline { seed, direction, options } | Self::Sheet { seed, direction, options } => {
                 words.put(&seed.to_bits());
                 words.line(direction, options);

@@ -61,14 +61,21 @@ fn single<T>(
     Ok(Single { answer, cells_read })
 }
 
-/// The cell that a point locates in, or none where it locates nowhere.
-pub fn locate(case: &Case, point: Vector, workspace: &mut Workspace) -> Result<Single<Option<usize>>, Refusal> {
-    single(case, workspace, answer::locate, |buffers| call!(hookyellow_locate, case, buffers, point))
+/// The cell that a point locates in, or none where it locates nowhere; `all_cells` is that of
+/// [`Request::Locate`].
+pub fn locate(case: &Case, point: Vector, all_cells: bool, workspace: &mut Workspace) -> Result<Single<Option<usize>>, Refusal> {
+    single(case, workspace, answer::locate, |buffers| call!(hookyellow_locate, case, buffers, point, all_cells))
 }
 
-/// The velocity at a point, or none where it locates nowhere.
-pub fn velocity(case: &Case, point: Vector, workspace: &mut Workspace) -> Result<Single<Option<Vector>>, Refusal> {
-    single(case, workspace, answer::velocity, |buffers| call!(hookyellow_velocity, case, buffers, point))
+/// The velocity at a point, or none where it locates nowhere; `all_cells` is that of
+/// [`Request::Velocity`].
+pub fn velocity(
+    case: &Case,
+    point: Vector,
+    all_cells: bool,
+    workspace: &mut Workspace,
+) -> Result<Single<Option<Vector>>, Refusal> {
+    single(case, workspace, answer::velocity, |buffers| call!(hookyellow_velocity, case, buffers, point, all_cells))
 }
 
 /// The streamline from a seed.

@@ -19,10 +19,10 @@ fn word(random: &mut Random) -> u64 {
 #[test]
 fn what_is_read_is_written_back() {
     let mut random = Random(1);
-    let mut read = [0; 15];
+    let mut read = [0; 16];
     for _ in 0..200_000 {
         let words: Vec<u64> = (0..random.below(24)).map(|_| word(&mut random)).collect();
-        for code in 0..15 {
+        for code in 0..16 {
             if let Some(answer) = Answer::from_words(code, &words) {
                 assert_eq!(answer.to_words(), words, "code {code}");
                 read[code as usize] += 1;
@@ -36,22 +36,28 @@ fn what_is_read_is_written_back() {
 
 #[test]
 fn counts_beyond_the_words_are_not_of_the_format() {
-    for code in [3, 4, 5, 13] {
+    for code in [3, 4, 5, 11, 12, 13, 14] {
         for count in [1, 1 << 32, u64::MAX / 3 + 1, u64::MAX] {
             assert_eq!(Answer::from_words(code, &[count]), None, "code {code}, count {count}");
         }
     }
-    assert_eq!(Answer::from_words(4, &[1, u64::MAX, 0, 0, 0]), None);
-    assert_eq!(Answer::from_words(13, &[2, 0, 0, 0]), None);
+    for code in [4, 12] {
+        assert_eq!(Answer::from_words(code, &[1, u64::MAX, 0, 0, 0]), None);
+    }
+    for code in [13, 14] {
+        assert_eq!(Answer::from_words(code, &[2, 0, 0, 0]), None);
+    }
     assert_eq!(Answer::from_words(5, &[1, 0, u64::MAX, 0, 0, 0]), None);
 }
 
 #[test]
 fn words_left_over_or_flags_other_than_0_and_1_are_not_of_the_format() {
-    assert_eq!(Answer::from_words(1, &[0, 0]), None);
-    assert_eq!(Answer::from_words(13, &[1, 0, 0, 0]), None);
-    assert_eq!(Answer::from_words(2, &[2, 0, 0, 0]), None);
-    assert_eq!(Answer::from_words(2, &[0, 0, 0, 1]), None);
+    for (locate, velocity, sheet) in [(1, 2, 13), (9, 10, 14)] {
+        assert_eq!(Answer::from_words(locate, &[0, 0]), None);
+        assert_eq!(Answer::from_words(sheet, &[1, 0, 0, 0]), None);
+        assert_eq!(Answer::from_words(velocity, &[2, 0, 0, 0]), None);
+        assert_eq!(Answer::from_words(velocity, &[0, 0, 0, 1]), None);
+    }
     assert_eq!(Answer::from_words(8, &[u64::MAX, 0, 0, 0, 1]), None);
     for (flags, good) in [([0, 0, 0], true), ([0, 1, 0], false), ([0, 0, 1], false), ([1, 0, 0], true), ([2, 0, 0], false)] {
         let words = [&[0; 10][..], &flags].concat();

@@ -27,7 +27,7 @@ fn requests(random: &mut Random) -> Vec<u8> {
         for place in 0..16 {
             let float = ((random.below(9) as f64) * 0.25).to_bits();
             let word = [float, float, 1, random.next()][random.below(4)];
-            let word = if place == 0 { random.below(15) as u64 } else { word * u64::from(place <= used) };
+            let word = if place == 0 { random.below(16) as u64 } else { word * u64::from(place <= used) };
             bytes.extend(word.to_le_bytes());
         }
     }
@@ -76,10 +76,12 @@ fn request(random: &mut Random) -> Request {
         max_steps: random.below(50),
         max_length: [4.0, float(random)][random.below(2)],
         stagnation_speed: [0.0, float(random)][random.below(2)],
+        all_cells: random.below(2) == 1,
     };
+    let all_cells = options.all_cells;
     match random.below(9) {
-        0 => Request::Locate { point },
-        1 => Request::Velocity { point },
+        0 => Request::Locate { point, all_cells },
+        1 => Request::Velocity { point, all_cells },
         2 => Request::Streamline { seed: point, direction, options },
         3 => Request::Rake { start: point, end, count: random.below(5), direction, options },
         4 => Request::Section { plane },
@@ -95,7 +97,7 @@ fn request(random: &mut Random) -> Request {
 fn any_typed_job_ends() {
     let mut random = Random(3);
     let mut workspace = Workspace::new();
-    let mut answered = [0; 14];
+    let mut answered = [0; 15];
     for _ in 0..10_000 {
         let requests: Vec<Request> = (0..random.below(5)).map(|_| request(&mut random)).collect();
         let Ok(outcome) = job(&case(&mut random), &requests, &mut workspace) else { continue };
@@ -126,8 +128,8 @@ fn given<T>(single: Single<T>, answer: fn(T) -> Answer) -> Given {
 /// The function of a request.
 fn alone(case: &Case, request: Request, w: &mut Workspace) -> Result<Given, Refusal> {
     Ok(match request {
-        Request::Locate { point } => given(locate(case, point, w)?, Answer::Locate),
-        Request::Velocity { point } => given(velocity(case, point, w)?, Answer::Velocity),
+        Request::Locate { point, all_cells } => given(locate(case, point, all_cells, w)?, Answer::Locate),
+        Request::Velocity { point, all_cells } => given(velocity(case, point, all_cells, w)?, Answer::Velocity),
         Request::Streamline { seed, direction, options } => {
             given(streamline(case, seed, direction, options, w)?, Answer::Streamline)
         }
@@ -147,7 +149,7 @@ fn alone(case: &Case, request: Request, w: &mut Workspace) -> Result<Given, Refu
 fn a_request_alone_is_a_job_of_one() {
     let mut random = Random(4);
     let (mut one, mut other) = (Workspace::new(), Workspace::new());
-    let mut answered = [0; 14];
+    let mut answered = [0; 15];
     for _ in 0..10_000 {
         let (case, request) = (case(&mut random), request(&mut random));
         let whole = job(&case, &[request], &mut one).map(|outcome| {

@@ -12,7 +12,7 @@ fn filled(words: usize, floats: usize, marks: usize, answers: usize) -> Workspac
 }
 
 fn velocity_bytes() -> Vec<u8> {
-    Request::Velocity { point: at(0.75, 0.5, 0.0) }.to_bytes().to_vec()
+    Request::Velocity { point: at(0.75, 0.5, 0.0), all_cells: false }.to_bytes().to_vec()
 }
 
 #[test]
@@ -24,7 +24,7 @@ fn pair_needs_what_the_formula_says() {
 #[test]
 fn one_less_is_refused_and_nothing_changes() {
     let (w, f, m) = (NEEDS.words, NEEDS.floats, NEEDS.marks);
-    let many = Request::Locate { point: X }.to_bytes().repeat(4_097);
+    let many = Request::Locate { point: X, all_cells: false }.to_bytes().repeat(4_097);
     let cases = [
         (filled(w - 1, f, m, 2), velocity_bytes(), Refusal::WorkArea),
         (filled(w, f - 1, m, 2), velocity_bytes(), Refusal::WorkArea),
@@ -56,7 +56,7 @@ fn just_enough_is_accepted() {
 
 /// From x = 0.125 to 1 in steps of 2^-13: 7,168 steps, and 2 + 1 + 3 * 7,169 words.
 fn long_line() -> (Vector, LineOptions) {
-    let options = LineOptions { step_size: 1.0 / 8192.0, max_steps: 65_536, max_length: 2.0, stagnation_speed: 0.0 };
+    let options = LineOptions { step_size: 1.0 / 8192.0, max_steps: 65_536, ..quarters(2.0) };
     (at(0.125, 0.5, 0.0), options)
 }
 
@@ -110,16 +110,16 @@ fn a_workspace_serves_any_case() {
     assert_eq!((flux.answer.unwrap().flux, flux.cells_read.len()), (50.0, 50));
     let small = || square(X);
     for _ in 0..2 {
-        let found = velocity(&small(), at(0.5, 0.5, 0.0), &mut workspace).unwrap();
+        let found = velocity(&small(), at(0.5, 0.5, 0.0), false, &mut workspace).unwrap();
         assert_eq!((found.answer, found.cells_read), (Ok(Some(X)), vec![0]));
-        assert_eq!(locate(&Case::from_bytes(vec![1]), X, &mut workspace), Err(Refusal::Trailer));
-        assert_eq!(locate(&small(), X, &mut workspace).unwrap().cells_read, []);
+        assert_eq!(locate(&Case::from_bytes(vec![1]), X, true, &mut workspace), Err(Refusal::Trailer));
+        assert_eq!(locate(&small(), X, false, &mut workspace).unwrap().cells_read, []);
     }
 }
 
 #[test]
 fn more_than_4096_requests_are_refused() {
-    let request = Request::Locate { point: at(0.5, 0.5, 0.0) };
+    let request = Request::Locate { point: at(0.5, 0.5, 0.0), all_cells: true };
     let outcome = job(&pair(), &[request; 4_096], &mut Workspace::new()).unwrap();
     assert_eq!(outcome.answers, vec![Ok(Answer::Locate(Some(0))); 4_096]);
     assert_eq!(job(&pair(), &[request; 4_097], &mut Workspace::new()), Err(Refusal::Requests));

@@ -1,7 +1,7 @@
 //! The formats against the listings of docs/FORMAT.md.
 mod common;
 use common::*;
-use hookyellow::{job, Answer, Case, Cell, Dimension, Direction, Field, Request, SectionPlane, Vector, Workspace};
+use hookyellow::{job, Answer, Case, Cell, Dimension, Direction, Field, LineOptions, Request, SectionPlane, Vector, Workspace};
 
 const FORMAT: &str = include_str!("../../../docs/FORMAT.md");
 
@@ -31,7 +31,7 @@ fn velocity_request_is_the_dump() {
     let mut bytes: Vec<u8> = block("The second request of").lines().next().map(dumped).unwrap();
     assert_eq!(bytes.len(), 32);
     bytes.resize(128, 0);
-    assert_eq!(Request::Velocity { point: at(0.75, 0.5, 0.0) }.to_bytes()[..], bytes);
+    assert_eq!(Request::Velocity { point: at(0.75, 0.5, 0.0), all_cells: false }.to_bytes()[..], bytes);
 }
 
 /// The words of each listed answer, and the cells of the last line.
@@ -60,8 +60,8 @@ fn listed_answers_are_read_and_written_back() {
 #[test]
 fn the_job_gives_the_listing() {
     let requests = [
-        Request::Locate { point: at(1.5, 0.5, 0.0) },
-        Request::Velocity { point: at(0.75, 0.5, 0.0) },
+        Request::Locate { point: at(1.5, 0.5, 0.0), all_cells: false },
+        Request::Velocity { point: at(0.75, 0.5, 0.0), all_cells: false },
         Request::Streamline { seed: at(0.25, 0.5, 0.0), direction: Direction::Forward, options: quarters(0.5) },
     ];
     let mut workspace = Workspace::new();
@@ -92,18 +92,31 @@ fn the_job_gives_the_listed_sheet() {
 fn requests_have_the_words_of_the_table() {
     let float = |x: u32| f64::from(x).to_bits();
     let vector = |x: u32| at(f64::from(x), f64::from(x + 1), f64::from(x + 2));
-    let options = hookyellow::LineOptions { step_size: 20.0, max_steps: 21, max_length: 22.0, stagnation_speed: 23.0 };
+    let options = LineOptions { step_size: 20.0, max_steps: 21, max_length: 22.0, stagnation_speed: 23.0, all_cells: false };
+    let all = LineOptions { all_cells: true, ..options };
     let plane = SectionPlane::new(vector(1), vector(4), vector(7));
     let (seed, start, end, point) = (vector(1), vector(1), vector(4), vector(10));
     let line = [float(20), 21, float(22), float(23)];
     let floats = |range: std::ops::RangeInclusive<u32>| range.map(float).collect::<Vec<_>>();
     let cases = [
-        (Request::Locate { point: seed }, 1, floats(1..=3)),
-        (Request::Velocity { point: seed }, 2, floats(1..=3)),
+        (Request::Locate { point: seed, all_cells: false }, 1, floats(1..=3)),
+        (Request::Locate { point: seed, all_cells: true }, 9, floats(1..=3)),
+        (Request::Velocity { point: seed, all_cells: false }, 2, floats(1..=3)),
+        (Request::Velocity { point: seed, all_cells: true }, 10, floats(1..=3)),
         (Request::Streamline { seed, direction: Direction::Backward, options }, 3, [&floats(1..=3)[..], &[1], &line].concat()),
+        (
+            Request::Streamline { seed, direction: Direction::Backward, options: all },
+            11,
+            [&floats(1..=3)[..], &[1], &line].concat(),
+        ),
         (
             Request::Rake { start, end, count: 9, direction: Direction::Forward, options },
             4,
+            [&floats(1..=6)[..], &[9, 0], &line].concat(),
+        ),
+        (
+            Request::Rake { start, end, count: 9, direction: Direction::Forward, options: all },
+            12,
             [&floats(1..=6)[..], &[9, 0], &line].concat(),
         ),
         (Request::Section { plane }, 5, floats(1..=9)),
@@ -111,6 +124,7 @@ fn requests_have_the_words_of_the_table() {
         (Request::Integrals { plane }, 7, floats(1..=9)),
         (Request::Probe { plane, point }, 8, floats(1..=12)),
         (Request::Sheet { seed, direction: Direction::Forward, options }, 13, [&floats(1..=3)[..], &[0], &line].concat()),
+        (Request::Sheet { seed, direction: Direction::Forward, options: all }, 14, [&floats(1..=3)[..], &[0], &line].concat()),
     ];
     for (request, code, arguments) in cases {
         let mut words = [&[code], &arguments[..]].concat();
@@ -165,5 +179,5 @@ fn values_are_written_by_their_bits() {
     let cell = Cell::Tetrahedron([0, 1, 2, 3]);
     let case = Case::builder(Dimension::Three).cells([cell]).velocities([[x, y, z]]).pressures([pressure]).build().unwrap();
     assert_eq!(case.as_bytes()[20..52], odd.map(u64::to_le_bytes).concat());
-    assert_eq!(Request::Velocity { point: at(x, y, z) }.to_words()[1..4], odd[..3]);
+    assert_eq!(Request::Velocity { point: at(x, y, z), all_cells: false }.to_words()[1..4], odd[..3]);
 }

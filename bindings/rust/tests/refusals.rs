@@ -84,7 +84,8 @@ fn lines_are_refused_before_a_cell_is_read() {
         options,
     };
     let good = quarters(1.0);
-    let seed = |x| Request::Streamline { seed: at(x, 0.5, 0.), direction: Direction::Forward, options: good };
+    let all = LineOptions { all_cells: true, ..good };
+    let seed = |x, options| Request::Streamline { seed: at(x, 0.5, 0.), direction: Direction::Forward, options };
     let sheet = |x, options| Request::Sheet { seed: at(x, 0.5, 0.), direction: Direction::Forward, options };
     let cases = [
         (Request::Section { plane: level(0.5) }, RequestRefusal::Dimension),
@@ -94,10 +95,18 @@ fn lines_are_refused_before_a_cell_is_read() {
         (rake(2, LineOptions { step_size: 0.0, ..good }), RequestRefusal::LineOptions),
         (rake(2, LineOptions { max_steps: 0, ..good }), RequestRefusal::LineOptions),
         (rake(2, LineOptions { stagnation_speed: f64::NAN, ..good }), RequestRefusal::LineOptions),
-        (seed(2.0), RequestRefusal::Seed),
+        (seed(2.0, good), RequestRefusal::Seed),
+        (rake(1, all), RequestRefusal::FewSeeds),
+        (rake(65, all), RequestRefusal::Limit),
+        (rake(2, LineOptions { max_length: 0.0, ..all }), RequestRefusal::LineOptions),
+        (seed(0.25, LineOptions { max_steps: 65_537, ..all }), RequestRefusal::Limit),
+        (seed(2.0, all), RequestRefusal::Seed),
+        (seed(f64::NAN, all), RequestRefusal::Seed),
         (sheet(0.25, LineOptions { max_steps: 65_537, ..good }), RequestRefusal::Limit),
         (sheet(0.25, LineOptions { max_length: f64::INFINITY, ..good }), RequestRefusal::LineOptions),
         (sheet(2.0, good), RequestRefusal::Seed),
+        (sheet(0.25, LineOptions { step_size: f64::NAN, ..all }), RequestRefusal::LineOptions),
+        (sheet(2.0, all), RequestRefusal::Seed),
     ];
     for (request, refusal) in cases {
         assert_eq!(refused(&room, request), (refusal, vec![]), "{request:?}");
@@ -109,9 +118,16 @@ fn sections_are_refused_with_the_cells_they_read() {
     let (good, bad) = ((X, 0.0), (X, f64::INFINITY));
     let room = cubes(&[good, bad, good]);
     let section = |origin, u| Request::Section { plane: SectionPlane::new(origin, u, Y) };
+    let all = LineOptions { all_cells: true, ..quarters(1.0) };
+    let line = |direction, options| Request::Streamline { seed: X, direction, options };
     let cases = [
-        (Request::Locate { point: X }, RequestRefusal::Dimension, vec![]),
+        (Request::Locate { point: X, all_cells: false }, RequestRefusal::Dimension, vec![]),
+        (Request::Locate { point: X, all_cells: true }, RequestRefusal::Dimension, vec![]),
+        (Request::Velocity { point: X, all_cells: true }, RequestRefusal::Dimension, vec![]),
+        (line(Direction::Forward, quarters(1.0)), RequestRefusal::Dimension, vec![]),
+        (line(Direction::Backward, all), RequestRefusal::Dimension, vec![]),
         (Request::Sheet { seed: X, direction: Direction::Forward, options: quarters(1.0) }, RequestRefusal::Dimension, vec![]),
+        (Request::Sheet { seed: X, direction: Direction::Forward, options: all }, RequestRefusal::Dimension, vec![]),
         (section(at(0., 0., 0.5), at(2., 0., 0.)), RequestRefusal::Plane, vec![]),
         (section(at(0., 0., f64::NAN), X), RequestRefusal::Plane, vec![]),
         (section(at(0., 0., 1_048_577.), X), RequestRefusal::FarOrigin, vec![]),

@@ -14,16 +14,29 @@ fn alone<T>(single: Single<T>, answer: fn(T) -> Answer) -> (Result<Answer, Reque
     (single.answer.map(answer), single.cells_read)
 }
 
-/// 01's starred points of Pair. No value is read.
-#[test]
-fn locate_in_pair() {
+/// Points of Pair at y = 0.5 and the cells that they locate in. No value is read.
+fn locate_is(all_cells: bool, cells: &[(f64, Option<usize>)]) {
     let (case, workspace) = (pair(), &mut Workspace::new());
-    for (x, cell) in [(0.5, Some(0)), (1.0, Some(0)), (1.5, None), (2.0, None)] {
+    for &(x, cell) in cells {
         let point = at(x, 0.5, 0.0);
         let expected = (Ok(Answer::Locate(cell)), vec![]);
-        assert_eq!(ask(&case, Request::Locate { point }), expected);
-        assert_eq!(alone(locate(&case, point, workspace).unwrap(), Answer::Locate), expected);
+        assert_eq!(ask(&case, Request::Locate { point, all_cells }), expected, "{x}");
+        assert_eq!(alone(locate(&case, point, all_cells, workspace).unwrap(), Answer::Locate), expected, "{x}");
     }
+}
+
+/// 01's starred points of Pair.
+#[test]
+fn locate_in_pair() {
+    locate_is(false, &[(0.5, Some(0)), (1.0, Some(0)), (1.5, None), (2.0, None)]);
+}
+
+/// The lowest cell whose polygon contains the point, the tolerance of 1e-12 included: the right
+/// square is cell 1, and its left side is cell 0's too.
+#[test]
+fn locate_in_pair_among_all_cells() {
+    locate_is(true, &[(0.5, Some(0)), (1.0, Some(0)), (1.5, Some(1)), (2.0, Some(1)), (2.0 + 5e-13, Some(1))]);
+    locate_is(true, &[(2.0 + 1e-9, None), (-1e-9, None), (f64::NAN, None), (f64::INFINITY, None), (-f64::INFINITY, None)]);
 }
 
 /// In one square of uniform flow the velocity is that of the square; outside there is none and nothing is read.
@@ -34,8 +47,27 @@ fn velocity_of_a_uniform_flow() {
     for (x, found, cells) in [(0.3, Some(flow), vec![0]), (1.0, Some(flow), vec![0]), (1.25, None, vec![])] {
         let point = at(x, 0.6, 0.0);
         let expected = (Ok(Answer::Velocity(found)), cells);
-        assert_eq!(ask(&case, Request::Velocity { point }), expected);
-        assert_eq!(alone(velocity(&case, point, workspace).unwrap(), Answer::Velocity), expected);
+        for all_cells in [false, true] {
+            assert_eq!(ask(&case, Request::Velocity { point, all_cells }), expected);
+            assert_eq!(alone(velocity(&case, point, all_cells, workspace).unwrap(), Answer::Velocity), expected);
+        }
+    }
+}
+
+/// In Pair it goes from 1 at the left centre, x = 0.5, evenly to 3 at the right one, x = 1.5, and
+/// does not change beyond them. Where the point locates nowhere nothing is read: by the bins in all
+/// of the right square but its left side.
+#[test]
+fn velocity_in_pair() {
+    let (case, workspace) = (pair(), &mut Workspace::new());
+    for (x, speed) in [(0.25, 1.0), (0.75, 1.5), (1.25, 2.5), (1.5, 3.0), (2.0, 3.0)] {
+        for all_cells in [false, true] {
+            let (point, found) = (at(x, 0.5, 0.0), x <= 1.0 || all_cells);
+            let flow = found.then_some(at(speed, 0.0, 0.0));
+            let expected = (Ok(Answer::Velocity(flow)), if found { vec![0, 1] } else { vec![] });
+            assert_eq!(ask(&case, Request::Velocity { point, all_cells }), expected, "{x}");
+            assert_eq!(alone(velocity(&case, point, all_cells, workspace).unwrap(), Answer::Velocity), expected, "{x}");
+        }
     }
 }
 
@@ -85,6 +117,42 @@ fn rake_of_a_uniform_flow() {
     }
 }
 
+/// The line of a job and of the request alone, in Pair at y = 0.5.
+fn line_is(x: f64, direction: Direction, all_cells: bool, expected: Result<&[f64], RequestRefusal>) {
+    let (seed, options) = (at(x, 0.5, 0.0), LineOptions { all_cells, ..quarters(9.0) });
+    let cells = if expected.is_ok() { vec![0, 1] } else { vec![] };
+    let expected = (expected.map(|xs| Answer::Streamline(straight(xs, 0.5))), cells);
+    assert_eq!(ask(&pair(), Request::Streamline { seed, direction, options }), expected);
+    let single = streamline(&pair(), seed, direction, options, &mut Workspace::new()).unwrap();
+    assert_eq!(alone(single, Answer::Streamline), expected);
+}
+
+/// Steps of a quarter along x: by the bins a line ends at the left square's right side, and none
+/// starts beyond it; among all cells lines go through both squares.
+#[test]
+fn lines_reach_the_far_border_among_all_cells() {
+    let (forward, backward) = (Direction::Forward, Direction::Backward);
+    line_is(0.25, forward, false, Ok(&[0.25, 0.5, 0.75, 1.0]));
+    line_is(0.25, forward, true, Ok(&[0.25, 0.5, 0.75, 1.0, 1.25, 1.5, 1.75, 2.0]));
+    line_is(1.75, backward, false, Err(RequestRefusal::Seed));
+    line_is(1.75, backward, true, Ok(&[1.75, 1.5, 1.25, 1.0, 0.75, 0.5, 0.25, 0.0]));
+    line_is(2.0, forward, true, Ok(&[2.0]));
+    line_is(2.25, backward, true, Err(RequestRefusal::Seed));
+}
+
+#[test]
+fn rake_reaches_the_far_border_among_all_cells() {
+    let (start, end, direction) = (at(1.5, 0.25, 0.0), at(1.5, 0.75, 0.0), Direction::Forward);
+    let lines = [0.25, 0.5, 0.75].map(|y| straight(&[1.5, 1.75, 2.0], y)).to_vec();
+    let answers = [(false, (Err(RequestRefusal::Seed), vec![])), (true, (Ok(Answer::Rake(lines)), vec![0, 1]))];
+    for (all_cells, expected) in answers {
+        let options = LineOptions { all_cells, ..quarters(9.0) };
+        assert_eq!(ask(&pair(), Request::Rake { start, end, count: 3, direction, options }), expected);
+        let single = rake(&pair(), start, end, 3, direction, options, &mut Workspace::new()).unwrap();
+        assert_eq!(alone(single, Answer::Rake), expected);
+    }
+}
+
 /// The sheet of a job and of the request alone.
 fn sheet_is(case: &Case, seed: Vector, direction: Direction, options: LineOptions, points: &[(i64, i64)], cells: &[usize]) {
     let expected = (Ok(Answer::Sheet(Sheet { points: points.to_vec() })), cells.to_vec());
@@ -99,6 +167,15 @@ fn sheet_of_pair() {
     sheet_is(&pair(), seed, Direction::Forward, quarters(0.5), &[(250, 500), (500, 500), (750, 500)], &[0, 1]);
     let still = LineOptions { stagnation_speed: 1.0, ..quarters(0.5) };
     sheet_is(&pair(), seed, Direction::Forward, still, &[(250, 500)], &[0, 1]);
+}
+
+/// The same line on to the far border, in millimetres.
+#[test]
+fn sheet_of_pair_among_all_cells() {
+    let points = [250, 500, 750, 1000, 1250, 1500, 1750, 2000].map(|x| (x, 500));
+    let (seed, by_bins) = (at(0.25, 0.5, 0.0), quarters(9.0));
+    sheet_is(&pair(), seed, Direction::Forward, by_bins, &points[..4], &[0, 1]);
+    sheet_is(&pair(), seed, Direction::Forward, LineOptions { all_cells: true, ..by_bins }, &points, &[0, 1]);
 }
 
 /// A unit square whose low corner is at (-0.5, -0.5).
@@ -131,7 +208,7 @@ fn sheet_sends_halves_away_from_zero() {
 /// Steps of 1/2048 m are 0.488 mm: 250, 250.5, 251.0, 251.5, .. a little less each, and so two points to a millimetre.
 #[test]
 fn sheet_drops_a_point_that_equals_the_one_before() {
-    let options = LineOptions { step_size: 1.0 / 2048.0, max_steps: 8, max_length: 1.0, stagnation_speed: 0.0 };
+    let options = LineOptions { step_size: 1.0 / 2048.0, max_steps: 8, ..quarters(1.0) };
     let listed = [250, 251, 252, 253, 254].map(|x| (x, 500));
     sheet_is(&square(X), at(0.25, 0.5, 0.0), Direction::Forward, options, &listed, &[0]);
     let short = LineOptions { step_size: 1.0 / 65_536.0, ..options };
@@ -237,9 +314,9 @@ fn probe_of_two_cubes() {
 #[test]
 fn requests_are_served_in_order() {
     let requests = [
-        Request::Velocity { point: at(0.25, 0.5, 0.0) },
+        Request::Velocity { point: at(0.25, 0.5, 0.0), all_cells: false },
         Request::Section { plane: level(0.5) },
-        Request::Locate { point: at(0.5, 0.5, 0.0) },
+        Request::Locate { point: at(0.5, 0.5, 0.0), all_cells: false },
     ];
     let outcome = job(&pair(), &requests, &mut Workspace::new()).unwrap();
     let velocity = Answer::Velocity(Some(X));

@@ -3,7 +3,7 @@
 use hookyellow::{Case, Cell, Dimension, LineOptions, SectionPlane, Vector};
 
 /// The codes of the requests.
-pub const CODES: [u64; 9] = [1, 2, 3, 4, 5, 6, 7, 8, 13];
+pub const CODES: [u64; 14] = [1, 2, 3, 4, 5, 6, 7, 8, 9, 10, 11, 12, 13, 14];
 
 pub const X: Vector = Vector::new(1.0, 0.0, 0.0);
 pub const Y: Vector = Vector::new(0.0, 1.0, 0.0);
@@ -52,9 +52,9 @@ pub fn level(height: f64) -> SectionPlane {
     SectionPlane::new(at(0., 0., height), X, Y)
 }
 
-/// Steps of 0.25, at most 10 of them, and no stagnation speed.
+/// Steps of 0.25, at most 10 of them, and no stagnation speed; located by the bins.
 pub fn quarters(max_length: f64) -> LineOptions {
-    LineOptions { step_size: 0.25, max_steps: 10, max_length, stagnation_speed: 0.0 }
+    LineOptions { step_size: 0.25, max_steps: 10, max_length, stagnation_speed: 0.0, all_cells: false }
 }
 
 /// Numbers in no order (xorshift), the same in every run.
