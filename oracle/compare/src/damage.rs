@@ -1,7 +1,7 @@
 //! Faults in the bytes, and buffer lengths at and beside what is needed.
 use crate::pairs::{need, Pair};
 use reference::refair::gen::Rng;
-use reference::job;
+use reference::{by_bins, job};
 use reference::refair::{JobOut, Lens, Order, Stats};
 
 /// An answer buffer in which some answer just fits, or just does not (44).
@@ -166,7 +166,8 @@ pub fn shorten(requests: &mut [u8], r: &mut Rng) {
     for q in requests.chunks_exact_mut(128) {
         let word = |i: usize| u64::from_le_bytes(q[8 * i..8 * i + 8].try_into().expect("eight bytes"));
         let (code, seeds, steps) = (word(0), word(7), word(10));
-        if code == 4 && (2..=64).contains(&seeds) && steps <= 65_536 && seeds * steps > 20_000 && !r.one_in(40) {
+        let is_rake = by_bins(code) == 4 && (2..=64).contains(&seeds) && steps <= 65_536;
+        if is_rake && seeds * steps > 20_000 && !r.one_in(40) {
             q[80..88].copy_from_slice(&(20_000 / seeds).to_le_bytes());
         }
     }

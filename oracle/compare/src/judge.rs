@@ -1,7 +1,9 @@
-//! Compares what the library gave with what the reference gave: the result, every word of the answer buffer by its bits
-//! and every byte of the marks buffer. Each NaN of the Rust counts as 7ff8000000000000; the sign of a zero minimum or
-//! maximum of code 6 is not compared.
+//! Compares what the library gave with what the reference gave: the result, every word of the
+//! answer buffer by its bits and every byte of the marks buffer. Each NaN of the Rust counts as
+//! 7ff8000000000000; the sign of a zero minimum or maximum of code 6 is not compared. Wherever a
+//! point locates by its bin it must locate among all cells, in that cell or a lower one.
 use crate::buffers::Area;
+use crate::located::Located;
 use crate::names::{name_of, value_of};
 use crate::pairs::Pair;
 use reference::job;
@@ -16,6 +18,8 @@ pub struct Counts {
     pub marks: u64,
     /// words where the sign of a zero was passed over
     pub signs: u64,
+    /// points that were asked for by both locators
+    pub located: Located,
 }
 
 pub enum Verdict {
@@ -82,6 +86,7 @@ pub fn equal(p: &Pair, want: &JobOut, got: u64, area: &Area, counts: &mut Counts
         JobOut::Done { answers, marks } => {
             equal_answers(p, answers, area.answers(), counts)?;
             equal_marks(marks, area)?;
+            counts.located.add(&Located::of(p, area.answers())?);
             counts.words += area.answers().len() as u64;
             counts.marks += marks.len() as u64;
             Ok(())

@@ -113,8 +113,23 @@ fn most_cells(more: usize, r: &mut Rng) -> (Vec<u8>, Vec<Vec<u64>>) {
     }
     let (vel, pre) = fields(&m, r);
     let room = Room::of(&m, &vel);
-    let requests = (0..2).map(|_| if m.dim == 2 { room.line_request(r) } else { room.plane_request(room.plane(r), r) }).collect();
+    let requests = (0..2)
+        .map(|_| if m.dim == 2 { few_steps(room.line_request(r)) } else { room.plane_request(room.plane(r), r) })
+        .collect();
     (bytes(&m, (&vel, &pre)), requests)
+}
+
+/// Among so many cells the reference tries each at every point: lines get fewer steps.
+fn few_steps(mut q: Vec<u64>) -> Vec<u64> {
+    let steps = match q[0] {
+        11 | 14 => 6,
+        12 => 10,
+        _ => return q,
+    };
+    if q[steps] <= 65_536 {
+        q[steps] = q[steps].min(20);
+    }
+    q
 }
 
 /// 16,384 polyhedra of 64 words each are 1,048,576 words; the last may have one more.
@@ -138,8 +153,9 @@ fn most_requests(more: usize, r: &mut Rng) -> (Vec<u8>, Vec<Vec<u64>>) {
     renumber(&mut m, r);
     let (vel, pre) = fields(&m, r);
     let room = Room::of(&m, &vel);
+    let point = |r: &mut Rng| Request::of(r.pick(&[1, 2, 9, 10])).point(room.spot(r)).0;
     let requests = (0..4_096 + more)
-        .map(|_| if solid { room.plane_request(room.plane(r), r) } else { Request::of(1 + r.below(2) as u64).point(room.spot(r)).0 })
+        .map(|_| if solid { room.plane_request(room.plane(r), r) } else { point(r) })
         .collect();
     (bytes(&m, (&vel, &pre)), requests)
 }

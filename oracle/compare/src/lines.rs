@@ -1,4 +1,5 @@
-//! Requests of codes 1 to 4 and 13: points on and beside corners, edges, borders and bins, and options at their limits.
+//! Requests of codes 1 to 4 and 9 to 14: points on and beside corners, edges, borders and bins, and
+//! options at their limits.
 use crate::meshes::mean;
 use crate::room::Room;
 use crate::vectors::{along, beside, dot, mix, sub, unit, P3};
@@ -162,11 +163,11 @@ impl Room<'_> {
 
     pub fn line_request(&self, r: &mut Rng) -> Vec<u64> {
         match r.below(10) {
-            0 | 1 => Request::of(1).point(self.spot(r)).0,
-            2 | 3 => Request::of(2).point(self.spot(r)).0,
+            0 | 1 => Request::of(r.pick(&[1, 9])).point(self.spot(r)).0,
+            2 | 3 => Request::of(r.pick(&[2, 10])).point(self.spot(r)).0,
             4..=6 => {
                 let p = if r.one_in(2) { self.within(self.listed_cell(r), r) } else { self.spot(r) };
-                self.options(Request::of(r.pick(&[3, 3, 13])).point(p), r, 1).0
+                self.options(Request::of(r.pick(&[3, 3, 13, 11, 11, 14])).point(p), r, 1).0
             }
             _ => self.rake_request(r),
         }
@@ -198,7 +199,7 @@ impl Room<'_> {
             6 => 33,
             n => 2 + (n % 6) as u64,
         };
-        self.options(Request::of(4).point(a).point(b).word(seeds), r, seeds.min(64) as usize).0
+        self.options(Request::of(r.pick(&[4, 12])).point(a).point(b).word(seeds), r, seeds.min(64) as usize).0
     }
 }
 

@@ -3,22 +3,28 @@
 //!
 //!     rt staticlib capi && (cd oracle && cargo run --offline --release -p compare -- FIRST COUNT)
 //!
-//! runs the pairs of the seeds from FIRST on, COUNT of them (REFERENCE names the folder of the reference job, see
-//! reference/build.rs). --lines, --planes and --sheets make rooms that are nearly all accepted;
-//! --all adds damaged files, lengths beside every limit and the pairs of the reference's own generators. Without them a
-//! quarter are lines, a quarter planes, an eighth sheets and the rest all, and one in 300 has the greatest counts. --dir DIR
-//! says where pairs that differ are written (target/compare.differ), each in a folder of its seed: made smaller, and whole/
-//! as it was. --write writes every pair and runs neither side.
+//! runs the pairs of the seeds from FIRST on, COUNT of them (REFERENCE names the folder of the
+//! reference job, see reference/build.rs). --lines, --planes, --sheets and --border make rooms that
+//! are nearly all accepted; --all adds damaged files, lengths beside every limit and the pairs of
+//! the reference's own generators. Without them a quarter are lines, a quarter planes, an eighth
+//! sheets, an eighth border and the rest all, and one in 300 has the greatest counts. --dir DIR
+//! says where pairs that differ are written (target/compare.differ), each in a folder of its seed:
+//! made smaller, and whole/ as it was. --write writes every pair and runs neither side.
+//!
+//! Where a point is asked for by its bin and then among all cells (codes 1 and 9), the second cell
+//! must be the first or a lower one; how often each comes is printed.
 //!
 //! A pair in which the reference sees angles closer than 2^-40 counts as near; where the library is not as the Rust there,
 //! it is held to the reference under 01's angle order. The last line is 'N same, M differ, K near'; the exit status is 0
 //! only where M is 0.
+mod border;
 mod buffers;
 mod damage;
 mod fields;
 mod judge;
 mod limits;
 mod lines;
+mod located;
 mod meshes;
 mod names;
 mod pairs;
@@ -28,6 +34,8 @@ mod room;
 mod sheets;
 mod shrink;
 mod tally;
+#[cfg(test)]
+mod border_tests;
 #[cfg(test)]
 mod sheet_tests;
 #[cfg(test)]
@@ -44,7 +52,7 @@ use std::sync::atomic::Ordering::Relaxed;
 use std::time::{Duration, Instant};
 use tally::Tally;
 
-const USAGE: &str = "usage: compare FIRST COUNT [--lines|--planes|--sheets|--all] [--dir DIR] [--write]";
+const USAGE: &str = "usage: compare FIRST COUNT [--lines|--planes|--sheets|--border|--all] [--dir DIR] [--write]";
 /// So many pairs that differ are written and made smaller; later ones are named only.
 const WRITTEN: u32 = 20;
 const PROGRESS: Duration = Duration::from_secs(5);
@@ -68,6 +76,7 @@ impl Options {
                 "--lines" => o.mode = Mode::Lines,
                 "--planes" => o.mode = Mode::Planes,
                 "--sheets" => o.mode = Mode::Sheets,
+                "--border" => o.mode = Mode::Border,
                 "--all" => o.mode = Mode::All,
                 "--write" => o.write = true,
                 "--dir" => o.dir = args.next()?.into(),
@@ -118,6 +127,7 @@ impl Run {
         self.counts.words += o.counts.words;
         self.counts.marks += o.counts.marks;
         self.counts.signs += o.counts.signs;
+        self.counts.located.add(&o.counts.located);
         self.ours += o.ours;
         self.theirs += o.theirs;
         self.slowest = self.slowest.max((o.ours, o.theirs, seed));
@@ -152,6 +162,7 @@ impl Run {
             "{} answer words and {} marks compared, {} signs of zero minima or maxima passed over",
             self.counts.words, self.counts.marks, self.counts.signs
         );
+        println!("{}", self.counts.located.line());
         println!("near pairs: {} as the Rust, {} by 01's angle order alone", self.near - self.near_by_01, self.near_by_01);
         let per = |t: Duration| t.as_secs_f64() * 1e6 / o.count.max(1) as f64;
         println!(

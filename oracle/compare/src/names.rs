@@ -1,8 +1,9 @@
 //! What a word of an answer is.
+use reference::by_bins;
 
 pub fn name_of(code: u64, words: &[u64], at: usize) -> String {
     let one_of = |names: &[&str]| names.get(at).map_or("?".into(), |s| s.to_string());
-    match code {
+    match by_bins(code) {
         1 => "cell".into(),
         2 => one_of(&["found", "x", "y", "z"]),
         3 => line_word(words, 0, at),
@@ -23,7 +24,7 @@ pub fn name_of(code: u64, words: &[u64], at: usize) -> String {
 
 /// A word as the number that it most likely is.
 pub fn value_of(code: u64, word: u64) -> String {
-    if code == 13 { (word as i64).to_string() } else { format!("{:e}", f64::from_bits(word)) }
+    if by_bins(code) == 13 { (word as i64).to_string() } else { format!("{:e}", f64::from_bits(word)) }
 }
 
 fn axis(k: usize) -> &'static str {

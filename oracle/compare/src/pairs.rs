@@ -1,4 +1,5 @@
 //! The pairs (case, requests): a seed and a mode decide one, with the lengths of the lent buffers.
+use crate::border::{border_fields, border_mesh};
 use crate::damage::{answer_edge, answer_edge_of, damage, length_edge, shorten};
 use crate::fields::fields;
 use crate::limits::{large, small_words};
@@ -9,6 +10,7 @@ use crate::sheets::{long_sheet, sheet_fields, sheet_mesh};
 use crate::vectors::P3;
 use reference::refair::gen::{self, Mesh, Rng};
 use reference::refair::{read_case, Lens};
+use reference::{among_all, by_bins};
 
 #[derive(Clone)]
 pub struct Pair {
@@ -36,6 +38,7 @@ pub enum Mode {
     Lines,
     Planes,
     Sheets,
+    Border,
     All,
     Mixed,
 }
@@ -43,7 +46,7 @@ pub enum Mode {
 impl Mode {
     /// The option that asks for it.
     pub fn name(self) -> &'static str {
-        [" --lines", " --planes", " --sheets", " --all", ""][self as usize]
+        [" --lines", " --planes", " --sheets", " --border", " --all", ""][self as usize]
     }
 }
 
@@ -60,12 +63,14 @@ pub fn made(seed: u64, mode: Mode) -> Pair {
         Mode::Lines => lines_pair(r),
         Mode::Planes => planes_pair(r),
         Mode::Sheets => sheets_pair(r),
+        Mode::Border => border_pair(r),
         Mode::All => any_pair(seed, r),
         Mode::Mixed if r.one_in(300) => large(r),
         Mode::Mixed => match r.below(8) {
             0 | 1 => lines_pair(r),
             2 | 3 => planes_pair(r),
             4 => sheets_pair(r),
+            5 => border_pair(r),
             _ => any_pair(seed, r),
         },
     }
@@ -124,20 +129,28 @@ fn lines_pair(r: &mut Rng) -> Pair {
     }
     let requests: Vec<_> = (0..how_many(r))
         .map(|_| match r.below(4) {
-            0 => gen::request(&m, r),
-            1 | 2 if zeros && !room.centres.is_empty() => Request::of(2).point(r.pick(&room.centres)).0,
+            0 => either_way(gen::request(&m, r), r),
+            1 | 2 if zeros && !room.centres.is_empty() => Request::of(r.pick(&[2, 10])).point(r.pick(&room.centres)).0,
             _ => room.line_request(r),
         })
         .collect();
     let mut pair = finished(&m, &vel, &pre, &requests, sort);
     shorten(&mut pair.requests, r);
-    if requests.iter().any(|q| (q[0] == 3 || q[0] == 13) && q[6] == 65_536) && !r.one_in(8) {
+    if requests.iter().any(|q| [3, 13].contains(&by_bins(q[0])) && q[6] == 65_536) && !r.one_in(8) {
         pair.lens.answers = 200_000; // such a line has up to 196,612 words
     }
     if r.one_in(8) {
         answer_edge(&mut pair, r);
     }
     pair
+}
+
+/// A request by the bins, or half of the time the same among all cells.
+fn either_way(mut q: Vec<u64>, r: &mut Rng) -> Vec<u64> {
+    if r.one_in(2) {
+        q[0] = among_all(q[0]);
+    }
+    q
 }
 
 fn planes_pair(r: &mut Rng) -> Pair {
@@ -157,7 +170,7 @@ fn planes_pair(r: &mut Rng) -> Pair {
                 return gen::request(&m, r);
             }
             if r.one_in(30) {
-                return room.sheet_request(r); // 31
+                return if r.one_in(2) { room.sheet_request(r) } else { room.line_request(r) }; // 31
             }
             if r.one_in(2) {
                 plane = room.plane(r);
@@ -188,7 +201,19 @@ fn sheets_pair(r: &mut Rng) -> Pair {
     let requests = Room::of(&m, &vel).sheet_requests(r);
     let mut pair = finished(&m, &vel, &pre, &requests, sort);
     if r.one_in(4) {
-        answer_edge_of(&mut pair, |code| code == 13, r);
+        answer_edge_of(&mut pair, |code| by_bins(code) == 13, r);
+    }
+    pair
+}
+
+fn border_pair(r: &mut Rng) -> Pair {
+    let (mut m, sort) = border_mesh(r);
+    renumber(&mut m, r);
+    let (vel, pre) = border_fields(&m, r);
+    let requests = Room::of(&m, &vel).border_requests(r);
+    let mut pair = finished(&m, &vel, &pre, &requests, sort);
+    if r.one_in(8) {
+        answer_edge_of(&mut pair, |code| code > 8, r);
     }
     pair
 }

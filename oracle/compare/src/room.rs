@@ -13,6 +13,8 @@ pub struct Room<'a> {
     pub size: f64,
     /// cells that do not reach the far borders, where the bins lose them
     inner: Vec<usize>,
+    /// the others
+    far: Vec<usize>,
     /// the cells' centres as the Rust has them, where they were asked for
     pub centres: Vec<P3>,
 }
@@ -31,10 +33,9 @@ impl<'a> Room<'a> {
         let n = m.cells.len() as f64;
         let bins = [(n * aspect).sqrt().ceil().max(1.0), (n / aspect).sqrt().ceil().max(1.0)];
         let size = (0..3).fold(0f64, |s, k| s.max(hi[k] - lo[k]));
-        let inner = (0..m.cells.len())
-            .filter(|&i| m.cells[i].numbers().iter().all(|&v| (0..2).all(|k| m.pts[v as usize][k] < hi[k])))
-            .collect();
-        Self { m, vel, lo, hi, bins, size, inner, centres: Vec::new() }
+        let (inner, far) = (0..m.cells.len())
+            .partition(|&i| m.cells[i].numbers().iter().all(|&v| (0..2).all(|k| m.pts[v as usize][k] < hi[k])));
+        Self { m, vel, lo, hi, bins, size, inner, far, centres: Vec::new() }
     }
 
     pub fn with_centres(mut self) -> Self {
@@ -61,6 +62,32 @@ impl<'a> Room<'a> {
             return self.any_cell(r);
         }
         &self.m.cells[r.pick(&self.inner)]
+    }
+
+    /// A cell that reaches a far border.
+    pub fn far_cell(&self, r: &mut Rng) -> &'a Cell {
+        &self.m.cells[r.pick(&self.far)]
+    }
+
+    /// The bin of a coordinate, as the Rust has it.
+    fn bin(&self, x: f64, axis: usize) -> u64 {
+        let share = ((x - self.lo[axis]) / (self.hi[axis] - self.lo[axis])).clamp(0.0, 1.0);
+        (share * self.bins[axis]).floor() as u64 % self.bins[axis] as u64
+    }
+
+    /// The words of an index of the bins: a head to a bin, two words to a cell in a bin. It stands
+    /// where there are no more than 72 to a cell (crates/lines_bins).
+    pub fn has_index(&self) -> bool {
+        let mut words = self.bins[0] * self.bins[1];
+        for c in &self.m.cells {
+            let count = |axis: usize| {
+                let list = || c.numbers().into_iter().map(|v| self.m.pts[v as usize][axis]);
+                let (low, high) = (list().fold(f64::INFINITY, f64::min), list().fold(f64::NEG_INFINITY, f64::max));
+                (self.bin(high, axis) + 1).saturating_sub(self.bin(low, axis)) as f64
+            };
+            words += 2.0 * count(0) * count(1);
+        }
+        words <= 72.0 * self.m.cells.len() as f64
     }
 
     /// A point well inside a (convex) cell.

@@ -26,10 +26,11 @@ fn sheet<R: Rule>(line: &[u64]) -> Vec<u64> {
     std::iter::once(list.len() as u64).chain(list.iter().flatten().map(|x| *x as u64)).collect()
 }
 
-/// The points of the line with the arguments of a sheet, as the words of code 3.
+/// The points of the line with the arguments of a sheet, as the words of code 3, or of 11 for code
+/// 14.
 fn line_of(case: &[u8], request: &[u8], words: usize, floats: usize, marks: usize) -> Vec<u64> {
     let mut request = request.to_vec();
-    request[0] = 3;
+    request[0] = if request[0] == 14 { 11 } else { 3 };
     let (mut words, mut floats, mut marks, mut answers) = (vec![0; words], vec![0.0; floats], vec![0; marks], vec![0; 200_000]);
     let result = unsafe {
         hookyellow_job(
@@ -41,8 +42,8 @@ fn line_of(case: &[u8], request: &[u8], words: usize, floats: usize, marks: usiz
     answers[2..2 + answers[1] as usize].to_vec()
 }
 
-/// The job with the sheets of a rule. One of another length has its count alone.
-unsafe extern "C" fn ruled<R: Rule>(
+/// The job with the sheets of a code by a rule. One of another length has its count alone.
+unsafe extern "C" fn ruled<R: Rule, const CODE: u64>(
     a: *const u8, an: usize, b: *const u8, bn: usize, c: *mut u32, cn: usize,
     d: *mut f64, dn: usize, e: *mut u8, en: usize, g: *mut u64, gn: usize,
 ) -> u64 {
@@ -51,7 +52,7 @@ unsafe extern "C" fn ruled<R: Rule>(
     let mut at = 0;
     for request in requests.chunks_exact(128).filter(|_| result == 0) {
         let n = answers[at + 1] as usize;
-        if request[..8] == 13u64.to_le_bytes() && n > 0 {
+        if request[..8] == CODE.to_le_bytes() && n > 0 {
             let words = sheet::<R>(&line_of(case, request, cn, dn, en));
             let kept = if words.len() == n { n } else { 1 };
             answers[at + 2..at + 2 + kept].copy_from_slice(&words[..kept]);
@@ -61,9 +62,12 @@ unsafe extern "C" fn ruled<R: Rule>(
     result
 }
 
-/// The words in which a wrong rule is seen.
-fn seen<R: Rule>() -> String {
-    first_difference(ruled::<R>).2
+/// A wrong rule is seen, in sheets by the bins and among all cells.
+fn seen<R: Rule>() {
+    let why = first_difference(ruled::<R, 13>).2;
+    assert!(why.contains("(code 13, from word"), "{why}");
+    let why = first_difference(ruled::<R, 14>).2;
+    assert!(why.contains("(code 14, from word"), "{why}");
 }
 
 struct ProductInFloats;
@@ -127,14 +131,16 @@ impl Rule for SameX {
 
 #[test]
 fn another_rounding() {
-    for why in [seen::<ProductInFloats>(), seen::<HalvesToEven>(), seen::<HalvesUp>(), seen::<HalvesTowardZero>(), seen::<TowardZero>()] {
-        assert!(why.contains("(code 13, from word"), "{why}");
-    }
+    seen::<ProductInFloats>();
+    seen::<HalvesToEven>();
+    seen::<HalvesUp>();
+    seen::<HalvesTowardZero>();
+    seen::<TowardZero>();
 }
 
 #[test]
 fn other_points_dropped() {
-    for why in [seen::<NothingDropped>(), seen::<EachOnce>(), seen::<SameX>()] {
-        assert!(why.contains("(code 13, from word"), "{why}");
-    }
+    seen::<NothingDropped>();
+    seen::<EachOnce>();
+    seen::<SameX>();
 }

@@ -1,6 +1,7 @@
-//! Rooms and requests for the sheet in millimetres (code 13): points on a half millimetre (an odd number of sixteenths of a
-//! metre, and no other float), beside one, near 0 and of any size, rooms that are a few millimetres wide or reach 2^20, and
-//! steps so short that points are dropped. Half of the sheets stand after the line with the same arguments.
+//! Rooms and requests for the sheet in millimetres (codes 13 and 14): points on a half millimetre
+//! (an odd number of sixteenths of a metre, and no other float), beside one, near 0 and of any
+//! size, rooms that are a few millimetres wide or reach 2^20, and steps so short that points are
+//! dropped. Half of the sheets stand after the line with the same arguments.
 use crate::fields::fields;
 use crate::lines::Request;
 use crate::meshes::mean;
@@ -108,7 +109,7 @@ impl Room<'_> {
     /// A sheet, most often with arguments that are accepted.
     pub fn sheet_request(&self, r: &mut Rng) -> Vec<u64> {
         let seed = if r.one_in(8) { self.spot(r) } else { self.sheet_seed(r) };
-        let mut q = self.sheet_options(Request::of(13).point(seed), r).0;
+        let mut q = self.sheet_options(Request::of(r.pick(&[13, 13, 14])).point(seed), r).0;
         q.resize(16, 0);
         match r.below(60) {
             0 => q[9 + r.below(7)] = r.pick(&[1, 1 << 63, u64::MAX]),
@@ -128,7 +129,7 @@ impl Room<'_> {
             let q = self.sheet_request(r);
             if r.one_in(2) {
                 let mut line = q.clone();
-                line[0] = 3;
+                line[0] = if q[0] == 14 { 11 } else { 3 };
                 list.push(line);
             }
             list.push(q);
@@ -146,6 +147,6 @@ pub fn long_sheet(r: &mut Rng) -> (Mesh, Vec<Vec<u64>>) {
     let m = gen::grid2(1, 1, 128.0, 128.0); // one bin
     let step = r.pick(&[0.001_5, 0.001_5, 0.001, 1e-9]);
     let steps = r.pick(&[65_536, 65_536, 65_536, 65_537]);
-    let q = Request::of(13).point([r.pick(&[0.0625, 0.5, 1.0]), 2.0625, 0.0]).word(0).float(step).word(steps);
-    (m, vec![q.float(1e9).float(0.0).0])
+    let q = Request::of(r.pick(&[13, 14])).point([r.pick(&[0.0625, 0.5, 1.0]), 2.0625, 0.0]);
+    (m, vec![q.word(0).float(step).word(steps).float(1e9).float(0.0).0])
 }

@@ -1,10 +1,11 @@
 //! What came of the pairs: how often each code and each refusal came, over which fields and arguments.
+use crate::border::{INDEXES, INDEXES_MADE, PLACES, PLACES_MADE};
 use crate::lines::{POINTS, POINTS_MADE};
 use crate::pairs::Pair;
 use crate::planes::{PLANES, PLANES_MADE};
 use crate::sheets::{SEEDS, SEEDS_MADE};
 use reference::refair::{read_case, Answer, Case, JobOut};
-use reference::{codes, used_words};
+use reference::{by_bins, codes, used_words};
 use std::collections::BTreeMap;
 use std::fmt::Write;
 use std::sync::atomic::{AtomicU64, Ordering::Relaxed};
@@ -21,12 +22,13 @@ pub struct Tally {
     requests: BTreeMap<(u64, u32), u64>,
     /// by code: requests on a case with such a field, and with such an argument
     fields: BTreeMap<u64, [u64; 6]>,
-    kinds: BTreeMap<&'static str, u64>,
+    kinds: BTreeMap<(u64, &'static str), u64>,
     sorts: BTreeMap<String, u64>,
     limits: BTreeMap<(String, u32), u64>,
     sheets: BTreeMap<&'static str, u64>,
-    /// served jobs with a sheet
+    /// served jobs with a sheet, and with a request among all cells
     with_sheet: u64,
+    among_all: u64,
     nans: u64,
 }
 
@@ -41,33 +43,27 @@ fn fields_of(case: &Case, cell: usize) -> [f64; 4] {
 }
 
 fn kind_of(code: u64, w: &[u64]) -> &'static str {
-    match code {
-        1 if w[0] == u64::MAX => "1 nowhere",
-        1 => "1 located",
-        2 if w[0] == 0 => "2 nowhere",
-        2 => "2 located",
-        3 => match w[0] {
-            1 => "3 seed alone",
-            2..=50 => "3 to 50 points",
-            51..=65_536 => "3 to 65,536 points",
-            _ => "3 all 65,537 points",
+    match by_bins(code) {
+        1 if w[0] == u64::MAX => "nowhere",
+        1 => "located",
+        2 if w[0] == 0 => "nowhere",
+        2 => "located",
+        3 | 13 => match w[0] {
+            1 => "one point",
+            2..=50 => "to 50 points",
+            51..=65_536 => "to 65,536 points",
+            _ => "all 65,537 points",
         },
-        13 => match w[0] {
-            1 => "13 one point",
-            2..=50 => "13 to 50 points",
-            51..=65_536 => "13 to 65,536 points",
-            _ => "13 all 65,537 points",
-        },
-        4 if w[0] == 64 => "4 of 64 lines",
-        4 => "4 of fewer lines",
-        5 if w[0] == 0 => "5 no polygon",
-        5 => "5 polygons",
-        6 if w[10] == 0 => "6 no flux",
-        6 if w[12] << 1 == 0 => "6 one-way flux",
-        6 => "6 flux both ways",
-        7 => "7",
-        _ if w[0] == u64::MAX => "8 none",
-        _ => "8 found",
+        4 if w[0] == 64 => "of 64 lines",
+        4 => "of fewer lines",
+        5 if w[0] == 0 => "no polygon",
+        5 => "polygons",
+        6 if w[10] == 0 => "no flux",
+        6 if w[12] << 1 == 0 => "one-way flux",
+        6 => "flux both ways",
+        7 => "integrals",
+        _ if w[0] == u64::MAX => "none",
+        _ => "found",
     }
 }
 
@@ -93,11 +89,13 @@ impl Tally {
         }
         for (i, a) in answers.iter().enumerate() {
             self.count_answer(p, i, a, held, read);
-            if i > 0 && p.code(i) == 13 && p.code(i - 1) == 3 && (1..16).all(|k| p.word(i, k) == p.word(i - 1, k)) {
+            let after_line = i > 0 && [(3, 13), (11, 14)].contains(&(p.code(i - 1), p.code(i)));
+            if after_line && (1..16).all(|k| p.word(i, k) == p.word(i - 1, k)) {
                 self.count_sheet(&answers[i - 1], a);
             }
         }
-        self.with_sheet += (0..answers.len()).any(|i| p.code(i) == 13) as u64;
+        self.with_sheet += (0..answers.len()).any(|i| by_bins(p.code(i)) == 13) as u64;
+        self.among_all += (0..answers.len()).any(|i| by_bins(p.code(i)) != p.code(i)) as u64;
     }
 
     fn count_answer(&mut self, p: &Pair, i: usize, a: &Answer, held: [bool; 4], read: bool) {
@@ -111,7 +109,7 @@ impl Tally {
         }
         self.nans += a.words.iter().filter(|w| **w == NAN).count() as u64;
         if a.refusal == 0 {
-            *self.kinds.entry(kind_of(code, &a.words)).or_default() += 1;
+            *self.kinds.entry((code, kind_of(code, &a.words))).or_default() += 1;
         }
     }
 
@@ -143,15 +141,20 @@ impl Tally {
         };
         let limits: Vec<String> = self.limits.iter().map(|((s, k), n)| format!("{s}: {n} gave {k}")).collect();
         format!(
-            "cases: {}\nlimits: {}\npoints made here: {}\nplanes made here: {}\nseeds of sheets made here: {}\n{} served jobs with a sheet; {}\nanswers: {}; {} words are NaN\n",
+            "cases: {}\nlimits: {}\npoints made here: {}\nplanes made here: {}\nseeds of sheets made here: {}\n\
+             points by the border made here: {}\nrooms by the border: {}\n\
+             {} served jobs with a request among all cells\n{} served jobs with a sheet; {}\nanswers: {}; {} words are NaN\n",
             self.sorts.iter().map(|(s, n)| format!("{s} {n}")).collect::<Vec<_>>().join(", "),
             limits.join(", "),
             pairs(&POINTS, &POINTS_MADE),
             pairs(&PLANES, &PLANES_MADE),
             pairs(&SEEDS, &SEEDS_MADE),
+            pairs(&PLACES, &PLACES_MADE),
+            pairs(&INDEXES, &INDEXES_MADE),
+            self.among_all,
             self.with_sheet,
             self.sheets.iter().map(|(s, n)| format!("{s} {n}")).collect::<Vec<_>>().join(", "),
-            self.kinds.iter().map(|(s, n)| format!("{s}: {n}")).collect::<Vec<_>>().join(", "),
+            self.kinds.iter().map(|((code, s), n)| format!("{code} {s}: {n}")).collect::<Vec<_>>().join(", "),
             self.nans
         )
     }

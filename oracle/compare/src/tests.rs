@@ -211,7 +211,12 @@ fn a_bit_of_each_code() {
     bit_seen::<6>();
     bit_seen::<7>();
     bit_seen::<8>();
+    bit_seen::<9>();
+    bit_seen::<10>();
+    bit_seen::<11>();
+    bit_seen::<12>();
     bit_seen::<13>();
+    bit_seen::<14>();
 }
 
 #[test]

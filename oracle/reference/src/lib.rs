@@ -8,7 +8,7 @@ use refair::ref02::{self, Landed};
 use refair::{JobOut, Lens, Order, Stats};
 
 /// Of the requests of document 02, Q-1 to this one are served. oracle/fuzz/run and oracle/replay/make.py read it here.
-pub const LANDED: u32 = 1;
+pub const LANDED: u32 = 2;
 
 /// The reference job.
 pub fn job(case: &[u8], requests: &[u8], lens: Lens, order: Order, stats: &mut Stats) -> JobOut {
@@ -23,6 +23,25 @@ pub fn used_words(code: u64) -> Option<usize> {
 /// The codes, rising.
 pub fn codes() -> Vec<u64> {
     (1..=20).filter(|&code| used_words(code).is_some()).collect()
+}
+
+/// The code that asks the same among all cells: 9 to 12 for 1 to 4, 14 for 13; any other is its
+/// own.
+pub fn among_all(code: u64) -> u64 {
+    match code {
+        1..=4 => code + 8,
+        13 => 14,
+        _ => code,
+    }
+}
+
+/// The code that asks the same by the bins: 1 to 4 for 9 to 12, 13 for 14; any other is its own.
+pub fn by_bins(code: u64) -> u64 {
+    match code {
+        9..=12 => code - 8,
+        14 => 13,
+        _ => code,
+    }
 }
 
 /// A pair of the reference's own generators: of the one for document 01 or of the one for 02, in turn.
