@@ -31,9 +31,10 @@ impl Job {
         Job { case: pair.case, requests: pair.req, lens: pair.lens }
     }
 
-    /// Is there a request of this code?
-    pub fn asks(&self, code: u64) -> bool {
-        self.requests.chunks_exact(128).any(|request| request[..8] == code.to_le_bytes())
+    /// Is there a request of such a code?
+    pub fn asks(&self, code: impl Fn(u64) -> bool) -> bool {
+        let first = |request: &[u8]| u64::from_le_bytes(request[..8].try_into().expect("eight bytes"));
+        self.requests.chunks_exact(128).any(|request| code(first(request)))
     }
 
     /// Runs the job on a case. The work area holds garbage of the seed; marks and answers hold the same in every run.

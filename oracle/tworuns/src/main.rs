@@ -9,7 +9,7 @@ mod job;
 
 use fields::Fields;
 use job::{End, Job};
-use reference::pair;
+use reference::{by_bins, pair};
 use reference::refair::gen::Rng;
 use std::process::ExitCode;
 
@@ -22,6 +22,7 @@ struct Tally {
     differ: u64,
     refused: u64,
     sheets: u64,
+    among_all: u64,
     changed: u64,
     shown: u64,
     tried: u64,
@@ -77,7 +78,8 @@ fn two_runs(seed: u64, t: &mut Tally) {
     let fields = Fields::of(&job.case);
     let first = job.run(&job.case, r.next());
     t.refused += u64::from(first.result != 0);
-    t.sheets += u64::from(first.result == 0 && job.asks(13));
+    t.sheets += u64::from(first.result == 0 && job.asks(|code| by_bins(code) == 13));
+    t.among_all += u64::from(first.result == 0 && job.asks(|code| by_bins(code) != code));
     let free = fields.as_ref().map_or(Vec::new(), |f| some(free_cells(&first, f), r));
     t.changed += u64::from(!free.is_empty());
     hold(seed, &first, &again(&job, fields.as_ref(), &free, r), t);
@@ -127,7 +129,8 @@ fn main() -> ExitCode {
         }
     }
     if !self_test {
-        println!("{} pairs with other values in the second run; {} refused jobs; {} others with a sheet", t.changed, t.refused, t.sheets);
+        println!("{} pairs with other values in the second run; {} refused jobs", t.changed, t.refused);
+        println!("{} served jobs with a sheet, {} with a request among all cells", t.sheets, t.among_all);
         println!("{} of {} changes at one marked cell show in the answers or marks", t.shown, t.tried);
     }
     println!("{} alike, {} differ", t.alike, t.differ);
