@@ -1,7 +1,8 @@
 //! Times one row: medians of rounds in which the sides run in turn.
 use crate::ours::{bytes, Ours};
-use crate::rows::{witnesses, Request, Row, Work};
+use crate::rows::{by_the_bins, witnesses, Request, Row, Work};
 use crate::theirs::{build, field, Call, Output, Ready, Theirs};
+use reference::by_bins;
 use reference::flursys::workbench::results::ResultDataset;
 use std::hint::black_box;
 
@@ -14,6 +15,8 @@ const LEAST: usize = 4;
 pub struct Measured {
     pub ours: f64,
     pub theirs: f64,
+    /// Ours by the bins, of a row among all cells.
+    pub bins: Option<f64>,
     /// Fewer units were run than the row says, and the times multiplied.
     pub scaled: bool,
     /// Half of our rounds lie more than a quarter of the median apart.
@@ -68,7 +71,7 @@ fn rounds(once: f64) -> usize {
 /// The words of an answer whose lines have all their steps.
 fn whole_answer(request: &Request) -> Option<usize> {
     let line = |steps: u64| 4 + 3 * steps as usize;
-    match request[0] {
+    match by_bins(request[0]) {
         3 => Some(2 + line(request[6])),
         4 => Some(3 + request[7] as usize * line(request[10])),
         _ => None,
@@ -127,7 +130,7 @@ fn measure_build(row: &Row, ours: &mut Ours, theirs: &Theirs, with_field: bool) 
         b.push(time_build(&theirs.ready, with_field));
     }
     let ours = median(&mut a);
-    Ok(Measured { ours, theirs: median(&mut b), scaled: false, uneven: uneven(&a) })
+    Ok(Measured { ours, theirs: median(&mut b), bins: None, scaled: false, uneven: uneven(&a) })
 }
 
 fn plan(ours: &mut Ours, list: fn(usize) -> Vec<Request>, whole: usize) -> Plan {
@@ -170,14 +173,17 @@ fn measure_requests(
     let repeated = request.repeat(repeats);
     ours.fit(&repeated);
     let requests = bytes(&repeated);
+    let beside = by_the_bins(&repeated).map(|list| bytes(&list));
     let once = build + clock(|| ours.job(&requests)).0 + time_calls(theirs, &calls, repeats);
-    let (mut a, mut b) = (Vec::new(), Vec::new());
+    let (mut a, mut b, mut c) = (Vec::new(), Vec::new(), Vec::new());
     for _ in 0..rounds(once) {
         let empty = clock(|| ours.job(&[])).0;
         a.push(clock(|| ours.job(&requests)).0 - empty);
         b.push(time_calls(theirs, &calls, repeats));
+        c.extend(beside.as_ref().map(|requests| clock(|| ours.job(requests)).0 - empty));
     }
     let factor = whole as f64 / units as f64 / repeats as f64;
+    let bins = beside.map(|_| median(&mut c) * factor);
     let (ours, theirs) = (median(&mut a) * factor, median(&mut b) * factor);
-    Ok(Measured { ours, theirs, scaled: units < whole, uneven: uneven(&a) })
+    Ok(Measured { ours, theirs, bins, scaled: units < whole, uneven: uneven(&a) })
 }

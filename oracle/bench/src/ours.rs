@@ -1,6 +1,7 @@
 //! The proved code: the exported job on case bytes, with buffers that are lent once and used again.
 use crate::rows::Request;
 use hookyellow::raw::{hookyellow_job, hookyellow_needs};
+use reference::by_bins;
 
 pub struct Ours {
     case: Vec<u8>,
@@ -17,7 +18,7 @@ pub fn bytes(list: &[Request]) -> Vec<u8> {
 /// At least as many answer words as a request can need, a section of at most `cells` hexahedra included.
 fn bound(request: &Request, cells: usize) -> usize {
     let points = |steps: u64| 4 + 3 * steps as usize;
-    2 + match request[0] {
+    2 + match by_bins(request[0]) {
         3 | 13 => points(request[6]),
         4 => 1 + request[7] as usize * points(request[10]),
         5 => 1 + cells * 45,

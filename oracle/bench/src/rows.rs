@@ -1,5 +1,6 @@
 //! The rows of the table, and their requests as the 16 words of docs/FORMAT.md.
 use crate::rooms::Shape;
+use reference::{among_all, by_bins};
 
 pub type Request = [u64; 16];
 
@@ -51,6 +52,11 @@ pub fn all() -> Vec<Row> {
     add("line", &quads, request(line, 65_536, 64));
     add("rake", &quads, request(rake, 1024, 1));
     add("sheet", &quads, request(sheet, 65_536, 64));
+    add("locate-all", &quads, request(|n| all_cells(locates(n)), 4096, 256));
+    add("velocity-all", &quads, request(|n| all_cells(velocities(n)), 4096, 256));
+    add("line-all", &quads, request(|n| all_cells(line(n)), 65_536, 64));
+    add("rake-all", &quads, request(|n| all_cells(rake(n)), 1024, 1));
+    add("sheet-all", &quads, request(|n| all_cells(sheet(n)), 65_536, 64));
     add("section-few", &hexahedra, request(|_| vec![section(FEW)], 1, 1));
     add("section-many", &hexahedra, request(|_| vec![section(MANY)], 1, 1));
     add("statistics-few", &hexahedra, request(|_| vec![statistics(FEW)], 1, 1));
@@ -81,10 +87,24 @@ fn request(code: u64, arguments: &[u64]) -> Request {
     words
 }
 
-/// Points spread over the whole square, the far borders included.
+/// The same requests among all cells.
+fn all_cells(mut list: Vec<Request>) -> Vec<Request> {
+    list.iter_mut().for_each(|request| request[0] = among_all(request[0]));
+    list
+}
+
+/// The same requests by the bins, where these ask for something else.
+pub fn by_the_bins(list: &[Request]) -> Option<Vec<Request>> {
+    let mut same = list.to_vec();
+    same.iter_mut().for_each(|request| request[0] = by_bins(request[0]));
+    (same != list).then_some(same)
+}
+
+/// Points spread over the square but for its far eighths, whose cells are listed in no bin: both
+/// locators find them.
 fn spread(i: usize) -> [u64; 3] {
     let (x, y) = (i as f64 * 0.618_033_988_749_894_9 % 1.0, i as f64 * 0.414_213_562_373_095_05 % 1.0);
-    [x, y, 0.0].map(f64::to_bits)
+    [x * 0.875, y * 0.875, 0.0].map(f64::to_bits)
 }
 
 fn locates(count: usize) -> Vec<Request> {

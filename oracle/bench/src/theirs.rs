@@ -1,10 +1,12 @@
 //! The unchanged Rust: FLURSYS's own functions, as a caller who keeps the mesh and the streamline field uses them.
+//! It has no locator among all cells: for codes 9 to 12 and 14 it does what 1 to 4 and 13 ask for.
 use crate::rows::Request;
 use reference::flursys::workbench::plane_integrals;
 use reference::flursys::workbench::plane_monitor::{self, FlowPlaneMonitor, PlaneSnapshot};
 use reference::flursys::workbench::results::streamlines::*;
 use reference::flursys::workbench::results::ResultDataset;
 use reference::flursys::{CellDefinition, MeshDimension, Point, UnstructuredMesh, Vec3};
+use reference::by_bins;
 use reference::refair::ref02::millimetres;
 use reference::refair::{self, bits, plane_of, Case, Stats, NONE};
 
@@ -68,7 +70,7 @@ fn options(request: &Request, at: usize) -> StreamlineOptions {
 
 impl Call {
     pub fn of(request: &Request) -> Self {
-        match request[0] {
+        match by_bins(request[0]) {
             1 => Call::Locate(vector(request, 1)),
             2 => Call::Velocity(vector(request, 1)),
             3 => Call::Line(vector(request, 1), options(request, 4)),
