@@ -36,6 +36,11 @@ static inline uint64_t long_at(const uint8_t *p) {
     return w;
 }
 
+/* The code that asks the same by the bins: 1 to 4 for 9 to 12, 13 for 14; any other is its own. */
+static inline uint64_t by_bins(uint64_t code) {
+    return code >= 9 && code <= 12 ? code - 8 : code == 14 ? 13 : code;
+}
+
 /* The counts of a case: refusal 1, 2 or 3, or 0 and the rest. */
 typedef struct survey {
     unsigned refusal;

@@ -100,6 +100,7 @@ static int sheet(const uint64_t *w, uint64_t n) {
 
 static int shaped(const survey *s, uint64_t code, const uint64_t *w, uint64_t n) {
     static const uint8_t length[] = {0, 1, 4, 0, 0, 0, 13, 4, 5};
+    code = by_bins(code);
     if (code == 13) return n > 0 && s->dimension == 2 && sheet(w, n);
     if (code < 1 || code > 8 || n == 0 || (code <= 4) != (s->dimension == 2)) return 0;
     if (length[code] && n != length[code]) return 0;
@@ -112,6 +113,7 @@ static int shaped(const survey *s, uint64_t code, const uint64_t *w, uint64_t n)
 
 /* A NaN is given back as one pattern. The word for no cell, all ones, is not a float, and a sheet has none. */
 static int plain_nans(uint64_t code, const uint64_t *w, uint64_t n) {
+    code = by_bins(code);
     if (code == 13) return 1;
     for (uint64_t i = code == 1 || code == 8; i < n; i++)
         if ((w[i] & INT64_MAX) > 0x7ff0000000000000 && w[i] != 0x7ff8000000000000) return 0;

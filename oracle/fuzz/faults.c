@@ -1,5 +1,6 @@
 /* A library with a fault, for `run --self-test`: the job with one thing wrong afterwards. FAULT says which. */
 #include "../../include/hookyellow.h"
+#include <string.h>
 
 #define GIVEN \
     const uint8_t *case_bytes, size_t case_length, const uint8_t *requests, size_t requests_length, uint32_t *words, \
@@ -7,6 +8,9 @@
         size_t answers_length
 
 uint64_t __real_hookyellow_job(GIVEN);
+
+/* The request of the last job that had one alone. */
+static uint8_t last[128];
 
 uint64_t __wrap_hookyellow_job(GIVEN) {
     uint64_t result = __real_hookyellow_job(case_bytes, case_length, requests, requests_length, words, words_length, floats,
@@ -24,8 +28,15 @@ uint64_t __wrap_hookyellow_job(GIVEN) {
     case 10: if (!result && requests_length == 128) marks[0] ^= 1; break;          /* other marks than the request alone */
     case 11: if (!result && answers_length > 4 && answers[1] > 1) answers[3] = 0x7ff8000000000001; break; /* another NaN */
     case 12: for (volatile int on = 1; on;) {} break;                              /* no end */
-    case 13: if (!result && requests_length && requests[0] == 13 && answers[1] > 4) answers[5] = answers[3], answers[6] = answers[4];
-             break;                                                                /* a sheet with a point twice */
+    case 13: case 14:                                                              /* a sheet (13 or 14) with a point twice */
+        if (!result && requests_length && requests[0] == FAULT && answers[1] > 4)
+            answers[5] = answers[3], answers[6] = answers[4];
+        break;
+    case 15:                                                                       /* nowhere among all cells, after code 1 */
+        if (!result && requests_length == 128 && requests[0] == 9 && last[0] == 1 && !memcmp(requests + 8, last + 8, 120))
+            answers[2] = UINT64_MAX;
+        break;
     }
+    if (requests_length == 128) memcpy(last, requests, 128);
     return result;
 }

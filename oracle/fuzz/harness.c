@@ -2,7 +2,7 @@
  * and ends the process by abort() where anything differs from what include/hookyellow.h and docs/01-scope.md say.
  *
  * Input: 32 bytes of header, then the case and the requests.
- *   0 function: 1 to 8 and 13 the single requests, 9 hookyellow_needs, else hookyellow_job
+ *   0 function, modulo 32: 1 to 14 the single requests, 15 hookyellow_needs, else hookyellow_job
  *   1 form: bit 0 the case bytes are taken as they are; else P, W, C below give the trailer, and bit 1 the dimension.
  *           bit 2 request bytes that are no multiple of 128 stay. bit 3 buffers start at a guard page; else they end near one
  *   2 lengths of words, floats, marks, answers, a byte each (see length_of)
@@ -57,7 +57,7 @@ static size_t cut_case(const uint8_t *header, const uint8_t *body, size_t size) 
 static void bound_steps(void) {
     uint64_t left = MOST_STEPS;
     for (size_t at = 0; at + REQUEST <= request_length; at += REQUEST) {
-        uint64_t code = long_at(request_bytes + at), lines = 1;
+        uint64_t code = by_bins(long_at(request_bytes + at)), lines = 1;
         if (code != 3 && code != 4 && code != 13) continue;
         uint8_t *place = request_bytes + at + (code == 4 ? 80 : 48);
         uint64_t steps = long_at(place);
@@ -148,47 +148,59 @@ static hookyellow_vector vector(const uint64_t *w) {
     return v;
 }
 
-static hookyellow_line_options options(const uint64_t *w) {
-    hookyellow_line_options o;
-    memcpy(&o, w, sizeof o);
+static hookyellow_line_options options(const uint64_t *w, bool all_cells) {
+    double x[4];
+    memcpy(x, w, sizeof x);
+    hookyellow_line_options o = {x[0], w[1], x[2], x[3], all_cells};
     return o;
 }
 
 static uint64_t run_single(const uint64_t *w, lengths n) {
     hookyellow_plane plane = {vector(w + 1), vector(w + 4), vector(w + 7)};
-    switch (w[0]) {
-    case 1: return hookyellow_locate(CASE, vector(w + 1), LENT);
-    case 2: return hookyellow_velocity(CASE, vector(w + 1), LENT);
-    case 3: return hookyellow_streamline(CASE, vector(w + 1), w[4] != 0, options(w + 5), LENT);
-    case 4: return hookyellow_rake(CASE, vector(w + 1), vector(w + 4), w[7], w[8] != 0, options(w + 9), LENT);
+    bool all = by_bins(w[0]) != w[0];
+    switch (by_bins(w[0])) {
+    case 1: return hookyellow_locate(CASE, vector(w + 1), all, LENT);
+    case 2: return hookyellow_velocity(CASE, vector(w + 1), all, LENT);
+    case 3: return hookyellow_streamline(CASE, vector(w + 1), w[4] != 0, options(w + 5, all), LENT);
+    case 4: return hookyellow_rake(CASE, vector(w + 1), vector(w + 4), w[7], w[8] != 0, options(w + 9, all), LENT);
     case 5: return hookyellow_section(CASE, plane, LENT);
     case 6: return hookyellow_statistics(CASE, plane, w[10], LENT);
     case 7: return hookyellow_integrals(CASE, plane, LENT);
     case 8: return hookyellow_probe(CASE, plane, vector(w + 10), LENT);
-    default: return hookyellow_sheet(CASE, vector(w + 1), w[4] != 0, options(w + 5), LENT);
+    default: return hookyellow_sheet(CASE, vector(w + 1), w[4] != 0, options(w + 5, all), LENT);
     }
 }
 
 /* Makes the first request one of the given code: what a single request is a job of. */
 static void one_request(uint64_t code, uint64_t *w) {
-    static const uint8_t used[] = {0, 4, 4, 9, 13, 10, 11, 10, 13, 0, 0, 0, 0, 9};
+    static const uint8_t used[] = {0, 4, 4, 9, 13, 10, 11, 10, 13, 4, 4, 9, 13, 9, 9};
     memset(w, 0, REQUEST);
     memcpy(w, request_bytes, request_length < REQUEST ? request_length : REQUEST);
     w[0] = code;
     for (int i = used[code]; i < 16; i++) w[i] = 0;
-    if (code == 3 || code == 13) w[4] &= 1;
-    if (code == 4) w[8] &= 1;
+    if (by_bins(code) == 3 || by_bins(code) == 13) w[4] &= 1;
+    if (by_bins(code) == 4) w[8] &= 1;
     memcpy(request_bytes, w, REQUEST);
     request_length = REQUEST;
     bound_steps();
     memcpy(w, request_bytes, REQUEST);
 }
 
+/* The answer of code 1 is at hand: among all cells its point locates in that cell or a lower one. */
+static void try_all_cells(const uint8_t *header, lengths n, uint32_t seed) {
+    uint64_t bin = ((uint64_t *)answer_area.start)[2], code = 9;
+    memcpy(request_bytes, &code, 8);
+    lay_all(header, n, seed);
+    if (run_job(n)) violated("a point is refused among all cells");
+    uint64_t all = ((uint64_t *)answer_area.start)[2];
+    if (all > bin) violated("a point locates by its bin, and not among all cells in that cell or a lower one");
+}
+
 /* A single request, then the job of that request over other garbage: result, marks and answers are alike. */
 static void try_single(const uint8_t *header, const survey *s, lengths n, uint32_t seed) {
     static uint8_t marks[MOST_MARKS], answers[8 * MOST_ANSWERS];
     uint64_t w[16];
-    one_request(header[0] & 15, w);
+    one_request(header[0] & 31, w);
     n.answers = length_of(header[5], 2, MOST_ANSWERS);
     lay_all(header, n, seed);
     uint64_t result = run_single(w, n);
@@ -202,6 +214,7 @@ static void try_single(const uint8_t *header, const survey *s, lengths n, uint32
     if (result) return;
     if (memcmp(marks, mark_area.start, s->cells)) violated("a request alone has other marks than its job");
     if (memcmp(answers, answer_area.start, 8 * n.answers)) violated("a request alone has other answers than its job");
+    if (w[0] == 1 && n.answers >= 3) try_all_cells(header, n, seed + 11);
 }
 
 static void try_needs(const uint8_t *header, const survey *s, lengths n, uint32_t seed) {
@@ -230,10 +243,10 @@ int LLVMFuzzerTestOneInput(const uint8_t *data, size_t size) {
     lengths n = {length_of(header[2], words, MOST_WORDS), length_of(header[3], floats, MOST_FLOATS),
                  length_of(header[4], marks, MOST_MARKS), length_of(header[5], answers, MOST_ANSWERS)};
     uint32_t seed = word_at(header + 24);
-    unsigned function = header[0] & 15;
-    if ((function >= 1 && function <= 8) || function == 13) {
+    unsigned function = header[0] & 31;
+    if (function >= 1 && function <= 14) {
         try_single(header, &s, n, seed);
-    } else if (function == 9) {
+    } else if (function == 15) {
         try_needs(header, &s, n, seed);
     } else {
         lay_all(header, n, seed);

@@ -40,7 +40,7 @@ static void change_request(uint8_t *run, size_t count) {
     uint8_t *request = run + REQUEST * below(count), *place = request + 8 * below(16);
     uint64_t small = below(4) ? below(9) : below(65538);
     switch (below(6)) {
-    case 0: small = 1 + below(9); if (small == 9) small = 13; memcpy(request, &small, 8); break;
+    case 0: small = 1 + below(14); memcpy(request, &small, 8); break;
     case 1: memmove(request, run + REQUEST * below(count), REQUEST); break;
     case 2: memcpy(place, &small, 8); break;
     case 3: memset(place, 0, request + REQUEST - place); break;

@@ -21,8 +21,8 @@ def parts_of(case):
 def packed(case, requests, i):
     """The fuzz input of a pair; i varies the function, the lengths and the places of the buffers."""
     parts = parts_of(case)
-    code = requests[0] if len(requests) >= 128 and requests[0] in (1, 2, 3, 4, 5, 6, 7, 8, 13) else 0
-    function = code if i % 4 == 1 else 9 if i % 32 == 2 else 0
+    code = requests[0] if len(requests) >= 128 and 1 <= requests[0] <= 14 else 0
+    function = code if i % 4 == 1 else 15 if i % 32 == 2 else 0
     p, w, c, dimension = parts if parts else (0, 0, 0, 2)
     form = (0 if parts else 1) | (dimension - 2) << 1 | (4 if len(requests) % 128 else 0) | (8 if i % 8 == 3 else 0)
     pads = (0, 0) if i % 3 == 0 else (i * 37 % 256, i * 101 % 256)
