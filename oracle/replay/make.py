@@ -39,7 +39,7 @@ MOST = 2**64 - 1
 AIRJOB = (16384, 8192, 16384, 8192)
 ROOM = (32768, 16384, 16384, 16384)
 ANSWER, MARK = 0x5555555555555555, 7
-WANTED = 599
+WANTED = 676
 
 
 def u32(*numbers):
@@ -215,6 +215,17 @@ def line(seed=(0.25, 0.5, 0.0), direction=0, step=0.25, steps=10, length=0.5, st
 def sheet(*words, **options):
     """The line of these arguments in millimetres."""
     return altered(line(*words, **options), 0, 13)
+
+
+def among(*requests):
+    """The same questions among all cells."""
+    codes = {1: 9, 2: 10, 3: 11, 4: 12, 13: 14}
+    return [altered(r, 0, codes[struct.unpack_from("<Q", r)[0]]) for r in requests]
+
+
+def both(*requests):
+    """Each question by the bins and among all cells."""
+    return [x for r in requests for x in (r, *among(r))]
 
 
 def rake(start=(0.25, 0.25, 0.0), end=(0.25, 0.75, 0.0), count=3, direction=0, step=0.25, steps=10, length=0.5, stagnation=0.0):
@@ -438,7 +449,7 @@ def volumes():
 
 
 def codes():
-    for code in (0, 9, 14, 2**32 + 1, 2**63 + 1, MOST):
+    for code in (0, 15, 21, 2**32 + 1, 2**63 + 1, MOST):
         between(f"30: code {code}", PAIR, request(code))
         between(f"30: code {code} in 3D", CUBE, request(code))
     used = {1: 4, 2: 4, 3: 9, 4: 13, 5: 10, 6: 11, 7: 10, 8: 13}
@@ -648,6 +659,121 @@ def sheets():
     add("the nine codes in 2D", PAIR, FLAT + SOLID + [sheet()])
 
 
+def slanted(n, length, base):
+    """Strips that lean so far that each lies in nearly all columns of bins."""
+    return quads(n, 1, base).moved(lambda p: (p[0] + (length - n * base) * p[1], p[1], p[2]))
+
+
+def spiral(k, n):
+    """Cells about a middle, k to a turn; from the k-th on they lie over the first ones."""
+    at = lambda i, r: (r * math.cos(2 * math.pi * (i % k) / k), r * math.sin(2 * math.pi * (i % k) / k), 0.0)
+    points = [at(i, r) for i in range(n + 1) for r in (0.5, 1.0)]
+    return Mesh(2, points, [(0, [2 * i, 2 * i + 1, 2 * i + 3, 2 * i + 2]) for i in range(n)])
+
+
+def rectangles(xs, ys):
+    m = quads(len(xs) - 1, len(ys) - 1)
+    return m.moved(lambda p: (xs[int(p[0])], ys[int(p[1])], 0.0))
+
+
+def all_cells_refusals():
+    used = {9: 4, 10: 4, 11: 9, 12: 13, 14: 9}
+    size = {9: 1, 10: 4, 11: 10, 12: 31, 14: 7}
+    for code, q in zip(used, among(*FLAT, sheet())):
+        between(f"30: code {code}, unused words", PAIR, altered(q, used[code], 1), altered(q, 15, -0.0), q)
+        between(f"31: code {code}", CUBE, q)
+        add(f"44: code {code}, a word short", PAIR, [q], answers=size[code] + 1)
+        add(f"code {code} in the fewest words", PAIR, [q], answers=size[code] + 2)
+        add(f"44: code {code} before two others", PAIR, [q, request(0), FLAT[0]], answers=size[code] + 5)
+        add(f"code {code} before two others", PAIR, [q, request(0), FLAT[0]], answers=size[code] + 6)
+        between(f"30: code 2^32 + {code}", PAIR, altered(q, 0, 2**32 + code))
+    a, b, c = among(line(), rake(), sheet())
+    between("30: direction among all cells", PAIR,
+            *(altered(r, at, word) for r, at in ((a, 4), (b, 8), (c, 4)) for word in (2, MOST)))
+    between("30: among all cells, before 31", CUBE, *among(altered(FLAT[0], 15, 1), altered(sheet(), 15, 1)))
+    between("31: among all cells, before 32 to 35", CUBE,
+            *among(rake(count=0), line(steps=65537), sheet(step=NAN), line((9.0, 9.0, 0.0))))
+    between("32: among all cells", PAIR, *among(rake(count=0), rake(count=1), rake(count=1, steps=65537)))
+    between("33: seeds among all cells", PAIR, *among(*(rake(count=n) for n in (65, 2**32 + 2, MOST))))
+    lines = (line, rake, sheet)
+    steps = [r(steps=n) for n in (65537, MOST) for r in lines]
+    between("33: steps among all cells", PAIR, *among(*steps, line(steps=65537, step=0.0)))
+    for name, option in (("step_size", "step"), ("max_length", "length"), ("stagnation_speed", "stagnation")):
+        wrong = [r(**{option: x}) for x in (-1.0, NAN, INF) for r in lines]
+        between(f"34: {name} among all cells", PAIR, *among(*wrong))
+    between("34: max_steps 0 among all cells, before 35", PAIR,
+            *among(line(steps=0), rake(steps=0), sheet((9.0, 9.0, 0.0), steps=0)))
+    nowhere = ((2.1, 0.5, 0.0), (-0.1, 0.5, 0.0), (NAN, 0.5, 0.0), (0.5, INF, 0.0), (-INF, 0.5, 0.0))
+    between("35: among all cells", PAIR, *among(*(r(p) for p in nowhere for r in (line, sheet))))
+    between("35: a seed of a rake among all cells", ring_gap(),
+            *among(rake((0.5, 0.25, 0.0), (0.5, 2.75, 0.0), 3), rake((0.5, 0.25, 0.0), (2.5, 0.25, 0.0), 3)))
+    between("35: seeds that no bin finds", PAIR,
+            *both(line((1.5, 0.5, 0.0)), sheet((2.0, 0.5, 0.0)), rake((1.5, 0.25, 0.0), (1.5, 0.75, 0.0))))
+    add("44: a rake among all cells, its marks stay", SHEET,
+        among(rake((0.5, 0.25, 0.0), (0.5, 0.75, 0.0), 2, step=0.125, steps=40, length=9.0)), answers=20)
+
+
+def all_cells():
+    """Codes 9 to 12 and 14, most of them after the same question by the bins: points that no bin
+    finds, points on and beside borders, sides and corners, cells in many bins, bins without an index,
+    cells over each other."""
+    all_cells_refusals()
+    all_cells_points()
+    all_cells_lines()
+    rooms = [("two long cells without an index", quads(2, 1, 500.0, 0.05)),
+             ("a long and a short cell without an index", rectangles([0.0, 1980.0, 2000.0], [0.0, 1.0])),
+             ("upright long cells without an index", quads(1, 3, 0.001, 9.0)),
+             ("long cells one over the other", quads(1, 2, 800.0, 0.01)),
+             ("slanted strips without an index", slanted(8, 300.0, 4.0)), ("cells over each other", spiral(5, 9)),
+             ("cells of unequal widths", rectangles([0.0, 28.0, 29.0, 31.0, 32.0], [0.0, 0.25, 8.0])),
+             ("gap", ring_gap()), ("ring", ring(6)), ("fan", fan(5)), ("pentagram", polygon(5, 2)),
+             ("squares far from 0", SHEET.shifted(1000.25, -777.5, 0)),
+             ("heights", SHEET.moved(lambda p: (p[0], p[1], p[0] * 0.5 - p[1])))]
+    for name, m in rooms:
+        add(f"by both locators, {name}", m, both(*shown(m)), answers=2400)
+    add("the fourteen codes in 2D", PAIR, FLAT + SOLID + [sheet()] + among(*FLAT, sheet()))
+    add("the fourteen codes in 3D", CUBE, FLAT + SOLID + [sheet()] + among(*FLAT, sheet()))
+
+
+def all_cells_points():
+    points = (locate, velocity)
+    spots = [(x, y) for x in (0.5, 1.0, 1.5, 2.0) for y in (0.0, 0.5, 1.0)]
+    add("Pair by both locators", PAIR, both(*(r(*p) for p in spots for r in points)))
+    tiny = (0.0, 5e-13, 1e-12, 1.001e-12, 2e-12, 1e-9)
+    far = [p for d in tiny for s in (d, -d) for p in ((2.0 + s, 0.5), (1.5, 1.0 + s))]
+    far += [(rise(2.0), 0.5), (1.5, rise(1.0))]
+    add("the far borders of Pair and beside them", PAIR, both(*(locate(*p) for p in far)))
+    near = [p for d in tiny for p in ((-d, 0.5), (0.5, -d))]
+    add("the near borders of Pair and beside them", PAIR, both(*(locate(*p) for p in near)))
+    corners = [r(x, y) for x in range(4) for y in range(3) for r in points]
+    add("corners by both locators", SHEET, both(*corners), answers=600)
+    odd = ((NAN, 0.5), (0.5, NAN), (INF, 0.5), (-INF, 0.5), (0.5, INF), (0.5, -INF))
+    add("points that are not finite, among all cells", PAIR, among(*(r(*p) for p in odd for r in points)))
+    add("heights among all cells", PAIR,
+        among(velocity(1.5, 0.5, 7.0), velocity(1.25, 0.5, -1e300), locate(1.5, 0.5, INF), line((1.5, 0.5, 3.0)),
+              rake((1.5, 0.25, 1.0), (1.5, 0.75, 2.0))))
+    turned = lambda m: Mesh(2, m.points, m.cells[::-1])
+    shared = [r(x, y) for x in (0.5, 1.0, 1.5) for y in (0.5, 1.0) for r in points]
+    add("a lower cell that no bin lists", turned(PAIR), both(*shared))
+    sides = [locate(x + s, 0.5) for x in (1.0, 2.0) for d in tiny for s in (d, -d)]
+    add("a lower cell beside the border of its bin", turned(SHEET), both(*sides))
+
+
+def all_cells_lines():
+    along = SHEET.with_fields([(1.0, 0.25 * (i % 2), 0.0) for i in range(6)], [0.0] * 6)
+    to = [r((0.25, y, 0.0), d, 0.25, 20, 9.0) for y in (0.25, 0.5, 1.25) for d in (0, 1) for r in (line, sheet)]
+    add("lines to the outlet column", along, both(*to), answers=1200)
+    back = [r((x, 0.5, 0.0), 1, 0.25, 20, 9.0) for x in (2.5, 3.0) for r in (line, sheet)]
+    back.append(rake((2.5, 0.25, 0.0), (2.5, 1.75, 0.0), 4, 1, 0.25, 12, 9.0))
+    add("lines from the outlet column", along, both(*back), answers=900)
+    many = rake((3.0, 0.1, 0.0), (3.0, 1.9, 0.0), 64, 1, 0.25, 4, 9.0)
+    add("64 seeds along the far border", along, among(many), answers=1100)
+    turns = [r(p, 0, 0.1, 30, 5.0) for p in ((2.75, 0.9, 0.0), (0.6, 1.9, 0.0)) for r in (line, sheet)]
+    add("a whole turn among all cells", whirl(quads(6, 4, 0.5, 0.5)), both(*turns), answers=900)
+    long = sheet((0.125, 0.5, 0.0), step=2.0**-17, steps=65536, length=1.0)
+    add("65,536 steps among all cells", SQUARE.with_fields([(1.0, 0.0, 0.0)], [0.0]), among(long), answers=1100)
+
+
 # ---- what the reference says
 
 def printed(refjob, folder, pair):
@@ -712,9 +838,9 @@ def compared(case, requests):
     for at in range(0, len(requests) - 127, 128):
         code = struct.unpack_from("<Q", requests, at)[0]
         start, end = (struct.unpack_from("<d", requests, at + 8 * k)[0] for k in (3, 6))
-        if code in (2, 3, 13) and math.isnan(start):
+        if code in (2, 3, 10, 11, 13, 14) and math.isnan(start):
             return False
-        if code == 4 and not (math.isfinite(start) and math.isfinite(end)):
+        if code in (4, 12) and not (math.isfinite(start) and math.isfinite(end)):
             return False
     d, p, w, c = struct.unpack("<4I", case[-32:-16])
     fields = struct.unpack("<%dd" % (4 * c), case[24 * p + 4 * w:-32])
@@ -795,14 +921,15 @@ class Files:
         with open(os.path.join(CRATE, "stdout"), "w") as f:
             f.write(self.due)
         print(f"{self.pairs} pairs, {len(self.data) + 4} bytes, {len(self.due)} bytes due", file=sys.stderr)
-        for x in [f"refusal {k}" for k in (*range(1, 20), *range(30, 45))] + [f"code {k}" for k in (*range(1, 9), 13)]:
+        for x in [f"refusal {k}" for k in (*range(1, 20), *range(30, 45))] + [f"code {k}" for k in range(1, 15)]:
             print(f"{x}: {self.shows[x]} pairs", file=sys.stderr)
 
 
 def main(programs):
     refjob, gen, rooms = (os.path.join(programs, x) for x in ("refjob2", "gen", "rooms"))
     known(rooms)
-    for part in (lists, trailers, records, lengths, values, definitions, volumes, codes, options, planes, samples, rooms_for_answers, accepted, sheets):
+    for part in (lists, trailers, records, lengths, values, definitions, volumes, codes, options, planes, samples,
+                 rooms_for_answers, accepted, sheets, all_cells):
         part()
     names = collections.Counter(p[0] for p in PAIRS)
     assert len(names) == len(PAIRS), names.most_common(3)
