@@ -18,8 +18,8 @@ pub const PLACES: [&str; 12] = [
 ];
 /// How many points of each kind were made.
 pub static PLACES_MADE: [AtomicU64; 12] = [const { AtomicU64::new(0) }; 12];
-pub const INDEXES: [&str; 2] = ["with an index of the bins", "without"];
-/// How many rooms have and have not room for an index of their bins.
+pub const INDEXES: [&str; 2] = ["with an index", "without"];
+/// How many rooms have and have not room for an index.
 pub static INDEXES_MADE: [AtomicU64; 2] = [const { AtomicU64::new(0) }; 2];
 
 /// The tolerance of the polygon test, and what lies close to it.

@@ -69,21 +69,21 @@ impl<'a> Room<'a> {
         &self.m.cells[r.pick(&self.far)]
     }
 
-    /// The bin of a coordinate, as the Rust has it.
-    fn bin(&self, x: f64, axis: usize) -> u64 {
+    /// The index's bin of a coordinate: bins of the same size, half of one further down.
+    fn index_bin(&self, x: f64, axis: usize) -> f64 {
         let share = ((x - self.lo[axis]) / (self.hi[axis] - self.lo[axis])).clamp(0.0, 1.0);
-        (share * self.bins[axis]).floor() as u64 % self.bins[axis] as u64
+        (share * self.bins[axis] + 0.5).floor()
     }
 
-    /// The words of an index of the bins: a head to a bin, two words to a cell in a bin. It stands
-    /// where there are no more than 72 to a cell (crates/lines_bins).
+    /// The words of the index: a head to a bin, two words to a cell in a bin. It stands where there
+    /// are no more than 72 to a cell (crates/lines_bins); the tolerance of the limits is left out.
     pub fn has_index(&self) -> bool {
-        let mut words = self.bins[0] * self.bins[1];
+        let mut words = (self.bins[0] + 1.0) * (self.bins[1] + 1.0);
         for c in &self.m.cells {
             let count = |axis: usize| {
                 let list = || c.numbers().into_iter().map(|v| self.m.pts[v as usize][axis]);
                 let (low, high) = (list().fold(f64::INFINITY, f64::min), list().fold(f64::NEG_INFINITY, f64::max));
-                (self.bin(high, axis) + 1).saturating_sub(self.bin(low, axis)) as f64
+                self.index_bin(high, axis) - self.index_bin(low, axis) + 1.0
             };
             words += 2.0 * count(0) * count(1);
         }
