@@ -15,8 +15,8 @@ use Rattle.mesh_area.specs.declared.Sizes.{Sizes}
 use Rattle.mesh_area.specs.Layout.{floatsEnd}
 use Rattle.lines_polygon.specs.declared.Limits.{Limits}
 use Rattle.lines_polygon.specs.Vertices.{pairFrom, pairsFrom}
-use Rattle.lines_polygon.specs.Extent.{Outside, limitsFrom, limitsOf}
-use Rattle.lines_polygon.proofs.LimitLaws.{limits-outside}
+use Rattle.lines_polygon.specs.Extent.{LimitsHold, limitsFrom, limitsOf}
+use Rattle.lines_polygon.proofs.LimitLaws.{limits-hold}
 use Rattle.lines_locate.specs.Layout.{wordsAt, floatsAt, countIn, polygonIn}
 use Rattle.lines_locate.specs.Contracts.{HasLimits}
 use Rattle.lines_field.specs.Contracts.{polygonsIn, MeshKept, LimitCellExit}
@@ -73,7 +73,7 @@ module _ (s : Sizes) (w : List ℕ) (f : List Float) (i : ℕ) (l : Limits) (roo
   limit-stored at n f′ ea en el e =
       rw (e, ea)
       (record {
-        here = rw (limits-here, polygon-kept i, el) (unfold polygonIn in rw (ea, en) (limits-outside _));
+        here = rw (limits-here, polygon-kept i, el) (unfold polygonIn in rw (ea, en) (limits-hold _));
         polygons = polygon-kept;
         others = limits-kept;
         mesh = sym (take-take (floatsEnd s) (floatsAt s i + 48) stored less) ∙ ap (take (floatsEnd s)) (take-puts f (floatsAt s i + 48) vs) ∙ take-take (floatsEnd s) (floatsAt s i + 48) f less;
@@ -88,7 +88,7 @@ module _ (s : Sizes) (w : List ℕ) (f : List Float) (i : ℕ) (l : Limits) (roo
 pub record Limiting (s : Sizes) (w : List ℕ) (f₀ f : List Float) (i : ℕ) : Type 0 where
   pub within : i ≤ s .cells
   pub long : length f ≡ length f₀
-  pub done : (j : ℕ) → j < i → Outside (polygonIn s w f j) (limitsFrom f (floatsAt s j + 48))
+  pub done : (j : ℕ) → j < i → LimitsHold (polygonIn s w f j) (limitsFrom f (floatsAt s j + 48))
   pub polygons : (j : ℕ) → polygonIn s w f j ≡ polygonIn s w f₀ j
   pub mesh : take (floatsEnd s) f ≡ take (floatsEnd s) f₀
 
@@ -106,7 +106,7 @@ module _ (s : Sizes) (w : List ℕ) (f₀ f : List Float) (i : ℕ) (g : Limitin
         mesh = t .mesh ∙ g .mesh;
       }
     where
-      by : (j : ℕ) → (j < i) ⊎ (i ≤ j) → j < i + 1 → Outside (polygonIn s w f′ j) (limitsFrom f′ (floatsAt s j + 48))
+      by : (j : ℕ) → (j < i) ⊎ (i ≤ j) → j < i + 1 → LimitsHold (polygonIn s w f′ j) (limitsFrom f′ (floatsAt s j + 48))
       by j (inl a) k = rw (t .polygons j, t .others j a) (g .done j a)
       by j (inr a) k = let e : j ≡ i = omega arith in rw e (t .here)
 

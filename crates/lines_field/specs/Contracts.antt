@@ -20,7 +20,7 @@ use Rattle.reading.specs.Result.{fine}
 use Rattle.mesh_area.specs.declared.Sizes.{Sizes}
 use Rattle.mesh_area.specs.Tables.{Mesh, cellAt}
 use Rattle.mesh_area.specs.Layout.{wordsEnd, floatsEnd}
-use Rattle.lines_polygon.specs.Extent.{Outside, limitsFrom}
+use Rattle.lines_polygon.specs.Extent.{LimitsHold, limitsFrom}
 use Rattle.lines_locate.specs.declared.Grid.{Grid}
 use Rattle.lines_locate.specs.Layout.{wordsAt, floatsAt, polygonIn, cellPolygonIn, cellPolygonsIn, fieldIn}
 use Rattle.lines_locate.specs.Ranges.{Ranged}
@@ -109,7 +109,7 @@ pub record ListCellsExit (g : Grid) (s : Sizes) (w w′ : List ℕ) (f : List Fl
 
 -- cell i has its limits; no polygon, no other cell's limits and nothing of the mesh is changed
 pub record LimitCellExit (s : Sizes) (w : List ℕ) (f f′ : List Float) (i : ℕ) : Type 0 where
-  pub here : Outside (polygonIn s w f′ i) (limitsFrom f′ (floatsAt s i + 48))
+  pub here : LimitsHold (polygonIn s w f′ i) (limitsFrom f′ (floatsAt s i + 48))
   pub polygons : (j : ℕ) → polygonIn s w f′ j ≡ polygonIn s w f j
   pub others : (j : ℕ) → j < i → limitsFrom f′ (floatsAt s j + 48) ≡ limitsFrom f (floatsAt s j + 48)
   pub mesh : take (floatsEnd s) f′ ≡ take (floatsEnd s) f

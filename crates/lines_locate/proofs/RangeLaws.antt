@@ -20,7 +20,7 @@ use Rattle.mesh_area.specs.Layout.{wordsEnd}
 use Rattle.lines_bins.specs.Index.{reaches, inBin}
 use Rattle.lines_polygon.specs.declared.Limits.{Limits}
 use Rattle.lines_polygon.specs.Contains.{contains}
-use Rattle.lines_polygon.specs.Extent.{Outside}
+use Rattle.lines_polygon.specs.Extent.{LimitsHold}
 use Rattle.lines_polygon.proofs.OrderLaws.{most-through}
 use Rattle.lines_polygon.proofs.CrossLaws.{nought}
 use Rattle.lines_polygon.proofs.RiseLaws.{not-below, floor-order, along-rises, along-nan}
@@ -137,7 +137,7 @@ pub index-low : (g : Grid) (p : Vec2) → (indexBin g p .x < g .bins .x + 1) × 
 unfolding indexBin indexAlong
 index-low g p = (at-low (g .bins .x) _, at-low (g .bins .y) _)
 
-module _ (g : Grid) (b : HasBins g) (polygon : List Vec2) (l : Limits) (o : Outside polygon l) (words : List ℕ) (base i : ℕ) (r : Ranged g l words base i)
+module _ (g : Grid) (b : HasBins g) (polygon : List Vec2) (l : Limits) (o : LimitsHold polygon l) (words : List ℕ) (base i : ℕ) (r : Ranged g l words base i)
     (q : Vec2) (fx : finite (q .x) ≡ true) (fy : finite (q .y) ≡ true) where
   module _ (c : contains q polygon ≡ true) where
     not-out : (t : Bool) → (t ≡ true → contains q polygon ≡ false) → t ≡ false

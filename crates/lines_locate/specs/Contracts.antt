@@ -10,14 +10,14 @@ use Rattle.mesh_area.specs.declared.Sizes.{Sizes}
 use Rattle.mesh_area.specs.Layout.{wordsEnd}
 use Rattle.lines_bins.specs.Index.{flagIn}
 use Rattle.lines_bins.specs.Contracts.{BinIndex}
-use Rattle.lines_polygon.specs.Extent.{Outside, limitsFrom}
+use Rattle.lines_polygon.specs.Extent.{LimitsHold, limitsFrom}
 use Rattle.lines_locate.specs.declared.Grid.{Grid}
 use Rattle.lines_locate.specs.Ranges.{Ranged}
 use Rattle.lines_locate.specs.Layout.{floatsAt, polygonIn}
 
 -- no polygon contains a point outside of the limits that stand with it
 pub record HasLimits (s : Sizes) (words : List ℕ) (floats : List Float) : Type 0 where
-  pub each : (i : ℕ) → i < s .cells → Outside (polygonIn s words floats i) (limitsFrom floats (floatsAt s i + 48))
+  pub each : (i : ℕ) → i < s .cells → LimitsHold (polygonIn s words floats i) (limitsFrom floats (floatsAt s i + 48))
 
 -- bounds that are not flat, as refusal 18 leaves them
 pub record Spread (g : Grid) : Type 0 where

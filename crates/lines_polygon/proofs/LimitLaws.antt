@@ -14,7 +14,7 @@ use Rattle.arith.proofs.ListLaws.{all-here, all-next, foldl-next}
 use Rattle.lines_polygon.specs.declared.Limits.{Limits}
 use Rattle.lines_polygon.specs.Vertices.{sideFrom}
 use Rattle.lines_polygon.specs.Contains.{between, onLine, onEdge, contains}
-use Rattle.lines_polygon.specs.Extent.{Outside, misses, endWithin, run, isLevel, crossingWithin, sideWithin, reach, sideless, widened, spared, narrowest, unlimited, limitsOf}
+use Rattle.lines_polygon.specs.Extent.{LimitsHold, misses, endWithin, run, isLevel, crossingWithin, sideWithin, reach, sideless, widened, spared, narrowest, unlimited, limitsOf}
 use Rattle.lines_polygon.proofs.OrderLaws.{below-through, through-below, below-not-most, below-not-below}
 use Rattle.lines_polygon.proofs.CrossLaws.{add-most, self, crosses-left, crosses-right, crosses-level, level-together}
 use Rattle.lines_polygon.proofs.ParityLaws.{apart, parted-even}
@@ -219,8 +219,8 @@ module _ (polygon : List Vec2) (l : Limits) (w : allOf (sideWithin l) (sides pol
       rw (none-any (sideWithin l) (onEdge q) a (sides polygon) w, none-count (sideWithin l) (crosses q) b (sides polygon) w)
       (not-second (leb 3 (length polygon)) false refl)
 
-pub within-outside : (polygon : List Vec2) (l : Limits) → allOf (sideWithin l) (sides polygon) ≡ true → isNan (l .high) ≡ false → isNan (l .right) ≡ false → Outside polygon l
-within-outside polygon l w h r =
+pub within-hold : (polygon : List Vec2) (l : Limits) → allOf (sideWithin l) (sides polygon) ≡ true → isNan (l .high) ≡ false → isNan (l .right) ≡ false → LimitsHold polygon l
+within-hold polygon l w h r =
     record {
       below = λ q k. none polygon l w q (λ s i. edge-below l (s .from) (s .to) i q k) (λ s i. crosses-below l (s .from) (s .to) i q k);
       above = λ q k. none polygon l w q (λ s i. edge-above l (s .from) (s .to) i q k) (λ s i. crosses-above l (s .from) (s .to) i q k);
@@ -245,9 +245,9 @@ above-most nan = refl
 above-most (inf t) = refl
 above-most (fin s m e) = refl
 
-unlimited-outside : (polygon : List Vec2) → Outside polygon unlimited
+unlimited-hold : (polygon : List Vec2) → LimitsHold polygon unlimited
 unfolding unlimited
-unlimited-outside polygon =
+unlimited-hold polygon =
     record {
       below = λ q k. absurd (false≢true (sym (below-least (q .y)) ∙ k));
       above = λ q k. absurd (false≢true (sym (above-most (q .y)) ∙ k));
@@ -303,18 +303,18 @@ more-real x f = add-real x 1e-12 f (unfold finite ofBits in refl)
 
 -- ---- the limits that are stored
 
-pub limits-outside : (polygon : List Vec2) → Outside polygon (limitsOf polygon)
+pub limits-hold : (polygon : List Vec2) → LimitsHold polygon (limitsOf polygon)
 unfolding limitsOf
-limits-outside polygon = by (allOf (sideWithin l) (sides polygon)) refl
+limits-hold polygon = by (allOf (sideWithin l) (sides polygon)) refl
   where
     l : Limits
     l = narrowest (sides polygon)
 
-    by : (t : Bool) → allOf (sideWithin l) (sides polygon) ≡ t → Outside polygon (cond t l unlimited)
+    by : (t : Bool) → allOf (sideWithin l) (sides polygon) ≡ t → LimitsHold polygon (cond t l unlimited)
     by true e =
-        within-outside polygon l e (unfold narrowest spared in more-real _ (widest-high (sides polygon) sideless (unfold sideless isNan in refl)))
+        within-hold polygon l e (unfold narrowest spared in more-real _ (widest-high (sides polygon) sideless (unfold sideless isNan in refl)))
         (unfold narrowest spared in more-real _ (widest-right (sides polygon) sideless (unfold sideless isNan in refl)))
-    by false e = unlimited-outside polygon
+    by false e = unlimited-hold polygon
 
 module _ (polygon : List Vec2) (l : Limits) (t : Bool) (el : l ≡ narrowest (sides polygon)) (et : t ≡ allOf (sideWithin l) (sides polygon)) where
   pub limits-kept : t ≡ true → l ≡ limitsOf polygon
@@ -327,7 +327,7 @@ module _ (polygon : List Vec2) (l : Limits) (t : Bool) (el : l ≡ narrowest (si
 
 -- ---- a point that misses them
 
-pub missed : (polygon : List Vec2) (l : Limits) (q : Vec2) → Outside polygon l → (t : Bool) → t ≡ misses l q → t ≡ true → contains q polygon ≡ false
+pub missed : (polygon : List Vec2) (l : Limits) (q : Vec2) → LimitsHold polygon l → (t : Bool) → t ≡ misses l q → t ≡ true → contains q polygon ≡ false
 unfolding misses
 missed polygon l q o t e h = by (l .high ≺ q .y) (l .right ≺ q .x) (q .x ≺ l .left) (q .y ≺ l .low) refl refl refl refl (sym e ∙ h)
   where

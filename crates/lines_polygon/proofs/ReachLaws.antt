@@ -17,9 +17,9 @@ use Rattle.arith.proofs.Floats.{holds}
 use Rattle.lines_polygon.specs.declared.Limits.{Limits}
 use Rattle.lines_polygon.specs.Vertices.{xyWithin}
 use Rattle.lines_polygon.specs.Contains.{contains}
-use Rattle.lines_polygon.specs.Extent.{Outside, endWithin, run, isLevel, crossingWithin, sideWithin}
+use Rattle.lines_polygon.specs.Extent.{LimitsHold, endWithin, run, isLevel, crossingWithin, sideWithin}
 use Rattle.lines_polygon.proofs.OrderLaws.{below-false, at-most-true, at-most-is}
-use Rattle.lines_polygon.proofs.LimitLaws.{both, min-one, max-one, all-first, within-outside}
+use Rattle.lines_polygon.proofs.LimitLaws.{both, min-one, max-one, all-first, within-hold}
 use Rattle.lines_polygon.proofs.SizeLaws.{Sized, add-sized, sub-sized, sub-nonzero, run-sized}
 
 -- ---- the limits, 2^22 each way
@@ -152,9 +152,9 @@ module _ {A : Type 0} (p : A → Bool) (r : Side A → Bool) (h : (a b : A) → 
 
 -- ---- the polygon
 
-wide-outside : (polygon : List Vec2) → allOf xyWithin polygon ≡ true → Outside polygon wide
-wide-outside polygon w =
-    within-outside polygon wide (sides-all xyWithin (sideWithin wide) (λ a b h k. side-within a b (vertex-near a h) (vertex-near b k)) polygon w) (unfold isNan in refl) (unfold isNan in refl)
+wide-hold : (polygon : List Vec2) → allOf xyWithin polygon ≡ true → LimitsHold polygon wide
+wide-hold polygon w =
+    within-hold polygon wide (sides-all xyWithin (sideWithin wide) (λ a b h k. side-within a b (vertex-near a h) (vertex-near b k)) polygon w) (unfold isNan in refl) (unfold isNan in refl)
 
 -- what is not so would be contained nowhere
 refuted : (t c : Bool) → (t ≡ true → c ≡ false) → c ≡ true → t ≡ false
@@ -175,7 +175,7 @@ small (fin true m e) f h k =
 pub contained-near : (q : Vec2) (polygon : List Vec2) → allOf xyWithin polygon ≡ true → finite (q .x) ≡ true → finite (q .y) ≡ true → contains q polygon ≡ true
     → ((abs (q .x) ≺ float 0x4340000000000000) ≡ true) × ((abs (q .y) ≺ float 0x4340000000000000) ≡ true)
 contained-near q polygon w fx fy c =
-    let o = wide-outside polygon w in (
+    let o = wide-hold polygon w in (
       small (q .x) fx (refuted (most ≺ q .x) (contains q polygon) (λ h. o .beyond q h) c) (refuted (q .x ≺ fewest) (contains q polygon) (λ h. o .before q h) c),
       small (q .y) fy (refuted (most ≺ q .y) (contains q polygon) (λ h. o .above q h) c) (refuted (q .y ≺ fewest) (contains q polygon) (λ h. o .below q h) c),
     )

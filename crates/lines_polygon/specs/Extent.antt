@@ -1,5 +1,5 @@
 -- Where a polygon contains no point: what may be stored with it, so that most points need no look at its sides.
--- `Outside`, `limitsFrom`, `misses`: what limits promise, where they stand, and a point that lies outside of them.
+-- `LimitsHold`, `limitsFrom`, `misses`: what limits promise, where they stand, and a point that lies outside of them.
 -- `endWithin`, `run`, `isLevel`, `crossingWithin`, `sideWithin`: what a side is tested for.
 -- `reach`, `leftReach`, `sideless`, `widened`, `spared`, `narrowest`, `unlimited`, `limitsOf`: the limits that are stored.
 use Prim.Native.Nat.{ℕ, _+_}
@@ -15,7 +15,7 @@ use Rattle.lines_polygon.specs.declared.Limits.{Limits}
 use Rattle.lines_polygon.specs.Contains.{contains}
 
 -- no point of the polygon lies below `low`, above `high`, to the right of `right` or to the left of `left`; `high` and `right` are not NaN
-pub record Outside (polygon : List Vec2) (l : Limits) : Type 0 where
+pub record LimitsHold (polygon : List Vec2) (l : Limits) : Type 0 where
   pub below : (q : Vec2) → (q .y ≺ l .low) ≡ true → contains q polygon ≡ false
   pub above : (q : Vec2) → (l .high ≺ q .y) ≡ true → contains q polygon ≡ false
   pub beyond : (q : Vec2) → (l .right ≺ q .x) ≡ true → contains q polygon ≡ false
