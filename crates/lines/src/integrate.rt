@@ -50,7 +50,9 @@ pub(crate) fn is_nowhere(words: &[u32], floats: &[f64], t: Tracer, p: Vec3) -> b
     requires { ⌜ LocateEntry (now words) (now floats) t ⌝ }
     ensures { λ r. ⌜ r ≡ Line.nowhere (tracerField t (now (words .entry)) (now (floats .entry))) p ⌝ }
 {
-    match interpolate::locate(words, floats, t, p) {
+    let found = interpolate::locate(words, floats, t, p);
+    let cell = found.cell;
+    match cell {
         Found::At(_) => false,
         Found::Nothing => true,
     }

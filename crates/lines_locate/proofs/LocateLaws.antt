@@ -16,10 +16,12 @@ use Rattle.lines_locate.specs.declared.Bin.{Bin}
 use Rattle.lines_locate.specs.declared.Search.{Search}
 use Rattle.lines_locate.specs.Bins.{CellPolygon}
 use Rattle.lines_locate.specs.Locate.{isSearched, holds}
-use Rattle.lines_polygon.specs.Contains.{contains}
+use Rattle.lines_polygon.specs.declared.Position.{Position}
+use Rattle.lines_polygon.specs.Contains.{position, contains}
+use Rattle.lines_polygon.specs.Vertices.{pairsFrom}
 use Rattle.lines_polygon.specs.Extent.{limitsFrom, misses}
 use Rattle.lines_polygon.proofs.LimitLaws.{missed}
-use Rattle.lines_locate.specs.Layout.{floatsAt, polygonIn, cellPolygonIn, cellPolygonsIn}
+use Rattle.lines_locate.specs.Layout.{floatsAt, countIn, polygonIn, cellPolygonIn, cellPolygonsIn}
 use Rattle.lines_locate.specs.Contracts.{HasLimits}
 
 module _ (s : Sizes) (words : List ℕ) (floats : List Float) where
@@ -49,6 +51,13 @@ module _ (s : Sizes) (words : List ℕ) (floats : List Float) where
     locate-end l =
         let none : drop i (cellPolygonsIn s words floats) ≡ [] = drop-end (cellPolygonsIn s words floats) i (rw length-cellPolygons l) in
         rw none at inv
+
+-- ---- the test of a cell is over its vertices
+
+pub test-of : (s : Sizes) (w : List ℕ) (f : List Float) (i : ℕ) (q : Vec2) (n at : ℕ) (r : Position) → n ≡ countIn s w i → at ≡ floatsAt s i → r ≡ position q (pairsFrom f at n)
+    → r ≡ position q (polygonIn s w f i)
+unfolding polygonIn
+test-of s w f i q n at r en ea e = rw (sym en, sym ea) e
 
 -- ---- a cell that does not hold the point
 

@@ -59,21 +59,3 @@ bins-bettered search g cells p = by (finite (p .x) && finite (p .y))
     by true =
         sooner (holds search (binFor g (xyOf p)) (xyOf p)) (holds Bins (binFor g (xyOf p)) (xyOf p)) (any-search search (binFor g (xyOf p)) (xyOf p)) 0 cells
     by false = unfold AtOrBelow in tt
-
--- ---- the cell that was found, and that it betters the bins
-
-module _ (search : Search) (g : Grid) (cells : List CellPolygon) (p : Vec3) (r : Found) (t u : Bool) (et : t ≡ finite (p .x)) (eu : u ≡ finite (p .y)) where
-  abbrev pub Answer : Type 0
-  Answer = (r ≡ locate search g cells p) × AtOrBelow r (locate Bins g cells p)
-
-  answered : r ≡ locate search g cells p → Answer
-  answered e = (e, rw e (bins-bettered search g cells p))
-
-  pub found : t ≡ true → u ≡ true → r ≡ firstFrom (holds search (binFor g (xyOf p)) (xyOf p)) 0 cells → Answer
-  found a b e = answered (unfold locate in rw (sym et ∙ a, sym eu ∙ b) (unfold locateWhere in e))
-
-  pub first-not : t ≡ false → r ≡ Nothing → Answer
-  first-not a e = answered (unfold locate in rw (sym et ∙ a) (unfold locateWhere in e))
-
-  pub second-not : t ≡ true → u ≡ false → r ≡ Nothing → Answer
-  second-not a b e = answered (unfold locate in rw (sym et ∙ a, sym eu ∙ b) (unfold locateWhere in e))

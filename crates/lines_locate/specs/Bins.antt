@@ -1,7 +1,8 @@
 -- The bins of a grid, and the bins that a cell is listed in.
 use Prim.Native.Nat.{ℕ, _%_}
 use mathlib.Core.Bool.{Bool, _&&_}
-use mathlib.Core.List.{List}
+use mathlib.Core.List.{List, []}
+use lib.ListN.{getD}
 use lib.Ieee.{Float}
 use Rattle.arith.specs.F64.{_⊖_, _⊗_, _⊘_, clamp, ofℕ, floorℕ}
 use Rattle.arith.specs.declared.Vec2.{Vec2}
@@ -30,6 +31,14 @@ pub record CellPolygon : Type 0 where
   pub polygon : List Vec2
   pub first : Bin
   pub last : Bin
+
+-- what stands past the last cell: no vertices
+unfoldable pub noPolygon : CellPolygon
+noPolygon = record { polygon = []; first = record { x = 0; y = 0 }; last = record { x = 0; y = 0 } }
+
+-- a cell's polygon by number
+unfoldable pub cellPolygonAt : List CellPolygon → ℕ → CellPolygon
+cellPolygonAt cells i = getD cells i noPolygon
 
 -- the cell is listed in bin b
 unfoldable pub isListed : Bin → CellPolygon → Bool

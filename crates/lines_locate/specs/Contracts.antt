@@ -1,4 +1,4 @@
--- What `locate_cell` and its parts need of the work area.
+-- What `locate_cell` and its parts need of the work area, and what its parts answer.
 use Prim.Native.Nat.{ℕ, _+_, _<_, _≤_}
 use mathlib.Core.Path.{_≡_}
 use mathlib.Core.Bool.{true}
@@ -6,12 +6,21 @@ use mathlib.Core.List.{List}
 use lib.Ieee.{Float}
 use Rattle.arith.specs.F64.{_≺_, finite}
 use Rattle.arith.specs.Limits.{mostBins}
+use Rattle.arith.specs.Lists.{firstFrom}
+use Rattle.arith.specs.declared.Vec2.{Vec2}
+use Rattle.arith.specs.declared.Found.the-variants.{Nothing}
 use Rattle.mesh_area.specs.declared.Sizes.{Sizes}
 use Rattle.mesh_area.specs.Layout.{wordsEnd}
 use Rattle.lines_bins.specs.Index.{flagIn}
 use Rattle.lines_bins.specs.Contracts.{BinIndex}
+use Rattle.lines_polygon.specs.declared.Position.the-variants.{Outside}
 use Rattle.lines_polygon.specs.Extent.{LimitsHold, limitsFrom}
+use Rattle.lines_locate.specs.declared.Bin.{Bin}
 use Rattle.lines_locate.specs.declared.Grid.{Grid}
+use Rattle.lines_locate.specs.declared.Located.{Located}
+use Rattle.lines_locate.specs.declared.Search.{Search}
+use Rattle.lines_locate.specs.Bins.{CellPolygon}
+use Rattle.lines_locate.specs.Locate.{holds, withPosition}
 use Rattle.lines_locate.specs.Ranges.{Ranged}
 use Rattle.lines_locate.specs.Layout.{floatsAt, polygonIn}
 
@@ -44,3 +53,11 @@ pub record LocateCellEntry (g : Grid) (s : Sizes) (words : List ℕ) (floats : L
   pub index : 0 < s .cells → flagIn words (wordsEnd s) (s .cells) ≡ 1 → BinIndex words (wordsEnd s) (s .cells) (g .bins .x + 1) (g .bins .y + 1)
   pub limits : HasLimits s words floats
   pub ranges : HasRanges g s words floats
+
+-- the lowest cell that holds the point, and where the point lies to it
+unfoldable pub firstHolding : Search → Bin → Vec2 → List CellPolygon → Located
+firstHolding search b q cells = withPosition cells q (firstFrom (holds search b q) 0 cells)
+
+-- no cell
+unfoldable pub nowhere : Located
+nowhere = record { cell = Nothing; position = Outside }

@@ -5,6 +5,7 @@ use arith::Vec2;
 use arith::Vec3;
 use arith::float;
 use arith::number::wide;
+use lines_polygon::Position;
 use lines_polygon::extent;
 use mesh_area::Sizes;
 ghost use mathlib.Core.Path.{_≡_};
@@ -14,13 +15,12 @@ ghost use mathlib.Core.List.{List};
 ghost use lib.Ieee.{Float};
 ghost use Rattle.arith.specs.Limits.{mostCells, mostWords, mostBins};
 ghost use Rattle.arith.specs.F64.{finite, ofℕ, floorℕ};
-ghost use Rattle.arith.specs.Lists.{firstFrom};
 ghost use mathlib.Core.Bool.{true, not};
 ghost use Rattle.mesh_area.specs.Layout.{wordsEnd, LentWords, LentFloats};
 ghost use Rattle.lines_bins.specs.Index as Index;
 ghost use Rattle.lines_bins.specs.Index.{flagIn, headIn};
 ghost use Rattle.lines_bins.specs.Contracts.{BinIndex};
-ghost use Rattle.lines_polygon.specs.Contains.{contains};
+ghost use Rattle.lines_polygon.specs.Contains.{position};
 ghost use Rattle.lines_polygon.specs.Extent.{limitsFrom, misses};
 ghost use Rattle.lines_locate.specs.Bins as Bins;
 ghost use Rattle.lines_locate.specs.Ranges as Ranges;
@@ -54,6 +54,22 @@ pub struct Grid {
 pub enum Search {
     Bins,
     All,
+}
+
+// The cell that a point locates in, and where the point lies to its polygon; outside where there is none.
+pub struct Located {
+    pub cell: Found,
+    pub position: Position,
+}
+
+// No cell.
+fn nowhere() -> Located
+    ensures { λ r. ⌜ r ≡ Contracts.nowhere ⌝ }
+{
+    Located {
+        cell: Found::Nothing,
+        position: Position::Outside,
+    }
 }
 
 // A number of bins as a float; from i64 that is one machine instruction.
@@ -218,10 +234,10 @@ fn may_contain(floats: &[f64], s: Sizes, q: Vec2, i: usize) -> bool
     }
 }
 
-// Cell i contains q.
-fn has_point(words: &[u32], floats: &[f64], s: Sizes, q: Vec2, i: usize) -> bool
+// Where q lies to the polygon of cell i.
+fn position_in(words: &[u32], floats: &[f64], s: Sizes, q: Vec2, i: usize) -> Position
     requires { ⌜ LentWords s (now words) × LentFloats s (now floats) × (i < s .cells) ⌝ }
-    ensures { λ r. ⌜ r ≡ contains q (Layout.polygonIn s (now (words .entry)) (now (floats .entry)) i) ⌝ }
+    ensures { λ r. ⌜ r ≡ position q (Layout.polygonIn s (now (words .entry)) (now (floats .entry)) i) ⌝ }
 {
     let n = count_in(words, s, i);
     lines_polygon::point_in_polygon(q, floats, floats_at(s, i), n)
@@ -239,36 +255,36 @@ fn is_searched(words: &[u32], s: Sizes, search: Search, b: Bin, i: usize) -> boo
     }
 }
 
-// Cell i is looked at for a point q of bin b, and contains it.
-fn holds(words: &[u32], floats: &[f64], s: Sizes, search: Search, b: Bin, q: Vec2, i: usize) -> bool
-    requires { ⌜ LentWords s (now words) × LentFloats s (now floats) × (i < s .cells) ⌝ }
-    ensures { λ r. ⌜ r ≡ Locate.holds search b q
-        (Layout.cellPolygonIn s (now (words .entry)) (now (floats .entry)) i) ⌝ }
-{
-    if is_searched(words, s, search, b, i) {
-        has_point(words, floats, s, q, i)
-    } else {
-        false
-    }
-}
-
 // The lowest cell that holds q, over all cells.
-fn first_holding(words: &[u32], floats: &[f64], s: Sizes, search: Search, b: Bin, q: Vec2) -> Found
+fn first_holding(
+    words: &[u32],
+    floats: &[f64],
+    s: Sizes,
+    search: Search,
+    b: Bin,
+    q: Vec2,
+) -> Located
     requires { ⌜ LentWords s (now words) × LentFloats s (now floats)
         × Contracts.HasLimits s (now words) (now floats) ⌝ }
-    ensures { λ r. ⌜ r ≡ firstFrom (Locate.holds search b q) 0
+    ensures { λ r. ⌜ r ≡ Contracts.firstHolding search b q
         (Layout.cellPolygonsIn s (now (words .entry)) (now (floats .entry))) ⌝ }
 {
     let mut i = 0;
     while i < s.cells {
         if may_contain(floats, s, q, i) {
-            if holds(words, floats, s, search, b, q, i) {
-                return Found::At(i);
+            if is_searched(words, s, search, b, i) {
+                let position = position_in(words, floats, s, q, i);
+                if lines_polygon::is_within(position) {
+                    return Located {
+                        cell: Found::At(i),
+                        position,
+                    };
+                }
             }
         }
         i += 1;
     }
-    Found::Nothing
+    nowhere()
 }
 
 // The first node of bin c of the index.
@@ -290,12 +306,12 @@ fn first_indexed(
     search: Search,
     at: Places,
     q: Vec2,
-) -> Found
+) -> Located
     requires { ⌜ LentWords s (now words) × LentFloats s (now floats)
         × Contracts.LocateCellEntry g s (now words) (now floats) × (finite (q .x) ≡ true) × (finite (q .y) ≡ true) ⌝ }
     requires { ⌜ BinIndex (now words) (wordsEnd s) (s .cells) (g .bins .x + 1) (g .bins .y + 1)
         × (at .index ≡ Ranges.indexBin g q) ⌝ }
-    ensures { λ r. ⌜ r ≡ firstFrom (Locate.holds search (at .bin) q) 0
+    ensures { λ r. ⌜ r ≡ Contracts.firstHolding search (at .bin) q
         (Layout.cellPolygonsIn s (now (words .entry)) (now (floats .entry))) ⌝ }
 {
     let base = 16 * s.slots + 8 * s.cells;
@@ -303,13 +319,19 @@ fn first_indexed(
     while h != 0 {
         let i = lines_bins::pool(words, base, s.cells, h);
         if may_contain(floats, s, q, i) {
-            if holds(words, floats, s, search, at.bin, q, i) {
-                return Found::At(i);
+            if is_searched(words, s, search, at.bin, i) {
+                let position = position_in(words, floats, s, q, i);
+                if lines_polygon::is_within(position) {
+                    return Located {
+                        cell: Found::At(i),
+                        position,
+                    };
+                }
             }
         }
         h = lines_bins::pool(words, base, s.cells, h + 1);
     }
-    Found::Nothing
+    nowhere()
 }
 
 // The index of the bins stands.
@@ -325,10 +347,10 @@ fn is_indexed(words: &[u32], s: Sizes) -> bool
 }
 
 // The lowest cell that holds q.
-fn first_at(words: &[u32], floats: &[f64], s: Sizes, g: Grid, search: Search, q: Vec2) -> Found
+fn first_at(words: &[u32], floats: &[f64], s: Sizes, g: Grid, search: Search, q: Vec2) -> Located
     requires { ⌜ LentWords s (now words) × LentFloats s (now floats)
         × Contracts.LocateCellEntry g s (now words) (now floats) × (finite (q .x) ≡ true) × (finite (q .y) ≡ true) ⌝ }
-    ensures { λ r. ⌜ r ≡ firstFrom (Locate.holds search (Bins.binFor g q) q) 0
+    ensures { λ r. ⌜ r ≡ Contracts.firstHolding search (Bins.binFor g q) q
         (Layout.cellPolygonsIn s (now (words .entry)) (now (floats .entry))) ⌝ }
 {
     let at = places_of(g, q);
@@ -339,8 +361,9 @@ fn first_at(words: &[u32], floats: &[f64], s: Sizes, g: Grid, search: Search, q:
     }
 }
 
-// The lowest cell that contains p, of those listed in its bin or of all; nowhere for an x or y that is
-// not finite. Wherever the bins find a cell, all cells give that one or a lower one.
+// The lowest cell that contains p, of those listed in its bin or of all, and where p lies to its
+// polygon; nowhere for an x or y that is not finite. Wherever the bins find a cell, all cells give
+// that one or a lower one; and a cell is found exactly where p is not outside.
 pub fn locate_cell(
     words: &[u32],
     floats: &[f64],
@@ -348,22 +371,22 @@ pub fn locate_cell(
     g: Grid,
     search: Search,
     p: Vec3,
-) -> Found
+) -> Located
     requires { ⌜ LentWords s (now words) × LentFloats s (now floats)
         × Contracts.LocateCellEntry g s (now words) (now floats) ⌝ }
-    ensures { λ r. ⌜ r ≡ Locate.locate search g
+    ensures { λ r. ⌜ r ≡ Locate.located search g
         (Layout.cellPolygonsIn s (now (words .entry)) (now (floats .entry))) p ⌝ }
-    ensures { λ r. ⌜ Locate.AtOrBelow r (Locate.locate Variants.Bins g
-        (Layout.cellPolygonsIn s (now (words .entry)) (now (floats .entry))) p) ⌝ }
+    ensures { λ r. ⌜ Locate.AtOrBelow (r .cell) (Locate.locate Variants.Bins g
+        (Layout.cellPolygonsIn s (now (words .entry)) (now (floats .entry))) p) × Locate.FoundWithin r ⌝ }
 {
     if float::is_finite(p.x) {
         if float::is_finite(p.y) {
             let q = Vec2 { x: p.x, y: p.y };
             first_at(words, floats, s, g, search, q)
         } else {
-            Found::Nothing
+            nowhere()
         }
     } else {
-        Found::Nothing
+        nowhere()
     }
 }

@@ -18,7 +18,7 @@ use Rattle.lines_polygon.specs.Extent.{LimitsHold, misses, endWithin, ru
 use Rattle.lines_polygon.proofs.OrderLaws.{below-through, through-below, below-not-most, below-not-below}
 use Rattle.lines_polygon.proofs.CrossLaws.{add-most, self, crosses-left, crosses-right, crosses-level, level-together}
 use Rattle.lines_polygon.proofs.ParityLaws.{apart, parted-even}
-use Rattle.lines_polygon.proofs.Laws.{sidesIn, side-at, in-range, sides-past}
+use Rattle.lines_polygon.proofs.Laws.{contains-or, sidesIn, side-at, in-range, sides-past}
 
 -- ---- both of two tests
 
@@ -204,9 +204,10 @@ same-count p r t h (a ∷ l) e = let k = all-first p a l e in rw (h a (k .0), sa
 module _ (polygon : List Vec2) (l : Limits) (w : allOf (sideWithin l) (sides polygon) ≡ true) (q : Vec2) where
   -- left of all sides every side that the point's height parts is crossed: an even number
   even : ((s : Side Vec2) → sideWithin l s ≡ true → onEdge q s ≡ false) → ((s : Side Vec2) → sideWithin l s ≡ true → crosses q s ≡ apart (λ (v : Vec2). q .y ≺ v .y) s) → contains q polygon ≡ false
-  unfolding contains evenOdd
+  unfolding evenOdd
   even a b =
       rw (
+        contains-or q polygon,
         none-any (sideWithin l) (onEdge q) a (sides polygon) w,
         same-count (sideWithin l) (crosses q) (apart (λ (v : Vec2). q .y ≺ v .y)) b (sides polygon) w,
         parted-even (λ (v : Vec2). q .y ≺ v .y) polygon,
@@ -214,9 +215,9 @@ module _ (polygon : List Vec2) (l : Limits) (w : allOf (sideWithin l) (sides pol
       (not-second (leb 3 (length polygon)) false refl)
 
   none : ((s : Side Vec2) → sideWithin l s ≡ true → onEdge q s ≡ false) → ((s : Side Vec2) → sideWithin l s ≡ true → crosses q s ≡ false) → contains q polygon ≡ false
-  unfolding contains evenOdd
+  unfolding evenOdd
   none a b =
-      rw (none-any (sideWithin l) (onEdge q) a (sides polygon) w, none-count (sideWithin l) (crosses q) b (sides polygon) w)
+      rw (contains-or q polygon, none-any (sideWithin l) (onEdge q) a (sides polygon) w, none-count (sideWithin l) (crosses q) b (sides polygon) w)
       (not-second (leb 3 (length polygon)) false refl)
 
 pub within-hold : (polygon : List Vec2) (l : Limits) → allOf (sideWithin l) (sides polygon) ≡ true → isNan (l .high) ≡ false → isNan (l .right) ≡ false → LimitsHold polygon l

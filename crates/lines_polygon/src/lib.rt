@@ -1,4 +1,4 @@
-// Whether a point lies in a polygon, whose vertices stand as x and y from `at` on: `point_in_polygon`.
+// Where a point lies to a polygon, whose vertices stand as x and y from `at` on: `point_in_polygon`.
 pub mod extent;
 
 use arith::Vec2;
@@ -11,6 +11,24 @@ ghost use lib.ListN.{length};
 ghost use Rattle.arith.specs.Lists.{after};
 ghost use Rattle.lines_polygon.specs.Contains as Contains;
 ghost use Rattle.lines_polygon.specs.Vertices.{pairFrom, pairsFrom, sideFrom};
+
+// Where a point lies to a polygon: outside, on an edge, within 1e-12, or inside.
+pub enum Position {
+    Outside,
+    Edge,
+    Inside,
+}
+
+// Not outside.
+pub fn is_within(p: Position) -> bool
+    ensures { λ r. ⌜ r ≡ Contains.isWithin p ⌝ }
+{
+    match p {
+        Position::Outside => false,
+        Position::Edge => true,
+        Position::Inside => true,
+    }
+}
 
 // A polygon contains no point below `low`, above `high`, to the right of `right` or to the left of `left`.
 pub struct Limits {
@@ -82,25 +100,29 @@ fn side_at(floats: &[f64], at: usize, n: usize, i: usize) -> Ends
     }
 }
 
-// q lies on some side, or crosses an odd number of them.
-pub fn point_in_polygon(q: Vec2, floats: &[f64], at: usize, n: usize) -> bool
+// Where q lies: on an edge where it lies on some side, inside where it crosses an odd number of them.
+pub fn point_in_polygon(q: Vec2, floats: &[f64], at: usize, n: usize) -> Position
     requires { ⌜ (at + 2 * n ≤ length (now floats)) × (n ≤ 24) ⌝ }
-    ensures { λ r. ⌜ r ≡ Contains.contains q (pairsFrom (now (floats .entry)) at n) ⌝ }
+    ensures { λ r. ⌜ r ≡ Contains.position q (pairsFrom (now (floats .entry)) at n) ⌝ }
 {
     if n < 3 {
-        return false;
+        return Position::Outside;
     }
     let mut inside = false;
     let mut i = 0;
     while i < n {
         let s = side_at(floats, at, n, i);
         if on_edge(q, s.from, s.to) {
-            return true;
+            return Position::Edge;
         }
         if crosses(q, s.from, s.to) {
             inside = !inside;
         }
         i += 1;
     }
-    inside
+    if inside {
+        Position::Inside
+    } else {
+        Position::Outside
+    }
 }

@@ -162,7 +162,9 @@ fn rk4_step(
     let Vector::Here(q) = runge_kutta(case, words, floats, t, marks, start) else {
         return Vector::Nowhere;
     };
-    let Found::At(_) = locate(words, floats, t, q) else {
+    let found = locate(words, floats, t, q);
+    let cell = found.cell;
+    let Found::At(_) = cell else {
         return Vector::Nowhere;
     };
     Vector::Here(q)

@@ -1,5 +1,5 @@
 -- `velocity_at` and `direction_at`: the located cell's velocity, blended toward the nearest neighbour's.
--- `locateIn`: the cell of a point. `centreOf`, `neighboursOf`: a cell's centre and its neighbours.
+-- `locatedIn`, `locateIn`: the cell of a point, with its position and alone. `centreOf`, `neighboursOf`: a cell's centre and its neighbours.
 -- `distanceSquared`, `nearerOf`, `nearestOf`: the nearest of some cells.
 -- `blended`, `apart`, `besideIf`, `beside`, `besideNearest`, `toward`: a cell's velocity, blended toward that of a neighbour.
 -- `velocityIn`, `velocityWhere`, `velocityAt`: the velocity at a point.
@@ -18,10 +18,15 @@ use Rattle.arith.specs.declared.Found.{Found}
 use Rattle.arith.specs.declared.Found.the-variants.{At, Nothing}
 use Rattle.reading.specs.Asks.{Asks, give, ask, _>>=_}
 use Rattle.mesh_area.specs.Tables.{Cell, cellAt}
-use Rattle.lines_locate.specs.Locate.{locate}
+use Rattle.lines_locate.specs.declared.Located.{Located}
+use Rattle.lines_locate.specs.Locate.{locate, located}
 use Rattle.lines_locate.specs.Field.{StreamlineField}
 use Rattle.lines_velocity.specs.declared.Vector.{Vector}
 use Rattle.lines_velocity.specs.declared.Vector.the-variants.{Here, Nowhere}
+
+-- `locate_cell`, with where the point lies to the cell's polygon
+unfoldable pub locatedIn : StreamlineField → Vec3 → Located
+locatedIn f p = located (f .search) (f .grid) (f .polygons) p
 
 -- `locate_cell`
 unfoldable pub locateIn : StreamlineField → Vec3 → Found

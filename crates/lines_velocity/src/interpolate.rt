@@ -6,6 +6,7 @@ use arith::Found;
 use arith::Vec3;
 use arith::float;
 use case_file::field;
+use lines_locate::Located;
 use mesh_area::Sizes;
 ghost use mathlib.Core.Path.{_≡_};
 ghost use mathlib.Core.List.{List};
@@ -155,10 +156,11 @@ fn velocity_in(
     toward(case, words, floats, t, marks, p, i, v.velocity)
 }
 
-// The cell that p locates in.
-pub fn locate(words: &[u32], floats: &[f64], t: Tracer, p: Vec3) -> Found
+// The cell that p locates in, and where p lies to its polygon.
+pub fn locate(words: &[u32], floats: &[f64], t: Tracer, p: Vec3) -> Located
     requires { ⌜ LocateEntry (now words) (now floats) t ⌝ }
-    ensures { λ r. ⌜ r ≡ Velocity.locateIn (tracerField t (now (words .entry)) (now (floats .entry))) p ⌝ }
+    ensures { λ r. ⌜ r ≡ Velocity.locatedIn (tracerField t (now (words .entry)) (now (floats .entry))) p ⌝ }
+    ensures { λ r. ⌜ r .cell ≡ Velocity.locateIn (tracerField t (now (words .entry)) (now (floats .entry))) p ⌝ }
 {
     let search = t.search;
     lines_locate::locate_cell(words, floats, t.sizes, t.grid, search, p)
@@ -177,7 +179,9 @@ pub fn velocity_at(
     ensures { λ r. ⌜ Served (Velocity.velocityAt (tracerField t (now (words .entry)) (now (floats .entry))) p)
         (valuesOf (now (case .entry))) (now (marks .entry)) (now (marks .exit)) r ⌝ }
 {
-    let Found::At(i) = locate(words, floats, t, p) else {
+    let found = locate(words, floats, t, p);
+    let cell = found.cell;
+    let Found::At(i) = cell else {
         return Vector::Nowhere;
     };
     let v = velocity_in(case, words, floats, t, marks, p, i);

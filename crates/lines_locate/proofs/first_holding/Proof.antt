@@ -1,4 +1,5 @@
 use Rattle.lines_locate.proofs.LocateLaws.{locate-here, locate-next, locate-end, missed-cell}
+use Rattle.lines_locate.proofs.FoundLaws.{held, not-searched, held-here, held-nowhere}
 use Rattle.lines_locate.specs.Layout.{cellPolygonIn, cellPolygonsIn}
 use Rattle.lines_locate.specs.Locate.{holds}
 use Rattle.arith.specs.Lists.{firstFrom}
@@ -23,11 +24,21 @@ loop-holds c = refl
 may-contain-requires : tie.Need-may-contain-requires Inv-loop μ-loop
 may-contain-requires c κs = search needs
 
-holds-requires : tie.Need-holds-requires Inv-loop μ-loop
-holds-requires c κs = search needs
+is-searched-requires : tie.Need-is-searched-requires Inv-loop μ-loop
+is-searched-requires c κs = search needs
+
+position-in-requires : tie.Need-position-in-requires Inv-loop μ-loop
+position-in-requires c κs = search needs
+
+is-within-requires : tie.Need-is-within-requires Inv-loop μ-loop
+is-within-requires c κs = search needs
 
 returns : tie.Need-returns Inv-loop μ-loop
-returns c = locate-here _ _ _ _ _ _ (c .before .before .before .before .before .before .loop .inv) _ (c .before .before .before .before .if1 .taken) (c .before .holds .ensures) (c .if3 .taken)
+returns c =
+    let l = c .before .before .before .before .before .before .before .if1 .taken in
+    let r = c .before .before .position-in .ensures in
+    let h = held _ _ _ _ _ _ _ _ (c .before .before .before .before .is-searched .ensures) (c .before .before .before .if3 .taken) _ _ r (c .before .is-within .ensures) in
+    held-here _ _ _ _ _ _ _ _ l (locate-here _ _ _ _ _ _ (c .before .before .before .before .before .before .before .before .before .loop .inv) _ l h (c .if4 .taken)) r
 
 add-i : tie.Need-add-i Inv-loop μ-loop
 add-i c = search needs
@@ -41,10 +52,13 @@ loop-again c =
     let a = c .before .before .before .before .before .before .before .args in
     let l = c .before .before .if1 .taken in
     locate-next _ _ _ _ _ _ (c .before .before .before .before .loop .inv) _ l refl
-    (⊎-elim {C = holds (a .search) (a .b) (a .q) (cellPolygonIn (a .s) (a .words .now) (a .floats .now) (c .before .before .before .before .loop .i)) ≡ false} (λ w. sym (w .1 .ensures) ∙ w .2 .left) (λ w. missed-cell _ _ _ _ _ _ _ _ (p .2) l (c .before .may-contain .ensures) (w .left)) (c .if2 .came))
+    (⊎-elim {C = holds (a .search) (a .b) (a .q) (cellPolygonIn (a .s) (a .words .now) (a .floats .now) (c .before .before .before .before .loop .i)) ≡ false} (λ w. sym (held _ _ _ _ _ _ _ _ (w .1 .ensures) (w .2 .taken) _ _ (w .3 .ensures) (w .4 .ensures)) ∙ w .5 .left) (λ w. ⊎-elim (λ v. not-searched _ _ _ _ _ _ _ _ (v .1 .ensures) (v .2 .left)) (λ v. missed-cell _ _ _ _ _ _ _ _ (p .2) l (c .before .may-contain .ensures) (v .left)) w) (c .if2 .came))
+
+nowhere-requires : tie.Need-nowhere-requires Inv-loop μ-loop
+nowhere-requires c κs = search needs
 
 returns-2 : tie.Need-returns-2 Inv-loop μ-loop
-returns-2 c = locate-end _ _ _ _ _ _ (c .before .before .loop .inv) (c .if1 .left)
+returns-2 c = held-nowhere _ _ _ _ _ _ _ (c .nowhere .ensures) (locate-end _ _ _ _ _ _ (c .before .before .before .loop .inv) (c .before .if1 .left))
 
 pub first-holding-spec : {M : Type 1} → statement M
 first-holding-spec =
@@ -54,9 +68,12 @@ first-holding-spec =
     μ-loop
     loop-holds
     may-contain-requires
-    holds-requires
+    is-searched-requires
+    position-in-requires
+    is-within-requires
     returns
     add-i
     loop-less
     loop-again
+    nowhere-requires
     returns-2)

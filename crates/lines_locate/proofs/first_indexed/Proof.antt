@@ -1,4 +1,5 @@
 use Rattle.lines_locate.proofs.IndexLaws.{Going, go-start, go-end, go-room, go-less, go-cell, go-hit, go-turn}
+use Rattle.lines_locate.proofs.FoundLaws.{held, not-searched, held-here, held-nowhere}
 use Rattle.lines_locate.proofs.LocateLaws.{missed-cell}
 use Rattle.lines_locate.proofs.RangeLaws.{passed-over, index-low}
 use Rattle.lines_locate.specs.Layout.{cellPolygonIn}
@@ -53,14 +54,27 @@ may-contain-requires c κs =
     let p = c .before .before .before .before .before .before .before .before .pre in
     (p .0 .1, go-cell _ _ _ _ _ (c .before .before .loop .inv) (c .before .loop-test .taken) _ (c .pool .ensures .0))
 
-holds-requires : tie.Need-holds-requires Inv-loop μ-loop
-holds-requires c κs =
+is-searched-requires : tie.Need-is-searched-requires Inv-loop μ-loop
+is-searched-requires c κs =
     let p = c .before .before .before .before .before .before .before .before .before .before .pre in
-    (p .0 .0, p .0 .1, go-cell _ _ _ _ _ (c .before .before .before .before .loop .inv) (c .before .before .before .loop-test .taken) _ (c .before .before .pool .ensures .0))
+    (p .0 .0, go-cell _ _ _ _ _ (c .before .before .before .before .loop .inv) (c .before .before .before .loop-test .taken) _ (c .before .before .pool .ensures .0))
+
+position-in-requires : tie.Need-position-in-requires Inv-loop μ-loop
+position-in-requires c κs =
+    let p = c .before .before .before .before .before .before .before .before .before .before .before .before .pre in
+    (p .0 .0, p .0 .1, go-cell _ _ _ _ _ (c .before .before .before .before .before .before .loop .inv) (c .before .before .before .before .before .loop-test .taken) _ (c .before .before .before .before .pool .ensures .0))
+
+is-within-requires : tie.Need-is-within-requires Inv-loop μ-loop
+is-within-requires c κs = search needs
 
 returns : tie.Need-returns Inv-loop μ-loop
 returns c =
-    go-hit _ _ _ _ _ (c .before .before .before .before .before .before .loop .inv) (c .before .before .before .before .before .loop-test .taken) _ (c .before .before .before .before .pool .ensures .0) _ (c .before .holds .ensures) (c .if2 .taken)
+    let g = c .before .before .before .before .before .before .before .before .before .loop .inv in
+    let t = c .before .before .before .before .before .before .before .before .loop-test .taken in
+    let e = c .before .before .before .before .before .before .before .pool .ensures .0 in
+    let r = c .before .before .position-in .ensures in
+    let h = held _ _ _ _ _ _ _ _ (c .before .before .before .before .is-searched .ensures) (c .before .before .before .if2 .taken) _ _ r (c .before .is-within .ensures) in
+    held-here _ _ _ _ _ _ _ _ (go-cell _ _ _ _ _ g t _ e) (go-hit _ _ _ _ _ g t _ e _ h (c .if3 .taken)) r
 
 add-pool : tie.Need-add-pool Inv-loop μ-loop
 add-pool c = let r = go-room _ _ _ _ _ (c .before .before .before .before .loop .inv) (c .before .before .before .loop-test .taken) in omega arith
@@ -81,11 +95,14 @@ loop-again c =
     let t = c .before .before .before .before .loop-test .taken in
     let e = c .before .before .before .pool .ensures .0 in
     go-turn _ _ _ _ _ g t _ e _ _ refl
-    (⊎-elim {C = holds (a .search) (a .at .bin) (a .q) (cellPolygonIn (a .s) (a .words .now) (a .floats .now) (c .before .before .before .pool .result)) ≡ false} (λ w. sym (w .1 .ensures) ∙ w .2 .left) (λ w. missed-cell _ _ _ _ _ _ _ _ (p .0 .2 .limits) (go-cell _ _ _ _ _ g t _ e) (c .before .before .may-contain .ensures) (w .left)) (c .before .if1 .came))
+    (⊎-elim {C = holds (a .search) (a .at .bin) (a .q) (cellPolygonIn (a .s) (a .words .now) (a .floats .now) (c .before .before .before .pool .result)) ≡ false} (λ w. sym (held _ _ _ _ _ _ _ _ (w .1 .ensures) (w .2 .taken) _ _ (w .3 .ensures) (w .4 .ensures)) ∙ w .5 .left) (λ w. ⊎-elim (λ v. not-searched _ _ _ _ _ _ _ _ (v .1 .ensures) (v .2 .left)) (λ v. missed-cell _ _ _ _ _ _ _ _ (p .0 .2 .limits) (go-cell _ _ _ _ _ g t _ e) (c .before .before .may-contain .ensures) (v .left)) w) (c .before .if1 .came))
     (c .pool2 .ensures .0)
 
+nowhere-requires : tie.Need-nowhere-requires Inv-loop μ-loop
+nowhere-requires c κs = search needs
+
 returns-2 : tie.Need-returns-2 Inv-loop μ-loop
-returns-2 c = go-end _ _ _ _ _ (c .before .loop .inv) (c .loop-test .left)
+returns-2 c = held-nowhere _ _ _ _ _ _ _ (c .nowhere .ensures) (go-end _ _ _ _ _ (c .before .before .loop .inv) (c .before .loop-test .left))
 
 pub first-indexed-spec : {M : Type 1} → statement M
 first-indexed-spec =
@@ -100,10 +117,13 @@ first-indexed-spec =
     loop-holds
     pool-requires
     may-contain-requires
-    holds-requires
+    is-searched-requires
+    position-in-requires
+    is-within-requires
     returns
     add-pool
     pool-requires-2
     loop-less
     loop-again
+    nowhere-requires
     returns-2)

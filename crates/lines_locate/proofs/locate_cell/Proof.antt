@@ -1,5 +1,5 @@
 use mathlib.Core.Path.{refl, sym, _∙_}
-use Rattle.lines_locate.proofs.SearchLaws.{found, first-not, second-not}
+use Rattle.lines_locate.proofs.FoundLaws.{found, first-not, second-not}
 use Rattle.lines_locate.specs.Locate.{xyOf}
 use borrow.Author.Needs.{needs}
 use Rattle.lines_locate.proofs.locate_cell.Statement.{statement}
@@ -19,11 +19,18 @@ first-at-requires c κs =
 returns : tie.Need-returns
 returns c = found _ _ _ _ _ _ _ (c .before .before .before .before .is-finite .ensures) (c .before .before .is-finite2 .ensures) (c .before .before .before .if1 .taken) (c .before .if2 .taken) (unfold xyOf in c .first-at .ensures)
 
+nowhere-requires : tie.Need-nowhere-requires
+nowhere-requires c κs = search needs
+
 returns-2 : tie.Need-returns-2
-returns-2 c = second-not _ _ _ _ _ _ _ (c .before .before .before .is-finite .ensures) (c .before .is-finite2 .ensures) (c .before .before .if1 .taken) (c .if2 .left) refl
+returns-2 c =
+    second-not _ _ _ _ _ _ _ (c .before .before .before .before .is-finite .ensures) (c .before .before .is-finite2 .ensures) (c .before .before .before .if1 .taken) (c .before .if2 .left) (c .nowhere .ensures)
+
+nowhere-requires-2 : tie.Need-nowhere-requires-2
+nowhere-requires-2 c κs = search needs
 
 returns-3 : tie.Need-returns-3
-returns-3 c = first-not _ _ _ _ _ _ _ (c .before .is-finite .ensures) refl (c .if1 .left) refl
+returns-3 c = first-not _ _ _ _ _ _ _ (c .before .before .is-finite .ensures) refl (c .before .if1 .left) (c .nowhere2 .ensures)
 
 pub locate-cell-spec : {M : Type 1} → statement M
 locate-cell-spec =
@@ -32,6 +39,8 @@ locate-cell-spec =
     is-finite-requires
     is-finite-requires-2
     first-at-requires
+    nowhere-requires
+    nowhere-requires-2
     returns
     returns-2
     returns-3)

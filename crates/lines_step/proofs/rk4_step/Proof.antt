@@ -31,13 +31,13 @@ same-length-2 : tie.Need-same-length-2
 same-length-2 c = search needs
 
 returns-2 : tie.Need-returns-2
-returns-2 c = rk4-outside _ _ _ _ _ _ _ _ (c .before .before .before .before .before .before .before .before .runge-kutta .ensures) _ _ (c .before .before .before .before .q .given .1) (c .before .before .locate .ensures) (c .enum-told3 .given .1)
+returns-2 c = rk4-outside _ _ _ _ _ _ _ _ (c .before .before .before .before .before .before .before .before .runge-kutta .ensures) _ _ (c .before .before .before .before .q .given .1) (c .before .before .locate .ensures .1) (c .enum-told3 .given .1)
 
 same-length-3 : tie.Need-same-length-3
 same-length-3 c = search needs
 
 returns-3 : tie.Need-returns-3
-returns-3 c = rk4-inside _ _ _ _ _ _ _ _ (c .before .before .before .before .before .before .before .before .runge-kutta .ensures) _ _ (c .before .before .before .before .q .given .1) (c .before .before .locate .ensures) _ (c .enum-told2 .given .1)
+returns-3 c = rk4-inside _ _ _ _ _ _ _ _ (c .before .before .before .before .before .before .before .before .runge-kutta .ensures) _ _ (c .before .before .before .before .q .given .1) (c .before .before .locate .ensures .1) _ (c .enum-told2 .given .1)
 
 pub rk4-step-spec : {M : Type 1} → statement M
 rk4-step-spec =

@@ -6,14 +6,14 @@ use Rattle.lines_velocity.proofs.interpolate.velocity_at.Tie as tie
 locate-requires : tie.Need-locate-requires
 locate-requires c κs = search needs
 
-enum-known-i : tie.Need-enum-known-i
-enum-known-i c = search needs
+enum-known-cell : tie.Need-enum-known-cell
+enum-known-cell c = search needs
 
 enum-told : tie.Need-enum-told
 enum-told c = search needs
 
 returns : tie.Need-returns
-returns c = velocity-nowhere _ _ _ _ (c .before .before .locate .ensures) (c .enum-told .given .1)
+returns c = velocity-nowhere _ _ _ _ (c .before .before .locate .ensures .1) (c .enum-told .given .1)
 
 velocity-in-requires : tie.Need-velocity-in-requires
 velocity-in-requires c κs = search needs
@@ -22,14 +22,14 @@ same-length : tie.Need-same-length
 same-length c = search needs
 
 returns-2 : tie.Need-returns-2
-returns-2 c = velocity-here _ _ _ _ _ (c .before .before .before .before .before .before .before .locate .ensures) (c .before .before .before .before .before .i .given .1) (c .before .before .velocity-in .ensures)
+returns-2 c = velocity-here _ _ _ _ _ (c .before .before .before .before .before .before .before .locate .ensures .1) (c .before .before .before .before .before .cell .given .1) (c .before .before .velocity-in .ensures)
 
 pub velocity-at-spec : {M : Type 1} → statement M
 velocity-at-spec =
     tie.close
     (tie.spec
     locate-requires
-    enum-known-i
+    enum-known-cell
     enum-told
     returns
     velocity-in-requires
