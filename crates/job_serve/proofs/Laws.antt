@@ -9,8 +9,6 @@ use lib.Seq.{sets, length-sets}
 use lib.Ieee.{Float}
 use Rattle.arith.specs.Lists.{flatten}
 use Rattle.arith.specs.declared.Vec3.{Vec3}
-use Rattle.arith.specs.declared.Found.{Found}
-use Rattle.arith.specs.declared.Found.the-variants.{At, Nothing}
 use Rattle.reading.specs.declared.Values.{Values}
 use Rattle.reading.specs.Result.{Result, refused, fine}
 use Rattle.reading.specs.Asks.{Asks, give, run, reads, _>>=_}
@@ -20,6 +18,7 @@ use Rattle.reading.proofs.AsksLaws.{run-bind, reads-bind}
 use Rattle.mesh_area.specs.Tables.{Mesh}
 use Rattle.mesh_area.specs.Layout.{pointsIn, meshIn}
 use Rattle.mesh_area.specs.declared.Sizes.{Sizes}
+use Rattle.lines_locate.specs.declared.Located.{Located}
 use Rattle.lines_locate.specs.declared.Search.{Search}
 use Rattle.lines_locate.specs.Field.{StreamlineField, searching}
 use Rattle.case_file.specs.declared.Counts.{Counts}
@@ -28,7 +27,7 @@ use Rattle.planes_sections.specs.Intersect.{intersect}
 use Rattle.lines_velocity.specs.declared.Vector.{Vector}
 use Rattle.lines_velocity.specs.declared.Vector.the-variants.{Here, Nowhere}
 use Rattle.lines_velocity.specs.declared.Tracer.{Tracer}
-use Rattle.lines_velocity.specs.Velocity.{locateIn, velocityAt}
+use Rattle.lines_velocity.specs.Velocity.{locatedIn, velocityAt}
 use Rattle.lines_velocity.specs.Contracts.{tracerField, TracerEntry}
 use Rattle.lines.specs.declared.Rake as declared
 use Rattle.lines_words.specs.declared.Style.{Style}
@@ -54,7 +53,7 @@ use Rattle.job_room.specs.Contracts.{roomIn, countsIn, Servable, RoomStands}
 use Rattle.job_requests.proofs.Request.{the-type}
 use types.Run.{OneOf}
 use denote.Enum.Declared.{tagOf}
-use Rattle.job_serve.specs.Serve.{foundWords, velocityWords, serveFlat, serveSolid, serve}
+use Rattle.job_serve.specs.Serve.{locatedWords, velocityWords, serveFlat, serveSolid, serve}
 use Rattle.job_serve.specs.Contracts.{leftUnder}
 
 -- ---- an answer, or a refusal, that is decided before any value is read
@@ -70,10 +69,9 @@ module _ {f : ℕ → Values} {o m : List ℕ} where
 
 -- ---- codes 1 to 4, and 9 to 12
 
-found-one : (r : Found) → length (foundWords r) ≡ 1
-unfolding foundWords
-found-one (At i) = refl
-found-one Nothing = refl
+located-two : (r : Located) → length (locatedWords r) ≡ 2
+unfolding locatedWords
+located-two r = refl
 
 velocity-four : (r : Vector) → length (velocityWords r) ≡ 4
 unfolding velocityWords vecWords
@@ -81,10 +79,10 @@ velocity-four (Here u) = refl
 velocity-four Nowhere = refl
 
 module _ {v : ℕ → Values} {o o′ m : List ℕ} where
-  pub locate-reply : (F G : StreamlineField) (p : Vec3) (search : Search) (r : Found) → G ≡ searching search F → r ≡ locateIn G p → o′ ≡ sets o 0 (foundWords r)
-      → Reply (serveFlat F (Locate p search)) v o (Answered.Words 1) o o′ m m
+  pub locate-reply : (F G : StreamlineField) (p : Vec3) (search : Search) (r : Located) → G ≡ searching search F → r ≡ locatedIn G p → o′ ≡ sets o 0 (locatedWords r)
+      → Reply (serveFlat F (Locate p search)) v o (Answered.Words 2) o o′ m m
   unfolding serveFlat
-  locate-reply F G p search r g e h = rw (sym g, sym e) (replied-yes (foundWords r) 1 (found-one r) h)
+  locate-reply F G p search r g e h = rw (sym g, sym e) (replied-yes (locatedWords r) 2 (located-two r) h)
 
   pub velocity-reply : (F G : StreamlineField) {m′ : List ℕ} (p : Vec3) (search : Search) (r : Vector) → G ≡ searching search F → Served (velocityAt G p) v m m′ r → o′ ≡ sets o 0 (velocityWords r)
       → Reply (serveFlat F (Velocity p search)) v o (Answered.Words 4) o o′ m m′

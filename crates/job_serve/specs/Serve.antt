@@ -1,5 +1,5 @@
 -- The answer of each code, whatever room there is for it. Refusals 34, 35 and 39 to 43.
--- `foundWords`, `velocityWords`: the words of codes 1 and 2, and 9 and 10. `serveFlat`, `serveSolid`, `serve`: the answers in 2D, in 3D, and in any room.
+-- `cellWord`, `locatedWords`, `velocityWords`: the words of codes 1 and 2, and 9 and 10. `serveFlat`, `serveSolid`, `serve`: the answers in 2D, in 3D, and in any room.
 use Prim.Native.Nat.{ℕ, _-_, _^_}
 use mathlib.Core.List.{List, [], _∷_}
 use Rattle.arith.specs.declared.Found.{Found}
@@ -7,10 +7,12 @@ use Rattle.arith.specs.declared.Found.the-variants.{At, Nothing}
 use Rattle.reading.specs.Result.{Result, refused, fine}
 use Rattle.reading.specs.Asks.{Asks, give, _>>=_}
 use Rattle.mesh_area.specs.Tables.{Mesh}
+use Rattle.lines_polygon.specs.Contains.{positionWord}
+use Rattle.lines_locate.specs.declared.Located.{Located}
 use Rattle.lines_locate.specs.Field.{StreamlineField, searching}
 use Rattle.lines_velocity.specs.declared.Vector.{Vector}
 use Rattle.lines_velocity.specs.declared.Vector.the-variants.{Here, Nowhere}
-use Rattle.lines_velocity.specs.Velocity.{locateIn, velocityAt}
+use Rattle.lines_velocity.specs.Velocity.{locatedIn, velocityAt}
 use Rattle.lines.specs.Line.{integrate}
 use Rattle.lines.specs.Rake.{integrateRake}
 use Rattle.answers.specs.Words.{vecWords}
@@ -21,9 +23,13 @@ use Rattle.job_requests.specs.declared.Request.the-variants.{Refused, Locate, V
 use Rattle.job_room.specs.Room.{Room, flat, solid}
 
 -- "cell, or 2^64-1 for none"
-unfoldable pub foundWords : Found → List ℕ
-foundWords (At i) = i ∷ []
-foundWords Nothing = (2 ^ 64 - 1) ∷ []
+unfoldable pub cellWord : Found → ℕ
+cellWord (At i) = i
+cellWord Nothing = 2 ^ 64 - 1
+
+-- the cell, and "a second word: 0 none, 1 edge, 2 inside"
+unfoldable pub locatedWords : Located → List ℕ
+locatedWords l = cellWord (l .cell) ∷ positionWord (l .position) ∷ []
 
 -- "1 and the velocity, or four zeros"
 unfoldable pub velocityWords : Vector → List ℕ
@@ -34,7 +40,7 @@ velocityWords Nowhere = 0 ∷ 0 ∷ 0 ∷ 0 ∷ []
 -- request of codes 5 to 8 over a 2D mesh. So the last four cases do not come in a job; they are here since the definition is of every request.
 unfoldable pub serveFlat : StreamlineField → Request → Asks (Result (List ℕ))
 serveFlat f (Refused n) = give (refused n)
-serveFlat f (Locate p search) = give (fine (foundWords (locateIn (searching search f) p)))
+serveFlat f (Locate p search) = give (fine (locatedWords (locatedIn (searching search f) p)))
 serveFlat f (Velocity p search) = velocityAt (searching search f) p >>= λ v. give (fine (velocityWords v))
 serveFlat f (Streamline p s style search) = decided (integrate (searching search f) p s style)
 serveFlat f (Rake r s search) = decided (integrateRake (searching search f) r s)

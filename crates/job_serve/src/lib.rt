@@ -7,7 +7,9 @@ use job_requests::Request;
 use job_room::Place;
 use lines::integrate;
 use lines::rakes;
+use lines_locate::Located;
 use lines_locate::Search;
+use lines_polygon::Position;
 use lines_velocity::Tracer;
 use lines_velocity::Vector;
 use lines_velocity::interpolate;
@@ -23,6 +25,7 @@ ghost use Rattle.reading.specs.declared.Values.{Values};
 ghost use Rattle.answers.specs.Contracts.{Reply};
 ghost use Rattle.mesh_area.specs.Layout.{pointsIn, meshIn};
 ghost use Rattle.case_file.specs.Field.{valuesOf};
+ghost use Rattle.lines_polygon.specs.Contains.{positionWord};
 ghost use Rattle.lines_velocity.specs.Contracts.{tracerField, LocateEntry, TracerEntry};
 ghost use Rattle.planes_samples.specs.Contracts as Planes;
 ghost use Rattle.job_requests.specs.declared.Request.the-variants as Code;
@@ -33,13 +36,34 @@ ghost use Rattle.job_serve.specs.Serve as Serve;
 ghost use Rattle.job_serve.specs.Contracts.{leftUnder};
 
 // The cell, or 2^64-1 for none.
-fn put_found(r: Found, out: &mut [u64])
-    ensures { λ _. ⌜ now (out .exit) ≡ sets (now (out .entry)) 0 (Serve.foundWords r) ⌝ }
+fn cell_word(r: Found) -> u64
+    ensures { λ w. ⌜ w ≡ Serve.cellWord r ⌝ }
 {
     match r {
-        Found::At(i) => answers::put(out, 0, i as u64),
-        Found::Nothing => answers::put(out, 0, 0xffff_ffff_ffff_ffff),
+        Found::At(i) => i as u64,
+        Found::Nothing => 0xffff_ffff_ffff_ffff,
     }
+}
+
+// 0 for none, 1 on an edge, 2 inside.
+fn position_word(p: Position) -> u64
+    ensures { λ w. ⌜ w ≡ positionWord p ⌝ }
+{
+    match p {
+        Position::Outside => 0,
+        Position::Edge => 1,
+        Position::Inside => 2,
+    }
+}
+
+// The cell, and where the point lies to its polygon.
+fn put_located(r: Located, out: &mut [u64])
+    ensures { λ _. ⌜ now (out .exit) ≡ sets (now (out .entry)) 0 (Serve.locatedWords r) ⌝ }
+{
+    let cell = r.cell;
+    let position = r.position;
+    answers::put(out, 0, cell_word(cell));
+    answers::put(out, 1, position_word(position));
 }
 
 // 1 and the velocity, or four zeros.
@@ -73,8 +97,8 @@ fn serve_locate(
         f (now (out .entry)) r (now (out .entry)) (now (out .exit)) m m) ⌝ }
 {
     let tracer = lines_velocity::searching(t, search);
-    put_found(interpolate::locate(words, floats, tracer, p), out);
-    Answered::Words(1)
+    put_located(interpolate::locate(words, floats, tracer, p), out);
+    Answered::Words(2)
 }
 
 // Codes 2 and 10.

@@ -10,8 +10,8 @@ searching-requires c κs = search needs
 locate-requires : tie.Need-locate-requires
 locate-requires c κs = searching-locates _ _ _ _ _ (c .searching .ensures) (c .before .before .before .before .pre)
 
-put-found-requires : tie.Need-put-found-requires
-put-found-requires c κs = search needs
+put-located-requires : tie.Need-put-located-requires
+put-located-requires c κs = search needs
 
 same-length : tie.Need-same-length
 same-length c = search needs
@@ -19,8 +19,8 @@ same-length c = search needs
 returns : tie.Need-returns
 returns c =
     λ f m.
-    locate-reply _ _ _ _ _ (searching-field _ _ _ _ _ (c .before .before .before .before .before .searching .ensures)) (c .before .before .before .before .locate .ensures) (c .before .before .put-found .ensures)
+    locate-reply _ _ _ _ _ (searching-field _ _ _ _ _ (c .before .before .before .before .before .searching .ensures)) (c .before .before .before .before .locate .ensures .0) (c .before .before .put-located .ensures)
 
 pub serve-locate-spec : {M : Type 1} → statement M
 serve-locate-spec =
-    tie.close (tie.spec searching-requires locate-requires put-found-requires same-length returns)
+    tie.close (tie.spec searching-requires locate-requires put-located-requires same-length returns)
