@@ -68,7 +68,9 @@ uint64_t hookyellow_job(const uint8_t *case_bytes, size_t case_length,
  * of those that are listed in the point's bin, where some cells at the far border are listed in none
  * (docs/DIFFERENCES.md, "Bins lose the far border"). */
 
-/* 1, with all_cells 9: the cell that a point locates in. */
+/* 1, with all_cells 9: the cell that a point locates in, UINT64_MAX for none, and a second word: 0
+ * for none, 1 where the point is on an edge of that cell, by the polygon test's tolerance of 1e-12,
+ * and 2 where it is inside. */
 uint64_t hookyellow_locate(const uint8_t *case_bytes, size_t case_length,
                            hookyellow_vector point, bool all_cells,
                            uint32_t *words, size_t words_length,

@@ -6,12 +6,15 @@
  * Everything that is expected stands in docs/01-scope.md: in "Known rooms", or under the number of a refusal. The sheet is
  * 01's 0.5 line in millimetres (docs/FORMAT.md). Among all cells the points of the right square are
  * found too: it is the lowest cell whose polygon contains them (docs/02-change-requests.md, Q-2).
- * Ends with 1 where a check fails. */
+ * Behind the cell stands whether the point is on an edge of it or inside (Q-3). Ends with 1 where a
+ * check fails. */
 #include "hookyellow.h"
 #include <stdio.h>
 #include <string.h>
 
 #define NONE UINT64_MAX
+#define EDGE 1
+#define INSIDE 2
 #define CASE case_bytes, case_length
 #define BUFFERS words, 320, floats, 224, marks, 3, answers, 24
 
@@ -99,9 +102,10 @@ static int untouched(void) {
     return marks[0] == 7 && marks[1] == 7 && marks[2] == 7;
 }
 
-/* "Pair with locate (1.5,0.5,0), velocity (0.75,0.5,0), the 0.5 line", and the lines that are printed for it */
+/* "Pair with locate (1.5,0.5,0), velocity (0.75,0.5,0), the 0.5 line", and the lines that are
+ * printed for it; by Q-3 the first is `0 2 ffffffffffffffff 0000000000000000`. */
 static void check_job(void) {
-    const uint64_t due[21] = {0, 1, NONE,
+    const uint64_t due[22] = {0, 2, NONE, 0,
                               0, 4, 1, 0x3ff8000000000000, 0, 0,
                               0, 10, 3, 0x3fd0000000000000, 0x3fe0000000000000, 0,
                               0x3fe0000000000000, 0x3fe0000000000000, 0, 0x3fe8000000000000, 0x3fe0000000000000, 0};
@@ -111,40 +115,55 @@ static void check_job(void) {
     request(locate, 4), request(velocity, 4), request(line, 9);
     fill();
     check(hookyellow_job(CASE, requests, requests_length, BUFFERS) == 0, "the job is refused");
-    check(leaves(due, 21, 1, 1), "the job leaves other answers or marks");
+    check(leaves(due, 22, 1, 1), "the job leaves other answers or marks");
 }
 
 /* The starred rooms of Pair, each request alone */
 static void check_alone(void) {
-    const hookyellow_vector inside = {0.5, 0.5, 0}, end = {2, 0.5, 0}, quarter = {0.25, 0.5, 0};
+    const hookyellow_vector inside = {0.5, 0.5, 0}, shared = {1, 0.5, 0}, end = {2, 0.5, 0}, quarter = {0.25, 0.5, 0};
     const hookyellow_line_options still = {0.25, 10, 0.5, 1, false}, half = {0.25, 10, 0.5, 0, false};
     const uint64_t sheet[9] = {0, 7, 3, 250, 500, 500, 500, 750, 500};
-    const uint64_t cell[3] = {0, 1, 0}, none[3] = {0, 1, NONE}, one[6] = {0, 4, 1, 0x3ff0000000000000, 0, 0};
+    const uint64_t cell[4] = {0, 2, 0, INSIDE}, side[4] = {0, 2, 0, EDGE}, none[4] = {0, 2, NONE, 0};
+    const uint64_t one[6] = {0, 4, 1, 0x3ff0000000000000, 0, 0};
     const uint64_t seed[6] = {0, 4, 1, 0x3fd0000000000000, 0x3fe0000000000000, 0};
     fill();
-    check(hookyellow_locate(CASE, inside, false, BUFFERS) == 0 && leaves(cell, 3, 0, 0), "locate (0.5,0.5): 0");
-    check(hookyellow_locate(CASE, end, false, BUFFERS) == 0 && leaves(none, 3, 0, 0), "locate (2,0.5): none");
+    check(hookyellow_locate(CASE, inside, false, BUFFERS) == 0 && leaves(cell, 4, 0, 0), "locate (0.5,0.5): 0, inside");
+    check(hookyellow_locate(CASE, shared, false, BUFFERS) == 0 && leaves(side, 4, 0, 0), "locate (1,0.5): 0, edge");
+    check(hookyellow_locate(CASE, end, false, BUFFERS) == 0 && leaves(none, 4, 0, 0), "locate (2,0.5): none");
     check(hookyellow_velocity(CASE, quarter, false, BUFFERS) == 0 && leaves(one, 6, 1, 1), "velocity at (0.25,0.5): (1,0,0)");
     check(hookyellow_streamline(CASE, quarter, false, still, BUFFERS) == 0 && leaves(seed, 6, 1, 1),
           "line with stagnation 1: the seed alone");
     check(hookyellow_sheet(CASE, quarter, false, half, BUFFERS) == 0 && leaves(sheet, 9, 1, 1), "the 0.5 line in millimetres");
 }
 
+/* Points of Pair at y = 0.5 among all cells. The tolerance of the polygon test is 1e-12: of two
+ * cells that take a point for one of theirs the lower one says whether it is on an edge. */
+static void check_positions(void) {
+    const struct { double x; uint64_t cell, position; } due[] = {
+        {-1e-9, NONE, 0}, {-5e-13, 0, EDGE}, {0, 0, EDGE}, {1e-9, 0, INSIDE}, {0.5, 0, INSIDE}, {1, 0, EDGE},
+        {1 + 5e-13, 0, EDGE}, {1 + 1e-9, 1, INSIDE}, {1.5, 1, INSIDE}, {2, 1, EDGE}, {2 + 1e-9, NONE, 0}};
+    fill();
+    for (size_t i = 0; i < sizeof due / sizeof *due; i++) {
+        const hookyellow_vector point = {due[i].x, 0.5, 0};
+        const uint64_t located[4] = {0, 2, due[i].cell, due[i].position};
+        char what[48];
+        snprintf(what, sizeof what, "all cells, position of (%.13f,0.5)", due[i].x);
+        check(hookyellow_locate(CASE, point, true, BUFFERS) == 0 && leaves(located, 4, 0, 0), what);
+    }
+}
+
 /* The right square, whose points locate by no bin, among all cells: a line from its centre
  * (1.5, 0.5) in steps of 0.25 ends on the far side, x = 2 */
 static void check_all_cells(void) {
-    const hookyellow_vector shared = {1, 0.5, 0}, centre = {1.5, 0.5, 0}, end = {2, 0.5, 0};
+    const hookyellow_vector centre = {1.5, 0.5, 0};
     const hookyellow_vector low = {1.5, 0.25, 0}, high = {1.5, 0.75, 0};
     const hookyellow_line_options all = {0.25, 10, 9, 0, true}, bins = {0.25, 10, 9, 0, false};
-    const uint64_t left[3] = {0, 1, 0}, right[3] = {0, 1, 1}, three[6] = {0, 4, 1, bits(3), 0, 0}, no_seed[2] = {35, 0};
+    const uint64_t three[6] = {0, 4, 1, bits(3), 0, 0}, no_seed[2] = {35, 0};
     const uint64_t line[12] = {0, 10, 3, bits(1.5), bits(0.5), 0, bits(1.75), bits(0.5), 0, bits(2), bits(0.5), 0};
     const uint64_t rake[23] = {0, 21, 2, 3, bits(1.5), bits(0.25), 0, bits(1.75), bits(0.25), 0, bits(2), bits(0.25), 0,
                                3, bits(1.5), bits(0.75), 0, bits(1.75), bits(0.75), 0, bits(2), bits(0.75), 0};
     const uint64_t sheet[9] = {0, 7, 3, 1500, 500, 1750, 500, 2000, 500};
     fill();
-    check(hookyellow_locate(CASE, shared, true, BUFFERS) == 0 && leaves(left, 3, 0, 0), "all cells, (1,0.5): 0");
-    check(hookyellow_locate(CASE, centre, true, BUFFERS) == 0 && leaves(right, 3, 0, 0), "all cells, (1.5,0.5): 1");
-    check(hookyellow_locate(CASE, end, true, BUFFERS) == 0 && leaves(right, 3, 0, 0), "all cells, (2,0.5): 1");
     check(hookyellow_velocity(CASE, centre, true, BUFFERS) == 0 && leaves(three, 6, 1, 1), "all cells, velocity: 3");
     check(hookyellow_streamline(CASE, centre, false, bins, BUFFERS) == 0 && leaves(no_seed, 2, 0, 0), "by bins: 35");
     check(hookyellow_streamline(CASE, centre, false, all, BUFFERS) == 0 && leaves(line, 12, 1, 1), "all cells, line");
@@ -182,6 +201,7 @@ int main(void) {
     build_pair();
     check_job();
     check_alone();
+    check_positions();
     check_all_cells();
     check_limits();
     build_cube();
