@@ -30,7 +30,7 @@ fn main() -> Result<(), Box<dyn std::error::Error>> {
             line.points.len(),
             last.x,
             last.y,
-            cell.map_or("none".into(), |cell| cell.to_string()),
+            cell.map_or("none".into(), |located| located.cell.to_string()),
             alone.cells_read
         );
     }

@@ -7,9 +7,10 @@ const NONE: u64 = u64::MAX;
 /// An answer. Every float is the one whose bits the answer word holds.
 #[derive(Clone, Debug, PartialEq)]
 pub enum Answer {
-    /// 1, 9: the cell that the point locates in; none where it locates nowhere, as by code 1 some
-    /// points of a cell do (docs/DIFFERENCES.md, "Bins lose the far border").
-    Locate(Option<usize>),
+    /// 1, 9: the cell that the point locates in, and whether on an edge of it or inside; none where
+    /// it locates nowhere, as by code 1 some points of a cell do (docs/DIFFERENCES.md, "Bins lose
+    /// the far border").
+    Locate(Option<Located>),
     /// 2, 10: the velocity at the point; none where it locates nowhere.
     Velocity(Option<Vector>),
     /// 3, 11: the line from the seed.
@@ -26,6 +27,34 @@ pub enum Answer {
     Probe(Option<Sample>),
     /// 13, 14: the line from the seed in whole millimetres.
     Sheet(Sheet),
+}
+
+/// Where a point locates.
+#[derive(Clone, Copy, Debug, PartialEq, Eq)]
+pub struct Located {
+    /// The lowest cell whose polygon contains the point.
+    pub cell: usize,
+    /// Where the point stands in that polygon. What it is in a higher cell does not count.
+    pub position: Position,
+}
+
+/// Where a point stands in a polygon that contains it.
+#[derive(Clone, Copy, Debug, PartialEq, Eq)]
+pub enum Position {
+    /// On a side, by the polygon test's tolerance of 1e-12; so a little outside too.
+    Edge,
+    /// Inside, and on no side.
+    Inside,
+}
+
+impl Position {
+    /// The number in an answer, 1 or 2; 0 is for a point that locates nowhere.
+    pub fn number(self) -> u64 {
+        match self {
+            Self::Edge => 1,
+            Self::Inside => 2,
+        }
+    }
 }
 
 /// A line of flow.
@@ -137,7 +166,8 @@ impl Answer {
     /// The words that the answer was read from.
     pub fn to_words(&self) -> Vec<u64> {
         match self {
-            Self::Locate(cell) => vec![cell.map_or(NONE, |cell| cell as u64)],
+            Self::Locate(None) => vec![NONE, 0],
+            Self::Locate(Some(located)) => vec![located.cell as u64, located.position.number()],
             Self::Velocity(None) => vec![0; 4],
             Self::Velocity(Some(velocity)) => [&[1], &velocity.to_bits()[..]].concat(),
             Self::Streamline(line) => line_words(line),
@@ -220,10 +250,20 @@ pub(crate) fn whole<T>(words: &[u64], read: fn(&mut Words) -> Option<T>) -> Opti
     left.0.is_empty().then_some(value)
 }
 
-pub(crate) fn locate(words: &mut Words) -> Option<Option<usize>> {
+/// A cell, or the word for none.
+fn cell(words: &mut Words) -> Option<Option<usize>> {
     match words.word()? {
         NONE => Some(None),
         cell => Some(Some(usize::try_from(cell).ok()?)),
+    }
+}
+
+pub(crate) fn locate(words: &mut Words) -> Option<Option<Located>> {
+    match (cell(words)?, words.word()?) {
+        (None, 0) => Some(None),
+        (Some(cell), 1) => Some(Some(Located { cell, position: Position::Edge })),
+        (Some(cell), 2) => Some(Some(Located { cell, position: Position::Inside })),
+        _ => None,
     }
 }
 
@@ -298,7 +338,7 @@ pub(crate) fn integrals(words: &mut Words) -> Option<Integrals> {
 }
 
 pub(crate) fn probe(words: &mut Words) -> Option<Option<Sample>> {
-    let cell = locate(words)?;
+    let cell = cell(words)?;
     let (velocity, pressure) = (words.vector()?, words.float()?);
     match cell {
         Some(cell) => Some(Some(Sample { cell, velocity, pressure })),

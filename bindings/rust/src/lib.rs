@@ -37,12 +37,13 @@
 //! ```
 //!
 //! Points are located by bins, as in FLURSYS, and some cells at the far border are listed in no
-//! bin. With `all_cells` every cell is searched: (1.5, 0.5) lies in the right square, and a line
-//! from it goes on up to the far side.
+//! bin. With `all_cells` every cell is searched: (1.5, 0.5) lies inside the right square, and a
+//! line from it goes on up to the far side. A point on a side of its cell is told apart from one
+//! inside: (1, 0.5) is on the side that both squares share; it locates in the lower one, on an edge.
 //!
 //! ```
 //! # use hookyellow::{Case, Cell, Dimension};
-//! use hookyellow::{locate, streamline, Direction, LineOptions, Vector, Workspace};
+//! use hookyellow::{locate, streamline, Direction, LineOptions, Located, Position, Vector, Workspace};
 //! # let case = Case::builder(Dimension::Two)
 //! #     .points([[0., 0., 0.], [1., 0., 0.], [2., 0., 0.], [0., 1., 0.], [1., 1., 0.], [2., 1., 0.]])
 //! #     .cells([Cell::Polygon(vec![0, 1, 4, 3]), Cell::Polygon(vec![1, 2, 5, 4])])
@@ -52,7 +53,10 @@
 //!
 //! let (point, workspace) = (Vector::new(1.5, 0.5, 0.), &mut Workspace::new());
 //! assert_eq!(locate(&case, point, false, workspace)?.answer, Ok(None));
-//! assert_eq!(locate(&case, point, true, workspace)?.answer, Ok(Some(1)));
+//! let right = locate(&case, point, true, workspace)?.answer;
+//! assert_eq!(right, Ok(Some(Located { cell: 1, position: Position::Inside })));
+//! let shared = locate(&case, Vector::new(1., 0.5, 0.), true, workspace)?.answer;
+//! assert_eq!(shared, Ok(Some(Located { cell: 0, position: Position::Edge })));
 //!
 //! let options = LineOptions { step_size: 0.25, max_steps: 10, max_length: 9., stagnation_speed: 0., all_cells: true };
 //! let line = streamline(&case, point, Direction::Forward, options, workspace)?.answer?;
@@ -61,9 +65,9 @@
 //! ```
 //!
 //! The formats are those of docs/FORMAT.md; docs/01-scope.md says what each answer is, and
-//! docs/02-change-requests.md what a sheet is and what `all_cells` asks for. The work is done by
-//! the proved code in the static library that `rt staticlib capi` writes; [`raw`] has its functions
-//! as they are.
+//! docs/02-change-requests.md what a sheet is, what `all_cells` asks for and when a point is on an
+//! edge. The work is done by the proved code in the static library that `rt staticlib capi` writes;
+//! [`raw`] has its functions as they are.
 #![warn(missing_docs)]
 
 #[macro_use]
@@ -77,7 +81,7 @@ mod request;
 mod run;
 mod workspace;
 
-pub use answer::{Answer, FluxWeighted, Integrals, Sample, SectionPolygon, Sheet, Statistics, Streamline};
+pub use answer::{Answer, FluxWeighted, Integrals, Located, Position, Sample, SectionPolygon, Sheet, Statistics, Streamline};
 pub use case::{BuildError, Case, CaseBuilder, Cell, Dimension};
 pub use geometry::{SectionPlane, Vector};
 pub use refusal::{Refusal, RequestRefusal};

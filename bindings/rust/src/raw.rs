@@ -22,7 +22,8 @@ extern "C" {
         answers: *mut u64,
         answers_length: usize,
     ) -> u64;
-    /// A job of one request, code 1, with `all_cells` 9: the cell that a point locates in.
+    /// A job of one request, code 1, with `all_cells` 9: the cell that a point locates in, and its
+    /// position there.
     pub fn hookyellow_locate(
         case: *const u8,
         case_length: usize,

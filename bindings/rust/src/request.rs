@@ -70,7 +70,8 @@ pub struct LineOptions {
 /// lose the far border").
 #[derive(Clone, Copy, Debug, PartialEq)]
 pub enum Request {
-    /// 1 or, among all cells, 9: the cell that a point locates in.
+    /// 1 or, among all cells, 9: the cell that a point locates in, and whether on an edge of it or
+    /// inside.
     Locate {
         /// The point.
         point: Vector,

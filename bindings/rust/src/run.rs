@@ -1,7 +1,7 @@
 //! A job, and each request alone.
 use crate::answer::{self, whole, Words};
 use crate::{
-    Answer, Case, Direction, Field, Integrals, LineOptions, Refusal, Request, RequestRefusal, Sample, SectionPlane,
+    Answer, Case, Direction, Field, Integrals, LineOptions, Located, Refusal, Request, RequestRefusal, Sample, SectionPlane,
     SectionPolygon, Sheet, Statistics, Streamline, Vector, Workspace,
 };
 
@@ -61,9 +61,14 @@ fn single<T>(
     Ok(Single { answer, cells_read })
 }
 
-/// The cell that a point locates in, or none where it locates nowhere; `all_cells` is that of
-/// [`Request::Locate`].
-pub fn locate(case: &Case, point: Vector, all_cells: bool, workspace: &mut Workspace) -> Result<Single<Option<usize>>, Refusal> {
+/// The cell that a point locates in, and whether on an edge of it or inside; or none where it
+/// locates nowhere. `all_cells` is that of [`Request::Locate`].
+pub fn locate(
+    case: &Case,
+    point: Vector,
+    all_cells: bool,
+    workspace: &mut Workspace,
+) -> Result<Single<Option<Located>>, Refusal> {
     single(case, workspace, answer::locate, |buffers| call!(hookyellow_locate, case, buffers, point, all_cells))
 }
 

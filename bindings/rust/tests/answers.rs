@@ -1,7 +1,7 @@
 //! Answers read from any words.
 mod common;
 use common::{Random, CODES};
-use hookyellow::{Answer, Statistics};
+use hookyellow::{Answer, Located, Position, Statistics};
 
 /// Words that look like counts, flags, cells or floats, or like nothing.
 fn word(random: &mut Random) -> u64 {
@@ -53,7 +53,7 @@ fn counts_beyond_the_words_are_not_of_the_format() {
 #[test]
 fn words_left_over_or_flags_other_than_0_and_1_are_not_of_the_format() {
     for (locate, velocity, sheet) in [(1, 2, 13), (9, 10, 14)] {
-        assert_eq!(Answer::from_words(locate, &[0, 0]), None);
+        assert_eq!(Answer::from_words(locate, &[0, 1, 0]), None);
         assert_eq!(Answer::from_words(sheet, &[1, 0, 0, 0]), None);
         assert_eq!(Answer::from_words(velocity, &[2, 0, 0, 0]), None);
         assert_eq!(Answer::from_words(velocity, &[0, 0, 0, 1]), None);
@@ -62,6 +62,24 @@ fn words_left_over_or_flags_other_than_0_and_1_are_not_of_the_format() {
     for (flags, good) in [([0, 0, 0], true), ([0, 1, 0], false), ([0, 0, 1], false), ([1, 0, 0], true), ([2, 0, 0], false)] {
         let words = [&[0; 10][..], &flags].concat();
         assert_eq!(Answer::from_words(6, &words).is_some(), good, "{flags:?}");
+    }
+}
+
+/// 0 for none, 1 for an edge, 2 for inside: a cell without a position, a position without a cell,
+/// and any other number are no answers.
+#[test]
+fn positions_are_those_of_the_table() {
+    let none = u64::MAX;
+    let at = |cell, position| Some(Answer::Locate(Some(Located { cell, position })));
+    for code in [1, 9] {
+        assert_eq!(Answer::from_words(code, &[none, 0]), Some(Answer::Locate(None)));
+        assert_eq!(Answer::from_words(code, &[7, 1]), at(7, Position::Edge));
+        assert_eq!(Answer::from_words(code, &[7, 2]), at(7, Position::Inside));
+        for words in [[7, 0], [7, 3], [7, none], [none, 1], [none, 2], [none, none]] {
+            assert_eq!(Answer::from_words(code, &words), None, "{words:?}");
+        }
+        assert_eq!(Answer::from_words(code, &[none]), None);
+        assert_eq!(Answer::from_words(code, &[7]), None);
     }
 }
 

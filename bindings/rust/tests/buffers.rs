@@ -54,6 +54,17 @@ fn just_enough_is_accepted() {
     assert_eq!(workspace.marks(), [1, 1]);
 }
 
+/// A cell has 2 words: itself and its position.
+#[test]
+fn a_located_point_has_two_words() {
+    let request = Request::Locate { point: at(1.0, 0.5, 0.0), all_cells: true }.to_bytes();
+    for (length, due) in [(4, vec![0, 2, 0, 1]), (3, vec![44, 0, 0])] {
+        let mut workspace = filled(NEEDS.words, NEEDS.floats, NEEDS.marks, length);
+        assert_eq!(workspace.run(&pair(), &request), Ok(()));
+        assert_eq!(workspace.answers(), due);
+    }
+}
+
 /// From x = 0.125 to 1 in steps of 2^-13: 7,168 steps, and 2 + 1 + 3 * 7,169 words.
 fn long_line() -> (Vector, LineOptions) {
     let options = LineOptions { step_size: 1.0 / 8192.0, max_steps: 65_536, ..quarters(2.0) };
@@ -121,6 +132,7 @@ fn a_workspace_serves_any_case() {
 fn more_than_4096_requests_are_refused() {
     let request = Request::Locate { point: at(0.5, 0.5, 0.0), all_cells: true };
     let outcome = job(&pair(), &[request; 4_096], &mut Workspace::new()).unwrap();
-    assert_eq!(outcome.answers, vec![Ok(Answer::Locate(Some(0))); 4_096]);
+    let located = Located { cell: 0, position: Position::Inside };
+    assert_eq!(outcome.answers, vec![Ok(Answer::Locate(Some(located))); 4_096]);
     assert_eq!(job(&pair(), &[request; 4_097], &mut Workspace::new()), Err(Refusal::Requests));
 }

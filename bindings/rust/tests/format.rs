@@ -75,6 +75,18 @@ fn the_job_gives_the_listing() {
     assert!(workspace.answers()[whole.len()..].iter().all(|&word| word == 0));
 }
 
+/// The first request among all cells, word by word.
+#[test]
+fn the_job_gives_the_listed_cell_among_all_cells() {
+    let request = Request::Locate { point: at(1.5, 0.5, 0.0), all_cells: true };
+    let mut workspace = Workspace::new();
+    job(&pair(), &[request], &mut workspace).unwrap();
+    let line = block("### Among all cells").split_whitespace();
+    let words: Vec<u64> = line.map(|word| u64::from_str_radix(word, 16).unwrap()).collect();
+    assert_eq!(words[1], words.len() as u64 - 2);
+    assert_eq!(workspace.answers()[..words.len() + 1], [&words[..], &[0]].concat());
+}
+
 /// The sheet of the line, word by word.
 #[test]
 fn the_job_gives_the_listed_sheet() {

@@ -14,29 +14,47 @@ fn alone<T>(single: Single<T>, answer: fn(T) -> Answer) -> (Result<Answer, Reque
     (single.answer.map(answer), single.cells_read)
 }
 
-/// Points of Pair at y = 0.5 and the cells that they locate in. No value is read.
-fn locate_is(all_cells: bool, cells: &[(f64, Option<usize>)]) {
+/// On a side of a cell, and inside it.
+fn edge(cell: usize) -> Option<Located> {
+    Some(Located { cell, position: Position::Edge })
+}
+
+fn inside(cell: usize) -> Option<Located> {
+    Some(Located { cell, position: Position::Inside })
+}
+
+/// Points of Pair at y = 0.5 and where they locate. No value is read.
+fn locate_is(all_cells: bool, due: &[(f64, Option<Located>)]) {
     let (case, workspace) = (pair(), &mut Workspace::new());
-    for &(x, cell) in cells {
+    for &(x, located) in due {
         let point = at(x, 0.5, 0.0);
-        let expected = (Ok(Answer::Locate(cell)), vec![]);
+        let expected = (Ok(Answer::Locate(located)), vec![]);
         assert_eq!(ask(&case, Request::Locate { point, all_cells }), expected, "{x}");
         assert_eq!(alone(locate(&case, point, all_cells, workspace).unwrap(), Answer::Locate), expected, "{x}");
     }
 }
 
-/// 01's starred points of Pair.
+/// 01's starred points of Pair: x = 1 is the left square's right side.
 #[test]
 fn locate_in_pair() {
-    locate_is(false, &[(0.5, Some(0)), (1.0, Some(0)), (1.5, None), (2.0, None)]);
+    locate_is(false, &[(0.5, inside(0)), (1.0, edge(0)), (1.5, None), (2.0, None)]);
 }
 
 /// The lowest cell whose polygon contains the point, the tolerance of 1e-12 included: the right
 /// square is cell 1, and its left side is cell 0's too.
 #[test]
 fn locate_in_pair_among_all_cells() {
-    locate_is(true, &[(0.5, Some(0)), (1.0, Some(0)), (1.5, Some(1)), (2.0, Some(1)), (2.0 + 5e-13, Some(1))]);
+    locate_is(true, &[(0.5, inside(0)), (1.0, edge(0)), (1.5, inside(1)), (2.0, edge(1)), (2.0 + 5e-13, edge(1))]);
     locate_is(true, &[(2.0 + 1e-9, None), (-1e-9, None), (f64::NAN, None), (f64::INFINITY, None), (-f64::INFINITY, None)]);
+}
+
+/// Within the tolerance of the left square's side a point is on its edge, on both sides of it: one
+/// that lies in the right square too. Further away it is inside the square that it lies in.
+#[test]
+fn the_lowest_cell_says_whether_a_point_is_on_an_edge() {
+    locate_is(true, &[(1.0 - 1e-9, inside(0)), (1.0 - 5e-13, edge(0)), (1.0 + 5e-13, edge(0)), (1.0 + 1e-9, inside(1))]);
+    locate_is(true, &[(-5e-13, edge(0)), (0.0, edge(0)), (5e-13, edge(0)), (1e-9, inside(0))]);
+    locate_is(true, &[(2.0 - 1e-9, inside(1)), (2.0 - 5e-13, edge(1))]);
 }
 
 /// In one square of uniform flow the velocity is that of the square; outside there is none and nothing is read.
@@ -320,6 +338,6 @@ fn requests_are_served_in_order() {
     ];
     let outcome = job(&pair(), &requests, &mut Workspace::new()).unwrap();
     let velocity = Answer::Velocity(Some(X));
-    assert_eq!(outcome.answers, [Ok(velocity), Err(RequestRefusal::Dimension), Ok(Answer::Locate(Some(0)))]);
+    assert_eq!(outcome.answers, [Ok(velocity), Err(RequestRefusal::Dimension), Ok(Answer::Locate(inside(0)))]);
     assert_eq!(outcome.cells_read(), [0, 1]);
 }
