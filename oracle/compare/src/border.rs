@@ -139,7 +139,7 @@ pub fn border_mesh(r: &mut Rng) -> (Mesh, String) {
 
 /// Another size, turn and place. Where sides are short, the tolerance of the polygon test reaches
 /// far into the cells on both sides of a slanted one.
-fn place(m: &mut Mesh, r: &mut Rng) {
+pub fn place(m: &mut Mesh, r: &mut Rng) {
     let scale = if r.one_in(6) { r.pick(&[1e-5, 1e-4, 1e3]) } else { 1.0 };
     let (s, c) = match r.below(6) {
         0 => r.range(0.0, 7.0).sin_cos(),
@@ -257,13 +257,13 @@ impl Room<'_> {
 }
 
 /// The same question by the bins and among all cells.
-fn both(list: &mut Vec<Vec<u64>>, q: Vec<u64>) {
+pub fn both(list: &mut Vec<Vec<u64>>, q: Vec<u64>) {
     let other = [&[among_all(q[0])], &q[1..]].concat();
     list.extend([q, other]);
 }
 
 /// One word of a request that is refused for it, most often.
-fn spoil(q: &mut Vec<u64>, r: &mut Rng) {
+pub fn spoil(q: &mut Vec<u64>, r: &mut Rng) {
     let used = used_words(q[0]).expect("a known code");
     q.resize(16, 0);
     match r.below(5) {

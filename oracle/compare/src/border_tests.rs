@@ -5,7 +5,7 @@ use crate::pairs::Pair;
 use crate::tests::first_difference;
 use hookyellow::raw::hookyellow_job;
 use hookyellow::{job, Answer, Case, Cell, Dimension, Direction, LineOptions, Request};
-use hookyellow::{Sheet, Streamline, Vector, Workspace};
+use hookyellow::{Located as Found, Position, Sheet, Streamline, Vector, Workspace};
 use reference::refair::ref02::standing;
 use reference::refair::{read_case, with_room, Lens, Order, Stats, Twin};
 use std::slice::{from_raw_parts, from_raw_parts_mut};
@@ -21,17 +21,18 @@ fn pair() -> Case {
         .unwrap()
 }
 
-fn asked(request: Request) -> Answer {
+pub fn asked(request: Request) -> Answer {
     job(&pair(), &[request], &mut Workspace::new()).unwrap().answers[0].clone().unwrap()
 }
 
 /// By the bins 01's starred table, among all cells the lowest cell whose polygon contains the
-/// point.
+/// point; x = 1 is a side of both squares, x = 2 the right one's far side.
 #[test]
 fn pair_is_located_as_01_and_02_say() {
-    let (left, right) = (Some(0), Some(1));
-    let due = [(0.5, left, left), (1.0, left, left), (1.5, None, right), (2.0, None, right), (2.5, None, None)];
-    for (x, bin, all) in due {
+    let inside = |cell| Some(Found { cell, position: Position::Inside });
+    let edge = |cell| Some(Found { cell, position: Position::Edge });
+    let found = [(0.5, inside(0), inside(0)), (1.0, edge(0), edge(0)), (1.5, None, inside(1)), (2.0, None, edge(1))];
+    for (x, bin, all) in found.into_iter().chain([(2.5, None, None)]) {
         let point = Vector::new(x, 0.5, 0.0);
         assert_eq!(asked(Request::Locate { point, all_cells: false }), Answer::Locate(bin), "{x}");
         assert_eq!(asked(Request::Locate { point, all_cells: true }), Answer::Locate(all), "{x}");
@@ -154,7 +155,7 @@ impl Rule for LastBin {
     }
 }
 
-/// The job with another rule for code 9.
+/// The job with another rule for the cell of code 9; the position stays.
 unsafe extern "C" fn ruled<R: Rule>(
     a: *const u8, an: usize, b: *const u8, bn: usize, c: *mut u32, cn: usize,
     d: *mut f64, dn: usize, e: *mut u8, en: usize, g: *mut u64, gn: usize,
@@ -169,7 +170,7 @@ unsafe extern "C" fn ruled<R: Rule>(
     let twin = with_room(&case, Order::Rust, &mut Stats::default(), |room, _| room.twin.clone()).ok().flatten();
     let mut at = 0;
     for request in requests.chunks_exact(128) {
-        if let (true, 1, Some(twin)) = (asks(request), answers[at + 1], &twin) {
+        if let (true, 2, Some(twin)) = (asks(request), answers[at + 1], &twin) {
             let float = |k: usize| f64::from_le_bytes(request[8 * k..8 * k + 8].try_into().unwrap());
             let p = (float(1), float(2));
             let cell = if p.0.is_finite() && p.1.is_finite() { R::locate(twin, p) } else { None };
@@ -203,12 +204,17 @@ fn the_right_rule_is_not_seen() {
     first_difference(ruled::<Lowest>);
 }
 
-/// Two requests at a point, by its bin and among all cells, and their answers.
-fn law(cells: [u64; 2]) -> Result<Located, String> {
+/// Two requests at a point, by its bin and among all cells.
+pub fn twice() -> Pair {
     let words = |code: u64| [code, 1.5f64.to_bits(), 0.5f64.to_bits()].into_iter().chain([0; 13]);
     let requests = words(1).chain(words(9)).flat_map(u64::to_le_bytes).collect();
-    let pair = Pair { case: Vec::new(), requests, lens: Lens::default(), sort: String::new() };
-    Located::of(&pair, &[0, 1, cells[0], 0, 1, cells[1]])
+    Pair { case: pair().into_bytes(), requests, lens: Lens::default(), sort: String::new() }
+}
+
+/// The law on their answers, inside wherever there is a cell.
+fn law(cells: [u64; 2]) -> Result<Located, String> {
+    let [bin, all] = cells.map(|cell| [0, 2, cell, if cell == u64::MAX { 0 } else { 2 }]);
+    Located::of(&twice(), &[bin, all].concat())
 }
 
 #[test]

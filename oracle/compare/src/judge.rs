@@ -1,9 +1,11 @@
 //! Compares what the library gave with what the reference gave: the result, every word of the
 //! answer buffer by its bits and every byte of the marks buffer. Each NaN of the Rust counts as
-//! 7ff8000000000000; the sign of a zero minimum or maximum of code 6 is not compared. Wherever a
-//! point locates by its bin it must locate among all cells, in that cell or a lower one.
+//! 7ff8000000000000; the sign of a zero minimum or maximum of code 6 is not compared. The laws of
+//! located.rs must hold of codes 1 and 9, and where the angles leave no choice their cells must be
+//! FLURSYS's own (locators.rs).
 use crate::buffers::Area;
-use crate::located::Located;
+use crate::located::{Located, Positions};
+use crate::locators::held;
 use crate::names::{name_of, value_of};
 use crate::pairs::Pair;
 use reference::job;
@@ -20,6 +22,10 @@ pub struct Counts {
     pub signs: u64,
     /// points that were asked for by both locators
     pub located: Located,
+    /// what the points of codes 1 and 9 are
+    pub positions: Positions,
+    /// cells that are FLURSYS's own
+    pub cells: u64,
 }
 
 pub enum Verdict {
@@ -66,7 +72,7 @@ pub fn judge(p: &Pair, seed: u64, area: &mut Area) -> Outcome {
 
 /// The verdict, and what the library is held to.
 fn compare(p: &Pair, want: JobOut, near: bool, got: u64, area: &Area, counts: &mut Counts) -> (Verdict, JobOut) {
-    let Err(why) = equal(p, &want, got, area, counts) else {
+    let Err(why) = equal(p, &want, got, area, counts).and_then(|()| equal_cells(p, got, area, counts)) else {
         return (if near { Verdict::Near(true) } else { Verdict::Same }, want);
     };
     let by_01 = job(&p.case, &p.requests, p.lens, Order::Doc01, &mut Stats::default());
@@ -87,11 +93,20 @@ pub fn equal(p: &Pair, want: &JobOut, got: u64, area: &Area, counts: &mut Counts
             equal_answers(p, answers, area.answers(), counts)?;
             equal_marks(marks, area)?;
             counts.located.add(&Located::of(p, area.answers())?);
+            counts.positions.add(&Positions::of(p, area.answers())?);
             counts.words += area.answers().len() as u64;
             counts.marks += marks.len() as u64;
             Ok(())
         }
     }
+}
+
+/// The cells of codes 1 and 9 are FLURSYS's.
+fn equal_cells(p: &Pair, got: u64, area: &Area, counts: &mut Counts) -> Result<(), String> {
+    if got == 0 {
+        counts.cells += held(p, area.answers())?;
+    }
+    Ok(())
 }
 
 /// A refused job leaves answers and marks as they were.

@@ -4,15 +4,17 @@
 //!     rt staticlib capi && (cd oracle && cargo run --offline --release -p compare -- FIRST COUNT)
 //!
 //! runs the pairs of the seeds from FIRST on, COUNT of them (REFERENCE names the folder of the
-//! reference job, see reference/build.rs). --lines, --planes, --sheets and --border make rooms that
-//! are nearly all accepted; --all adds damaged files, lengths beside every limit and the pairs of
-//! the reference's own generators. Without them a quarter are lines, a quarter planes, an eighth
-//! sheets, an eighth border and the rest all, and one in 300 has the greatest counts. --dir DIR
-//! says where pairs that differ are written (target/compare.differ), each in a folder of its seed:
-//! made smaller, and whole/ as it was. --write writes every pair and runs neither side.
+//! reference job, see reference/build.rs). --lines, --planes, --sheets, --border and --edges make
+//! rooms that are nearly all accepted; --all adds damaged files, lengths beside every limit and the
+//! pairs of the reference's own generators. Without them a quarter are lines, a quarter planes, an
+//! eighth sheets, an eighth border, a sixteenth edges and the rest all, and one in 300 has the
+//! greatest counts. --dir DIR says where pairs that differ are written (target/compare.differ),
+//! each in a folder of its seed: made smaller, and whole/ as it was. --write writes every pair and
+//! runs neither side.
 //!
 //! Where a point is asked for by its bin and then among all cells (codes 1 and 9), the second cell
-//! must be the first or a lower one; how often each comes is printed.
+//! must be the first or a lower one; how often each comes is printed, and how many points are on an
+//! edge, inside and nowhere. Their cells are also held to FLURSYS's own locator.
 //!
 //! A pair in which the reference sees angles closer than 2^-40 counts as near; where the library is not as the Rust there,
 //! it is held to the reference under 01's angle order. The last line is 'N same, M differ, K near'; the exit status is 0
@@ -20,11 +22,13 @@
 mod border;
 mod buffers;
 mod damage;
+mod edges;
 mod fields;
 mod judge;
 mod limits;
 mod lines;
 mod located;
+mod locators;
 mod meshes;
 mod names;
 mod pairs;
@@ -37,6 +41,8 @@ mod tally;
 #[cfg(test)]
 mod border_tests;
 #[cfg(test)]
+mod edge_tests;
+#[cfg(test)]
 mod sheet_tests;
 #[cfg(test)]
 mod tests;
@@ -44,6 +50,7 @@ mod vectors;
 
 use buffers::Area;
 use judge::{judge, Counts, Outcome, Verdict};
+use located::Positions;
 use pairs::{made, Mode};
 use report::{put_pair, watch, Report, SEED};
 use std::path::PathBuf;
@@ -52,7 +59,8 @@ use std::sync::atomic::Ordering::Relaxed;
 use std::time::{Duration, Instant};
 use tally::Tally;
 
-const USAGE: &str = "usage: compare FIRST COUNT [--lines|--planes|--sheets|--border|--all] [--dir DIR] [--write]";
+const USAGE: &str =
+    "usage: compare FIRST COUNT [--lines|--planes|--sheets|--border|--edges|--all] [--dir DIR] [--write]";
 /// So many pairs that differ are written and made smaller; later ones are named only.
 const WRITTEN: u32 = 20;
 const PROGRESS: Duration = Duration::from_secs(5);
@@ -77,6 +85,7 @@ impl Options {
                 "--planes" => o.mode = Mode::Planes,
                 "--sheets" => o.mode = Mode::Sheets,
                 "--border" => o.mode = Mode::Border,
+                "--edges" => o.mode = Mode::Edges,
                 "--all" => o.mode = Mode::All,
                 "--write" => o.write = true,
                 "--dir" => o.dir = args.next()?.into(),
@@ -128,6 +137,8 @@ impl Run {
         self.counts.marks += o.counts.marks;
         self.counts.signs += o.counts.signs;
         self.counts.located.add(&o.counts.located);
+        self.counts.positions.add(&o.counts.positions);
+        self.counts.cells += o.counts.cells;
         self.ours += o.ours;
         self.theirs += o.theirs;
         self.slowest = self.slowest.max((o.ours, o.theirs, seed));
@@ -163,6 +174,9 @@ impl Run {
             self.counts.words, self.counts.marks, self.counts.signs
         );
         println!("{}", self.counts.located.line());
+        let Positions { none, edge, inside } = self.counts.positions;
+        println!("positions of codes 1 and 9: {none} none, {edge} edge, {inside} inside");
+        println!("{} of these answers have the cell of FLURSYS's own locator", self.counts.cells);
         println!("near pairs: {} as the Rust, {} by 01's angle order alone", self.near - self.near_by_01, self.near_by_01);
         let per = |t: Duration| t.as_secs_f64() * 1e6 / o.count.max(1) as f64;
         println!(

@@ -4,7 +4,7 @@ use reference::by_bins;
 pub fn name_of(code: u64, words: &[u64], at: usize) -> String {
     let one_of = |names: &[&str]| names.get(at).map_or("?".into(), |s| s.to_string());
     match by_bins(code) {
-        1 => "cell".into(),
+        1 => one_of(&["cell", "position"]),
         2 => one_of(&["found", "x", "y", "z"]),
         3 => line_word(words, 0, at),
         13 if at == 0 => "point count".into(),

@@ -1,6 +1,7 @@
 //! The pairs (case, requests): a seed and a mode decide one, with the lengths of the lent buffers.
 use crate::border::{border_fields, border_mesh};
 use crate::damage::{answer_edge, answer_edge_of, damage, length_edge, shorten};
+use crate::edges::{edge_mesh, Edges};
 use crate::fields::fields;
 use crate::limits::{large, small_words};
 use crate::lines::Request;
@@ -39,6 +40,7 @@ pub enum Mode {
     Planes,
     Sheets,
     Border,
+    Edges,
     All,
     Mixed,
 }
@@ -46,7 +48,7 @@ pub enum Mode {
 impl Mode {
     /// The option that asks for it.
     pub fn name(self) -> &'static str {
-        [" --lines", " --planes", " --sheets", " --border", " --all", ""][self as usize]
+        [" --lines", " --planes", " --sheets", " --border", " --edges", " --all", ""][self as usize]
     }
 }
 
@@ -64,13 +66,15 @@ pub fn made(seed: u64, mode: Mode) -> Pair {
         Mode::Planes => planes_pair(r),
         Mode::Sheets => sheets_pair(r),
         Mode::Border => border_pair(r),
+        Mode::Edges => edges_pair(r),
         Mode::All => any_pair(seed, r),
         Mode::Mixed if r.one_in(300) => large(r),
-        Mode::Mixed => match r.below(8) {
-            0 | 1 => lines_pair(r),
-            2 | 3 => planes_pair(r),
-            4 => sheets_pair(r),
-            5 => border_pair(r),
+        Mode::Mixed => match r.below(16) {
+            0..=3 => lines_pair(r),
+            4..=7 => planes_pair(r),
+            8 | 9 => sheets_pair(r),
+            10 | 11 => border_pair(r),
+            12 => edges_pair(r),
             _ => any_pair(seed, r),
         },
     }
@@ -214,6 +218,19 @@ fn border_pair(r: &mut Rng) -> Pair {
     let mut pair = finished(&m, &vel, &pre, &requests, sort);
     if r.one_in(8) {
         answer_edge_of(&mut pair, |code| code > 8, r);
+    }
+    pair
+}
+
+fn edges_pair(r: &mut Rng) -> Pair {
+    let (mut m, sort) = edge_mesh(r);
+    renumber(&mut m, r);
+    let (vel, pre) = border_fields(&m, r);
+    let room = Room::of(&m, &vel);
+    let Some(edges) = Edges::of(&room) else { return finished(&m, &vel, &pre, &room.border_requests(r), sort) };
+    let mut pair = finished(&m, &vel, &pre, &edges.requests(r), sort);
+    if r.one_in(8) {
+        answer_edge_of(&mut pair, |code| by_bins(code) == 1, r);
     }
     pair
 }

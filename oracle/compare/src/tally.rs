@@ -1,5 +1,6 @@
 //! What came of the pairs: how often each code and each refusal came, over which fields and arguments.
 use crate::border::{INDEXES, INDEXES_MADE, PLACES, PLACES_MADE};
+use crate::edges::{EDGES, EDGES_MADE};
 use crate::lines::{POINTS, POINTS_MADE};
 use crate::pairs::Pair;
 use crate::planes::{PLANES, PLANES_MADE};
@@ -14,6 +15,8 @@ const NAN: u64 = 0x7ff8_0000_0000_0000;
 /// The refusals of a job; 18 has no case (docs/DIFFERENCES.md).
 const JOB_REFUSALS: std::ops::RangeInclusive<u32> = 1..=19;
 const REFUSALS: std::ops::RangeInclusive<u32> = 30..=44;
+/// By the second word of codes 1 and 9.
+const POSITIONS: [&str; 3] = ["nowhere", "edge", "inside"];
 const FIELDS: [&str; 6] = ["NaN", "infinite", "subnormal", "huge", "read it", "argument"];
 
 #[derive(Default)]
@@ -44,8 +47,7 @@ fn fields_of(case: &Case, cell: usize) -> [f64; 4] {
 
 fn kind_of(code: u64, w: &[u64]) -> &'static str {
     match by_bins(code) {
-        1 if w[0] == u64::MAX => "nowhere",
-        1 => "located",
+        1 => POSITIONS[w[1] as usize],
         2 if w[0] == 0 => "nowhere",
         2 => "located",
         3 | 13 => match w[0] {
@@ -142,7 +144,7 @@ impl Tally {
         let limits: Vec<String> = self.limits.iter().map(|((s, k), n)| format!("{s}: {n} gave {k}")).collect();
         format!(
             "cases: {}\nlimits: {}\npoints made here: {}\nplanes made here: {}\nseeds of sheets made here: {}\n\
-             points by the border made here: {}\nrooms by the border: {}\n\
+             points by the border made here: {}\nrooms by the border: {}\npoints by edges made here: {}\n\
              {} served jobs with a request among all cells\n{} served jobs with a sheet; {}\nanswers: {}; {} words are NaN\n",
             self.sorts.iter().map(|(s, n)| format!("{s} {n}")).collect::<Vec<_>>().join(", "),
             limits.join(", "),
@@ -151,6 +153,7 @@ impl Tally {
             pairs(&SEEDS, &SEEDS_MADE),
             pairs(&PLACES, &PLACES_MADE),
             pairs(&INDEXES, &INDEXES_MADE),
+            pairs(&EDGES, &EDGES_MADE),
             self.among_all,
             self.with_sheet,
             self.sheets.iter().map(|(s, n)| format!("{s} {n}")).collect::<Vec<_>>().join(", "),
@@ -206,6 +209,12 @@ impl Tally {
         let jobs = JOB_REFUSALS.filter(|k| !self.jobs.contains_key(k)).map(|k| k.to_string()).collect();
         let codes = codes().into_iter().filter(|&c| self.of(c, 0) == 0).map(|c| c.to_string()).collect();
         let requests = REFUSALS.filter(|&k| self.refused(k) == 0).map(|k| k.to_string()).collect();
-        format!("never came: refusals of jobs {}, answered codes {}, refusals of requests {}\n", list(jobs), list(codes), list(requests))
+        let positions = [1, 9].into_iter().flat_map(|code| POSITIONS.map(|s| (code, s)));
+        let positions = positions.filter(|key| !self.kinds.contains_key(key));
+        let positions = positions.map(|(code, s)| format!("{code} {s}")).collect();
+        format!(
+            "never came: refusals of jobs {}, answered codes {}, refusals of requests {}, positions {}\n",
+            list(jobs), list(codes), list(requests), list(positions)
+        )
     }
 }

@@ -144,11 +144,16 @@ fn differs(p: &Pair, seed: u64, area: &mut Area) -> bool {
     matches!(judge(p, seed, area).verdict, Verdict::Differ(_))
 }
 
-/// The first pair in which a library differs.
+/// The first pair of all kinds in which a library differs.
 pub fn first_difference(library: Library) -> (u64, Pair, String) {
+    first_difference_in(Mode::Mixed, library)
+}
+
+/// The first pair of a mode in which a library differs.
+pub fn first_difference_in(mode: Mode, library: Library) -> (u64, Pair, String) {
     let mut area = Area::of(library);
     for seed in 1..5_000 {
-        let pair = made(seed, Mode::Mixed);
+        let pair = made(seed, mode);
         if let Verdict::Differ(why) = judge(&pair, seed, &mut area).verdict {
             assert!(!differs(&pair, seed, &mut Area::of(hookyellow_job)), "seed {seed} differs without the fault");
             return (seed, pair, why);
