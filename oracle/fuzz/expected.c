@@ -99,12 +99,14 @@ static int sheet(const uint64_t *w, uint64_t n) {
 }
 
 static int shaped(const survey *s, uint64_t code, const uint64_t *w, uint64_t n) {
-    static const uint8_t length[] = {0, 1, 4, 0, 0, 0, 13, 4, 5};
+    static const uint8_t length[] = {0, 2, 4, 0, 0, 0, 13, 4, 5};
     code = by_bins(code);
     if (code == 13) return n > 0 && s->dimension == 2 && sheet(w, n);
     if (code < 1 || code > 8 || n == 0 || (code <= 4) != (s->dimension == 2)) return 0;
     if (length[code] && n != length[code]) return 0;
-    if (code == 1 || code == 8) return w[0] < s->cells || w[0] == UINT64_MAX;
+    if (code == 1 && w[0] == UINT64_MAX) return w[1] == 0;
+    if (code == 1) return w[0] < s->cells && (w[1] == 1 || w[1] == 2);
+    if (code == 8) return w[0] < s->cells || w[0] == UINT64_MAX;
     if (code == 2) return w[0] <= 1;
     if (code == 3) return w[0] >= 1 && w[0] <= MOST_STEPS + 1 && n == 1 + 3 * w[0];
     if (code == 4) return w[0] >= 2 && w[0] <= 64 && runs(s, code, w, n);

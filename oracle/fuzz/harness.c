@@ -186,14 +186,16 @@ static void one_request(uint64_t code, uint64_t *w) {
     memcpy(w, request_bytes, REQUEST);
 }
 
-/* The answer of code 1 is at hand: among all cells its point locates in that cell or a lower one. */
+/* The answer of code 1 is at hand: among all cells its point locates in that cell, at the same
+ * position, or in a lower one. */
 static void try_all_cells(const uint8_t *header, lengths n, uint32_t seed) {
-    uint64_t bin = ((uint64_t *)answer_area.start)[2], code = 9;
+    uint64_t bin = ((uint64_t *)answer_area.start)[2], position = ((uint64_t *)answer_area.start)[3], code = 9;
     memcpy(request_bytes, &code, 8);
     lay_all(header, n, seed);
     if (run_job(n)) violated("a point is refused among all cells");
     uint64_t all = ((uint64_t *)answer_area.start)[2];
     if (all > bin) violated("a point locates by its bin, and not among all cells in that cell or a lower one");
+    if (all == bin && ((uint64_t *)answer_area.start)[3] != position) violated("another position among all cells");
 }
 
 /* A single request, then the job of that request over other garbage: result, marks and answers are alike. */
@@ -214,7 +216,7 @@ static void try_single(const uint8_t *header, const survey *s, lengths n, uint32
     if (result) return;
     if (memcmp(marks, mark_area.start, s->cells)) violated("a request alone has other marks than its job");
     if (memcmp(answers, answer_area.start, 8 * n.answers)) violated("a request alone has other answers than its job");
-    if (w[0] == 1 && n.answers >= 3) try_all_cells(header, n, seed + 11);
+    if (w[0] == 1 && n.answers >= 4) try_all_cells(header, n, seed + 11);
 }
 
 static void try_needs(const uint8_t *header, const survey *s, lengths n, uint32_t seed) {

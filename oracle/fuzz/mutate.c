@@ -1,4 +1,5 @@
-/* Changes of an input that keep its layout: half of them go to one header byte, one word of the definitions, one float or one request. */
+/* Changes of an input that keep its layout: half of them go to one header byte, one word of the
+ * definitions, one float, one request or the point of one. */
 #include "area.h"
 
 size_t LLVMFuzzerMutate(uint8_t *data, size_t size, size_t most);
@@ -48,17 +49,32 @@ static void change_request(uint8_t *run, size_t count) {
     }
 }
 
+/* Puts the point of a request at a point of the case, in the middle between two of them, or beside
+ * one of these: at a vertex, on a side. */
+static void change_point(uint8_t *request, const uint8_t *points, uint64_t count) {
+    const uint8_t *a = points + 24 * below(count), *b = below(2) ? a : points + 24 * below(count);
+    static const double by[] = {0.0, 0.0, 1e-12, -1e-12, 5e-13, -5e-13};
+    for (int k = 0; k < 2; k++) {
+        double x, y;
+        memcpy(&x, a + 8 * k, 8);
+        memcpy(&y, b + 8 * k, 8);
+        x = x + (y - x) / 2 + by[below(6)];
+        memcpy(request + 8 + 8 * k, &x, 8);
+    }
+}
+
 /* Only for a case of stated parts, all of which the input holds. */
 static int change_part(uint8_t *data, size_t size) {
     uint64_t p = word_at(data + 8), w = word_at(data + 12), c = word_at(data + 16);
     uint64_t words = HEADER + 24 * p, fields = words + 4 * w, requests = fields + 32 * c;
     if (data[1] & 1 || requests > size) return 0;
     size_t count = (size - requests) / REQUEST;
-    switch (below(8)) {
+    switch (below(9)) {
     case 0: data[below(8)] = (uint8_t)below(256); return 1;
     case 1: if (p) change_float(data + HEADER + 8 * below(3 * p), data + HEADER, 3 * p); return 1;
     case 2: case 3: if (w) change_word(data + words + 4 * below(w), data + words, w, p); return 1;
     case 4: if (c) change_float(data + fields + 8 * below(4 * c), data + fields, 4 * c); return 1;
+    case 5: if (p && count) change_point(data + requests + REQUEST * below(count), data + HEADER, p); return 1;
     default: if (count) change_request(data + requests, count); return 1;
     }
 }
