@@ -83,7 +83,7 @@ fn same_answers(ours: &mut Ours, theirs: &Theirs, list: &[Request]) -> Result<()
     ours.fit(list);
     let mut at = 0;
     for (i, request) in list.iter().enumerate() {
-        let wanted = theirs.serve(&Call::of(request)).answer();
+        let wanted = theirs.serve(&Call::of(request)).answer(request, theirs);
         let given = ours.answers.get(at..at + wanted.len()).unwrap_or(&ours.answers[at..]);
         if given != wanted {
             let word = given.iter().zip(&wanted).take_while(|(a, b)| a == b).count();

@@ -1,5 +1,7 @@
-//! The unchanged Rust: FLURSYS's own functions, as a caller who keeps the mesh and the streamline field uses them.
-//! It has no locator among all cells: for codes 9 to 12 and 14 it does what 1 to 4 and 13 ask for.
+//! The unchanged Rust: FLURSYS's own functions, as a caller who keeps the mesh and the streamline
+//! field uses them. It has no locator among all cells: for codes 9 to 12 and 14 it does what 1 to 4
+//! and 13 ask for. It does not say whether a point is on an edge: the reference does, after the
+//! clock has stopped.
 use crate::rows::Request;
 use reference::flursys::workbench::plane_integrals;
 use reference::flursys::workbench::plane_monitor::{self, FlowPlaneMonitor, PlaneSnapshot};
@@ -7,8 +9,9 @@ use reference::flursys::workbench::results::streamlines::*;
 use reference::flursys::workbench::results::ResultDataset;
 use reference::flursys::{CellDefinition, MeshDimension, Point, UnstructuredMesh, Vec3};
 use reference::by_bins;
-use reference::refair::ref02::millimetres;
-use reference::refair::{self, bits, plane_of, Case, Stats, NONE};
+use reference::refair::ref02::{millimetres, standing};
+use reference::refair::{self, bits, mesh01, plane_of, Case, Order, Stats, Twin, NONE};
+use std::cell::OnceCell;
 
 /// A request in FLURSYS's own types, ready before the clock starts.
 pub enum Call {
@@ -50,6 +53,9 @@ pub struct Theirs {
     pub ready: Ready,
     mesh: UnstructuredMesh,
     field: Option<StreamlineField>,
+    /// The field's polygons, for the position of a located point; made where one is asked for, so
+    /// that what is timed or counted runs as it would without them.
+    polygons: OnceCell<Vec<Vec<(f64, f64)>>>,
 }
 
 fn vector(request: &Request, at: usize) -> Vec3 {
@@ -93,6 +99,10 @@ pub fn field(data: &ResultDataset) -> StreamlineField {
     StreamlineField::from_dataset(data).expect("FLURSYS accepts the field")
 }
 
+fn polygons(mesh: &UnstructuredMesh, ready: &Ready) -> Vec<Vec<(f64, f64)>> {
+    Twin::build(&mesh01::from_rust(mesh), &ready.velocities(), Order::Rust).expect("a field").polygons
+}
+
 impl Ready {
     pub fn new(case: &[u8]) -> Self {
         Self { case: refair::read_case(case).ok().expect("the case is read") }
@@ -116,7 +126,14 @@ impl Theirs {
         let mesh = build(ready.lists());
         let two = mesh.dimension() == MeshDimension::TwoD;
         let field = two.then(|| field(&ResultDataset::stub(mesh.clone(), ready.velocities())));
-        Self { ready, mesh, field }
+        Self { ready, mesh, field, polygons: OnceCell::new() }
+    }
+
+    /// The words of code 1: the cell, and the position of the request's point in its polygon.
+    fn located(&self, request: &Request, cell: Option<usize>) -> [u64; 2] {
+        let point = vector(request, 1);
+        let polygons = self.polygons.get_or_init(|| polygons(&self.mesh, &self.ready));
+        cell.map_or([NONE, 0], |cell| [cell as u64, standing((point.x, point.y), &polygons[cell])])
     }
 
     /// FLURSYS cuts the whole mesh anew for each plane it is asked about: `intersect` keeps no index between calls.
@@ -189,11 +206,11 @@ fn put_section(words: &mut Vec<u64>, snapshot: &PlaneSnapshot) {
 }
 
 impl Output {
-    /// The same answer as ours: refusal, number of words, words.
-    pub fn answer(&self) -> Vec<u64> {
+    /// The same answer to a request as ours: refusal, number of words, words.
+    pub fn answer(&self, request: &Request, theirs: &Theirs) -> Vec<u64> {
         let mut words = vec![0, 0];
         match self {
-            Output::Cell(cell) => words.push(cell.map_or(NONE, |c| c as u64)),
+            Output::Cell(cell) => words.extend(theirs.located(request, *cell)),
             Output::Velocity(None) => words.extend([0; 4]),
             Output::Velocity(Some(v)) => {
                 words.push(1);
