@@ -25,7 +25,7 @@ unfoldable pub expected : Result Printed
 expected =
     fine
     (record {
-      words = 0 ∷ 1 ∷ 0xffffffffffffffff ∷ 0 ∷ 4 ∷ 1 ∷ 0x3ff8000000000000 ∷ 0 ∷ 0 ∷ 0 ∷ 0xa ∷ 3 ∷ 0x3fd0000000000000 ∷ 0x3fe0000000000000 ∷ 0 ∷ 0x3fe0000000000000 ∷ 0x3fe0000000000000 ∷ 0 ∷ 0x3fe8000000000000 ∷ 0x3fe0000000000000 ∷ 0 ∷ [];
+      words = 0 ∷ 2 ∷ 0xffffffffffffffff ∷ 0 ∷ 0 ∷ 4 ∷ 1 ∷ 0x3ff8000000000000 ∷ 0 ∷ 0 ∷ 0 ∷ 0xa ∷ 3 ∷ 0x3fd0000000000000 ∷ 0x3fe0000000000000 ∷ 0 ∷ 0x3fe0000000000000 ∷ 0x3fe0000000000000 ∷ 0 ∷ 0x3fe8000000000000 ∷ 0x3fe0000000000000 ∷ 0 ∷ [];
       cells = 0 ∷ 1 ∷ [];
     })
 

@@ -25,7 +25,7 @@ unfoldable pub expected : Result Printed
 expected =
     fine
     (record {
-      words = 0 ∷ 1 ∷ 0xffffffffffffffff ∷ 0 ∷ 1 ∷ 0xffffffffffffffff ∷ 0 ∷ 1 ∷ 0xffffffffffffffff ∷ [];
+      words = 0 ∷ 2 ∷ 0xffffffffffffffff ∷ 0 ∷ 0 ∷ 2 ∷ 0xffffffffffffffff ∷ 0 ∷ 0 ∷ 2 ∷ 0xffffffffffffffff ∷ 0 ∷ [];
       cells = [];
     })
 

@@ -72,12 +72,14 @@ unfoldable pub opening : Unit {0}
 unfolding computing caseFile request told bytes bytesFrom lends ran below seen onePass due pair square cube stack locate velocity streamline level
 opening = tt
 
--- the rows; `Row` says of a case, a request, the answer words and the cells read that the job gives these
+-- the rows; `Row` says of a case, a request, the answer words and the cells read that the job gives
+-- these. Behind the cell of a locate stands 02's "0 none, 1 edge, 2 inside": x = 1 is a side of the
+-- first square
 pub record Rooms (Row : List ℕ → List ℕ → List ℕ → List ℕ → Type 0) : Type 0 where
-  pub inside-first : Row pair (locate 0·5) (0 ∷ []) []
-  pub on-the-wall : Row pair (locate 1·0) (0 ∷ []) []
-  pub inside-second : Row pair (locate 1·5) ((2 ^ 64 - 1) ∷ []) []
-  pub at-the-end : Row pair (locate 2·0) ((2 ^ 64 - 1) ∷ []) []
+  pub inside-first : Row pair (locate 0·5) (0 ∷ 2 ∷ []) []
+  pub on-the-wall : Row pair (locate 1·0) (0 ∷ 1 ∷ []) []
+  pub inside-second : Row pair (locate 1·5) ((2 ^ 64 - 1) ∷ 0 ∷ []) []
+  pub at-the-end : Row pair (locate 2·0) ((2 ^ 64 - 1) ∷ 0 ∷ []) []
   pub blended : Row pair (velocity 0·75) (1 ∷ vecWords (vec 1·5 0·0 0·0)) (0 ∷ 1 ∷ [])
   pub unblended : Row pair (velocity 0·25) (1 ∷ vecWords (vec 1·0 0·0 0·0)) (0 ∷ 1 ∷ [])
   pub line :
