@@ -39,7 +39,7 @@ MOST = 2**64 - 1
 AIRJOB = (16384, 8192, 16384, 8192)
 ROOM = (32768, 16384, 16384, 16384)
 ANSWER, MARK = 0x5555555555555555, 7
-WANTED = 676
+WANTED = 687
 
 
 def u32(*numbers):
@@ -305,7 +305,7 @@ def lists():
     add("many mixed in 2D", SHEET, (FLAT + [request(0), SOLID[0]]) * 8, answers=1200)
     add("many mixed in 3D", STACK, (SOLID + [request(0), FLAT[0]]) * 8, answers=1200)
     add("60 requests", PAIR, [locate(0.05 * k, 0.3) for k in range(60)])
-    add("4,096 requests", PAIR, [(locate(0.5, 0.5), 4096)], (*PAIR.least(), 12288))
+    add("4,096 requests", PAIR, [(locate(0.5, 0.5), 4096)], (*PAIR.least(), 16384))
     add("4,096 requests in the fewest words", PAIR, [(velocity(0.5, 0.5), 4095), (request(0), 1)], (*PAIR.least(), 8192))
 
 
@@ -551,15 +551,15 @@ def samples():
 
 
 def rooms_for_answers():
-    sizes = {1: 1, 2: 4, 3: 10, 4: 31, 5: 22, 6: 13, 7: 4, 8: 5}
+    sizes = {1: 2, 2: 4, 3: 10, 4: 31, 5: 22, 6: 13, 7: 4, 8: 5}
     for k, r in enumerate(FLAT + SOLID):
         m, n = (PAIR if k < 4 else CUBE), sizes[k + 1] + 2
         add(f"44: code {k + 1}, a word short", m, [r], answers=n - 1)
         add(f"code {k + 1} in the fewest words", m, [r], answers=n)
-        add(f"44: code {k + 1}, then ones that fit", m, [r, r, request(0), altered(r, 15, 1), FLAT[0], SOLID[3]], answers=n + 11)
+        add(f"44: code {k + 1}, then ones that fit", m, [r, r, request(0), altered(r, 15, 1), FLAT[0], SOLID[3]], answers=n + 12)
         add(f"code {k + 1} before two others", m, [r, request(0), FLAT[0]], answers=n + 4)
         add(f"44: code {k + 1} before two others", m, [r, request(0), FLAT[0]], answers=n + 3)
-    add("44: all but the last", PAIR, [FLAT[3], FLAT[2], FLAT[1], FLAT[0]], answers=9)
+    add("44: all but the last", PAIR, [FLAT[3], FLAT[2], FLAT[1], FLAT[0]], answers=10)
     add("44: its marks stay", SHEET, [rake((0.5, 0.25, 0.0), (0.5, 0.75, 0.0), 2, step=0.125, steps=40, length=9.0)], answers=20)
     add("44: longer than the whole buffer", SHEET, [line(step=0.001, steps=900, length=2.0), locate(0.5, 0.5)], answers=60)
     add("44: a section after which a probe fits", BLOCK, [SOLID[0], SOLID[3], SOLID[2]], answers=30)
@@ -678,7 +678,7 @@ def rectangles(xs, ys):
 
 def all_cells_refusals():
     used = {9: 4, 10: 4, 11: 9, 12: 13, 14: 9}
-    size = {9: 1, 10: 4, 11: 10, 12: 31, 14: 7}
+    size = {9: 2, 10: 4, 11: 10, 12: 31, 14: 7}
     for code, q in zip(used, among(*FLAT, sheet())):
         between(f"30: code {code}, unused words", PAIR, altered(q, used[code], 1), altered(q, 15, -0.0), q)
         between(f"31: code {code}", CUBE, q)
@@ -772,6 +772,50 @@ def all_cells_lines():
     add("a whole turn among all cells", whirl(quads(6, 4, 0.5, 0.5)), both(*turns), answers=900)
     long = sheet((0.125, 0.5, 0.0), step=2.0**-17, steps=65536, length=1.0)
     add("65,536 steps among all cells", SQUARE.with_fields([(1.0, 0.0, 0.0)], [0.0]), among(long), answers=1100)
+
+
+def edges():
+    """The position of a point by both locators: on sides, at vertices, within the tolerance of the
+    polygon test on both sides of them, at its limit and one float further, and in slanted cells so
+    small that it reaches far into them."""
+    tolerance = 1e-12
+    limits = [x for d in (tolerance, rise(tolerance)) for x in (d, -d)]
+    sides = [(x, 0.5) for x in (0.0, *limits)] + [(0.5, y) for y in (0.0, *limits)]
+    add("positions at the near sides of Pair", PAIR, both(*(locate(*p) for p in sides)))
+    shared = [locate(1.0 + d, 0.5) for d in (0.0, 5e-13, -5e-13, 9e-13, -9e-13, 1.1e-12, -1.1e-12)]
+    add("positions at the side that two cells share", PAIR, both(*shared))
+    add("positions at that side, cell 1 first", Mesh(2, PAIR.points, PAIR.cells[::-1]), both(*shared))
+    aside = [(s * d, t * d) for d in (5e-13, 1.1e-12) for s, t in ((1, 0), (-1, 0), (0, 1), (0, -1))]
+    corners = [(x + s, y + t) for x in (0.0, 1.0) for y in (0.0, 1.0) for s, t in ((0.0, 0.0), *aside)]
+    add("positions at corners and beside them", PAIR, both(*(locate(*p) for p in corners)))
+    rooms = [("a triangle", polygon(3), 1.0), ("a pentagram", polygon(5, 2), 1.0), ("a fan", fan(5), 1.0),
+             ("arrows", arrows(2, 2), 1.0), ("long sides", quads(2, 1, 512.0, 256.0), 1.0),
+             ("arrows of micrometres", arrows(2, 2).scaled(3e-6), 3e-6), ("cells over each other", spiral(5, 9), 1.0)]
+    for name, m, size in rooms:
+        add(f"positions in {name}", m, both(*(locate(*p) for p in at_sides(m, size))))
+
+
+def at_sides(m, size):
+    """Of the first cell and the last: the middle, the middles of two sides and places across them, a
+    vertex and a place level with it."""
+    for k in sorted({0, len(m.cells) - 1}):
+        v = [m.points[i] for i in m.cells[k][1]]
+        yield [sum(p[j] for p in v) / len(v) for j in range(2)]
+        for a, b in zip(v[:2], v[1:]):
+            length = math.dist(a, b)
+            across = ((b[1] - a[1]) / length, (a[0] - b[0]) / length)
+            for by in (0.0, 0.9e-12, -0.9e-12, 1.1e-12, -1.1e-12):
+                yield [(a[j] + b[j]) / 2 + across[j] * by / length for j in range(2)]
+        yield v[0][:2]
+        yield [v[0][0] + 0.1 * size, v[0][1]]
+
+
+def arrows(nx, ny):
+    """Cells like arrows, side by side."""
+    n = nx + 1
+    m = quads(nx, 2 * ny).moved(lambda p: (p[0] + 0.5 * (p[1] % 2), p[1], p[2]))
+    around = lambda a: [a, a + 1, a + 1 + n, a + 1 + 2 * n, a + 2 * n, a + n]
+    return m.with_cells(*[(0, around(2 * j * n + i)) for j in range(ny) for i in range(nx)])
 
 
 # ---- what the reference says
@@ -929,7 +973,7 @@ def main(programs):
     refjob, gen, rooms = (os.path.join(programs, x) for x in ("refjob2", "gen", "rooms"))
     known(rooms)
     for part in (lists, trailers, records, lengths, values, definitions, volumes, codes, options, planes, samples,
-                 rooms_for_answers, accepted, sheets, all_cells):
+                 rooms_for_answers, accepted, sheets, all_cells, edges):
         part()
     names = collections.Counter(p[0] for p in PAIRS)
     assert len(names) == len(PAIRS), names.most_common(3)
