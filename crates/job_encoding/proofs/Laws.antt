@@ -1,6 +1,7 @@
 -- The words that are stored are the request's, and a request alone is a list of one. Assumes nothing.
-use Prim.Native.Nat.{ℕ, zero, suc, _-_, _≤_}
+use Prim.Native.Nat.{ℕ, zero, suc, _+_, _-_, _≤_}
 use native.Mathlib.Omega.{arith}
+use native.Mathlib.Numerals.{add-one, add-two, add-three, add-four}
 use lib.Dec.{T}
 use mathlib.Core.Path.{_≡_, _∙_}
 use mathlib.Core.List.{List, [], _∷_, _++_}
@@ -40,6 +41,13 @@ unfolding velocityWords padded vecWords
 velocity-stored p search k e = rw k at e
 
 module _ (s : StreamlineSettings) where
+  pub line-stored : (at : ℕ) {d b₁ b₂ b₃ : ℕ} (ws : List ℕ) {ws₁ ws₂ ws₃ ws₄ ws₅ : List ℕ} → d ≡ directionWord (s .direction) → ws₁ ≡ set ws at d
+      → b₁ ≡ word (s .options .«step_size») → ws₂ ≡ set ws₁ (at + 1) b₁ → ws₃ ≡ set ws₂ (at + 2) (s .options .«max_steps»)
+      → b₂ ≡ word (s .options .«max_length») → ws₄ ≡ set ws₃ (at + 3) b₂ → b₃ ≡ word (s .options .«stagnation_speed») → ws₅ ≡ set ws₄ (at + 4) b₃
+      → ws₅ ≡ sets ws at (lineWords s)
+  unfolding lineWords
+  line-stored at ws d e₁ b₁ e₂ e₃ b₂ e₄ b₃ e₅ = rw (e₅, b₃, e₄, b₂, e₃, e₂, b₁, e₁, d, add-one at, add-two at, add-three at, add-four at)
+
   pub one-line-stored : (code : ℕ) (seed : Vec3) {ws ws′ : List ℕ} → ws ≡ sets (coded code) 1 (vecWords seed) → ws′ ≡ sets ws 4 (lineWords s) → ws′ ≡ oneLineWords code seed s
   unfolding oneLineWords padded vecWords lineWords
   one-line-stored code seed e f = rw e at f
