@@ -27,7 +27,7 @@ held-put o₀ o o′ at i x y z p inv ep e =
     points-more o₀ o o′ (slicePoints x y z i) p at i (sym (length-held x y z i)) inv e ∙ ap (λ (l : List Vec3). sets o₀ at (pointWords l)) (sym next)
 
 -- a whole sample
-pub sample-put : (o : List ℕ) (at cell n : ℕ) (centre : Vec3) (v : Values) (l : List Vec3) → length l ≡ n →
+sample-put : (o : List ℕ) (at cell n : ℕ) (centre : Vec3) (v : Values) (l : List Vec3) → length l ≡ n →
     sets (sets (sets (set (set o at cell) (at + 1) n) (at + 2) (vecWords centre)) (at + 5) (pointWords l)) (at + 5 + 3 * n) (valuesWords v)
     ≡ sets o at (sampleWords (record { geometry = record { cell = cell; centre = centre; polygon = l }; values = v }))
 unfolding sampleWords
@@ -41,3 +41,9 @@ sample-put o at cell n centre v l e =
     rw (all, five, two, one, ← e)
     (sym (sets-append (sets o2 (suc (suc at)) (vecWords centre)) (suc (suc at) + length (vecWords centre)) ws (valuesWords v))
     ∙ sym (sets-append o2 (suc (suc at)) (vecWords centre) (ws ++ valuesWords v)))
+
+-- as it is stored
+pub sample-stored : (o : List ℕ) {o₁ o₂ o₃ o₄ o₅ : List ℕ} (at cell n : ℕ) (centre : Vec3) (v : Values) (x y z : List Float) → o₁ ≡ set o at cell → o₂ ≡ set o₁ (at + 1) n
+    → o₃ ≡ sets o₂ (at + 2) (vecWords centre) → o₄ ≡ sets o₃ (at + 5) (pointWords (slicePoints x y z n)) → o₅ ≡ sets o₄ (at + 5 + 3 * n) (valuesWords v)
+    → o₅ ≡ sets o at (sampleWords (record { geometry = record { cell = cell; centre = centre; polygon = slicePoints x y z n }; values = v }))
+sample-stored o at cell n centre v x y z e₁ e₂ e₃ e₄ e₅ = rw (e₅, e₄, e₃, e₂, e₁) (sample-put o at cell n centre v (slicePoints x y z n) (length-held x y z n))

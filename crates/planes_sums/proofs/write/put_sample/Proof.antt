@@ -1,11 +1,10 @@
-use Rattle.planes_crossings.proofs.HeldLaws.{length-held}
-use Rattle.planes_sums.proofs.WriteLaws.{sample-put}
+use Rattle.planes_sums.proofs.WriteLaws.{sample-stored}
 use borrow.Author.Needs.{needs}
 use Rattle.planes_sums.proofs.write.put_sample.Statement.{statement}
 use Rattle.planes_sums.proofs.write.put_sample.Tie as tie
 
 returns : tie.Need-returns
-returns c = rw (c .before .before .put-values .ensures, c .before .before .before .before .before .before .put-points .ensures, c .before .before .before .before .before .before .before .before .before .before .put-vec .ensures, c .before .before .before .before .before .before .before .before .before .before .before .before .before .before .put2 .ensures, c .before .before .before .before .before .before .before .before .before .before .before .before .before .before .before .before .before .before .put .ensures) (sample-put _ _ _ _ _ _ _ (length-held _ _ _ _))
+returns c = sample-stored _ _ _ _ _ _ _ _ _ (c .before .before .before .before .before .before .before .before .before .before .before .before .before .before .before .before .before .before .put .ensures) (c .before .before .before .before .before .before .before .before .before .before .before .before .before .before .put2 .ensures) (c .before .before .before .before .before .before .before .before .before .before .put-vec .ensures) (c .before .before .before .before .before .before .put-points .ensures) (c .before .before .put-values .ensures)
 
 pub put-sample-spec : {M : Type 1} → statement M
 put-sample-spec =
