@@ -17,9 +17,3 @@ pub record HalfRoot (n m : ℕ) : Type 0 where
   pub q : ℕ
   pub whole : WholeRoot n q
   pub half : m ≡ (q + 1) / 2
-
--- q holds the first digits of the root of q * q + y * 2 ^ k, and k digits are to come: that root is below q + 2 ^ k.
-pub record DigitsEntry (q y k : ℕ) : Type 0 where
-  pub few : k ≤ 54
-  pub room : q + 2 ^ k ≤ 2 ^ 54
-  pub rest : y < 2 * q + 2 ^ k

@@ -1,24 +1,28 @@
 // The whole number nearest to a square root: checked where one is given, else digit by digit.
 ghost use lib.Dec.{T};
 ghost use Prim.Native.Nat.{_+_, _*_, _^_, _<_};
-ghost use Rattle.arith_whole_root.specs.Whole.{DigitsEntry, WholeRoot, RootFrom, HalfRoot};
+ghost use Rattle.arith_whole_root.specs.Whole.{WholeRoot, RootFrom, HalfRoot};
 
-// One binary digit of a whole square root per call: the largest r with
-// r * r <= q * q + y * 2^k, where q holds the digits found so far, at their places, k is how
-// many are to come, and y is what is left of the square, in units of 2^k.
-fn digits(q: u64, y: u64, k: u64) -> u64
-    requires { ⌜ DigitsEntry q y k ⌝ }
-    ensures { λ r. ⌜ WholeRoot (q * q + y * 2 ^ k) r ⌝ }
+// The whole square root of d * 2^54, one of its 54 binary digits in a turn: q has the digits found
+// so far, at their places, k is how many are to come, and y is what the square of q leaves of
+// d * 2^54, in units of 2^k.
+fn whole_root(d: u64) -> u64
+    requires { ⌜ d < 2 ^ 54 ⌝ }
+    ensures { λ r. ⌜ WholeRoot (d * 2 ^ 54) r ⌝ }
 {
-    if k == 0 {
-        q
-    } else {
-        let b = 1u64 << (k - 1);
+    let mut q = 0u64;
+    let mut y = d;
+    let mut k = 54u64;
+    while k > 0 {
+        k = k - 1;
+        let b = 1u64 << k;
         let t = 2 * q + b;
         let z = 2 * y;
-        let d = (t <= z) as u64;
-        digits(q + d * b, z - d * t, k - 1)
+        let c = (t <= z) as u64;
+        q = q + c * b;
+        y = z - c * t;
     }
+    q
 }
 
 // Whether q = h * 2^27 + l is found to be the root of d * 2^54, or less than 2 below it. The square
@@ -82,5 +86,5 @@ pub fn half_root(d: u64, m: u64) -> u64
             }
         }
     }
-    (digits(0, d, 54) + 1) / 2
+    (whole_root(d) + 1) / 2
 }

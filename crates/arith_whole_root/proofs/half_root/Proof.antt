@@ -1,10 +1,8 @@
 use borrow.Author.Needs.{needs}
 use mathlib.Core.Path.{refl, sym, subst}
 use Prim.Native.Nat.{_*_, _^_}
-use native.Mathlib.Nat.{zero-add}
 use native.Mathlib.Omega.{arith}
 use lib.Dec.{T}
-use Rattle.arith_whole_root.specs.Whole.{WholeRoot}
 use Rattle.arith_whole_root.proofs.Whole.{less}
 use Rattle.arith_whole_root.proofs.half_root.Statement.{statement}
 use Rattle.arith_whole_root.proofs.half_root.Tie as tie
@@ -33,18 +31,14 @@ add-result c = search needs
 returns-2 : tie.Need-returns-2
 returns-2 c = c .before .is-half-root2 .ensures (subst T (sym (c .if4 .taken)) tt)
 
-digits-requires : tie.Need-digits-requires
-digits-requires c κs = search needs
-
--- the whole root that `digits` gave
-found : (c : tie.After-digits) → WholeRoot (c .before .before .args .d * 2 ^ 54) (c .digits .result)
-found c = rw (← zero-add (c .before .before .args .d * 2 ^ 54)) (c .digits .ensures)
+whole-root-requires : tie.Need-whole-root-requires
+whole-root-requires c κs = search needs
 
 add-result-2 : tie.Need-add-result-2
-add-result-2 c = let d = c .before .before .args .d in omega (arith, less (d * 2 ^ 54) (c .digits .result) (2 ^ 54) (found c) (omega arith))
+add-result-2 c = let d = c .before .before .args .d in omega (arith, less (d * 2 ^ 54) (c .whole-root .result) (2 ^ 54) (c .whole-root .ensures) (omega arith))
 
 returns-3 : tie.Need-returns-3
-returns-3 c = record { q = c .digits .result; whole = found c; half = refl }
+returns-3 c = record { q = c .whole-root .result; whole = c .whole-root .ensures; half = refl }
 
 pub half-root-spec : {M : Type 1} → statement M
 half-root-spec =
@@ -58,6 +52,6 @@ half-root-spec =
     is-half-root-requires-2
     add-result
     returns-2
-    digits-requires
+    whole-root-requires
     add-result-2
     returns-3)
