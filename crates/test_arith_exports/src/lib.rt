@@ -9,6 +9,8 @@ use arith_angles::angles;
 use lines_millimetres::Rounding;
 ghost use mathlib.Core.Path.{_≡_};
 ghost use mathlib.Core.Bool.{true, cond};
+ghost use Prim.Native.Nat.{_*_, _^_, _≤_, _<_};
+ghost use Rattle.arith_whole_root.specs.Whole.{HalfRoot};
 ghost use Rattle.arith_root.specs.Root.{root, SquareRoot};
 ghost use Rattle.arith.specs.F64 as F64;
 ghost use Rattle.arith.specs.Vec.{pair};
@@ -23,6 +25,18 @@ pub extern "C" fn hookyellow_sqrt(x: f64) -> f64
     ensures { λ r. ⌜ SquareRoot x r ⌝ }
 {
     arith_root::sqrt(x)
+}
+
+// √d * 2^26, rounded to the nearest whole number, with no number to check first: by its digits alone.
+// 0 where d is 2^54 or more.
+#[no_mangle]
+pub extern "C" fn hookyellow_half_root(d: u64) -> u64
+    ensures { λ r. ⌜ (d < 2 ^ 54 → HalfRoot (d * 2 ^ 54) r) × (2 ^ 54 ≤ d → r ≡ 0) ⌝ }
+{
+    if d >= 0x40_0000_0000_0000 {
+        return 0;
+    }
+    arith_whole_root::half_root(d, 0)
 }
 
 #[no_mangle]

@@ -2,6 +2,7 @@
 
 unsafe extern "C" {
     pub safe fn hookyellow_sqrt(x: f64) -> f64;
+    pub safe fn hookyellow_half_root(d: u64) -> u64;
     pub safe fn hookyellow_abs(x: f64) -> f64;
     pub safe fn hookyellow_min(a: f64, b: f64) -> f64;
     pub safe fn hookyellow_max(a: f64, b: f64) -> f64;

@@ -1,22 +1,26 @@
 //! Compares the proved leaves, by the static library of `test_arith_exports`, with Rust's own f64:
-//! sqrt, abs, min, max, clamp, is_finite, is_sign_negative, the order of distances by total_cmp,
-//! floor and ceil as usize, the 64 bits of a float, and the angle order and its sort with atan2.
+//! sqrt, the same by its digits alone, abs, min, max, clamp, is_finite, is_sign_negative, the order
+//! of distances by total_cmp, floor and ceil as usize, the 64 bits of a float, and the angle order
+//! and its sort with atan2. The digits are also compared with the whole root of u128.
 //!
 //! `cargo run --offline --release -p leaves -- [COUNT] [SEED]` compares every special value, each
 //! with each where a leaf takes two, then COUNT values in all (points, for the sort). Results are
 //! compared by their bits, each NaN counting as 7ff8000000000000. Passed over are:
 //! - the sign bit of a NaN;
+//! - by digits, the root of what is not finite and above 0;
 //! - directions that are not finite, or whose angles are less than 2^-39 apart and which are not
 //!   the same: atan2 may order exact angles closer than 2^-40 otherwise.
 //! Of minimum and maximum the sign of a zero is left open: zeros of two signs are counted apart.
 //!
-//! Last it measures the root against the machine's. The exit status is 1 on a difference.
+//! Last it measures both roots against the machine's. The exit status is 1 on a difference.
 mod angles;
+mod digits;
 mod exports;
 mod random;
 mod values;
 
 use angles::{compare_angles, compare_refused_sort, compare_sorts, MOST};
+use digits::{is_positive, parts, rusts_half_root};
 use exports::*;
 use random::Random;
 use std::hint::black_box;
@@ -112,6 +116,21 @@ impl Run {
         while tally.compared < self.count {
             let x = self.random.value(&self.special);
             tally.compare(ours(x), rusts(x), &[x.to_bits()]);
+        }
+        tally
+    }
+
+    /// The whole number that the digits give, of numbers of every size.
+    fn half_roots(&mut self) -> Tally {
+        let mut tally = Tally::new("half root");
+        let ends = [0, 1 << 52, 1 << 53, 1 << 54];
+        let special = ends.map(|d: u64| [d.wrapping_sub(1), d, d + 1]);
+        for d in special.into_iter().flatten() {
+            tally.compare(hookyellow_half_root(d), Some(rusts_half_root(d)), &[d]);
+        }
+        while tally.compared < self.count {
+            let d = self.random.bits() >> self.random.below(64);
+            tally.compare(hookyellow_half_root(d), Some(rusts_half_root(d)), &[d]);
         }
         tally
     }
@@ -216,6 +235,12 @@ fn compare_all(run: &mut Run) -> Vec<Tally> {
             |x| word(hookyellow_sqrt(x)),
             |x| Some(word(x.sqrt())),
         ),
+        run.one(
+            "sqrt by digits",
+            |x| digits::sqrt(x.abs()).to_bits(),
+            |x| is_positive(x.abs()).then(|| x.abs().sqrt().to_bits()),
+        ),
+        run.half_roots(),
         run.one("abs", |x| word(hookyellow_abs(x)), |x| Some(word(x.abs()))),
         run.two("min", compare_min),
         run.two("max", compare_max),
@@ -255,7 +280,7 @@ fn compare_all(run: &mut Run) -> Vec<Tally> {
 const BATCH: usize = 1000;
 
 /// Nanoseconds for one root, in a run over these values.
-fn nanoseconds(values: &[f64], root: impl Fn(f64) -> f64) -> f64 {
+fn nanoseconds<T: Copy, R>(values: &[T], root: impl Fn(T) -> R) -> f64 {
     let start = Instant::now();
     for &x in values {
         black_box(root(x));
@@ -268,17 +293,20 @@ fn median(mut times: Vec<f64>) -> f64 {
     times[times.len() / 2]
 }
 
-/// Both roots of the same million values, in short alternating runs.
-fn print_root_ratio(random: &mut Random) {
+/// The roots of the same million values, in short alternating runs.
+fn print_root_ratios(random: &mut Random) {
     let values: Vec<f64> = (0..1_000_000).map(|_| random.ordinary().abs()).collect();
-    let (mut ours, mut machines) = (Vec::new(), Vec::new());
+    let mut times = [Vec::new(), Vec::new(), Vec::new()];
     for batch in values.chunks(BATCH) {
-        ours.push(nanoseconds(batch, |x| hookyellow_sqrt(x)));
-        machines.push(nanoseconds(batch, f64::sqrt));
+        let whole: Vec<u64> = batch.iter().map(|&x| parts(x).0).collect();
+        times[0].push(nanoseconds(batch, |x| hookyellow_sqrt(x)));
+        times[1].push(nanoseconds(&whole, |d| hookyellow_half_root(d)));
+        times[2].push(nanoseconds(batch, f64::sqrt));
     }
-    let (ours, machines) = (median(ours), median(machines));
-    println!("root {ours:.2} ns, the machine's {machines:.2} ns");
-    println!("root ratio {:.2}", ours / machines);
+    let [ours, digits, machines] = times.map(median);
+    println!("root {ours:.2} ns, by digits {digits:.2} ns, the machine's {machines:.2} ns");
+    let (ours, digits) = (ours / machines, digits / machines);
+    println!("root ratio {ours:.2}, by digits {digits:.2}");
 }
 
 fn number(argument: Option<String>, other: u64) -> u64 {
@@ -298,7 +326,7 @@ fn main() {
     };
     let tallies = compare_all(&mut run);
     tallies.iter().for_each(Tally::print);
-    print_root_ratio(&mut run.random);
+    print_root_ratios(&mut run.random);
     let differ: u64 = tallies.iter().map(|tally| tally.differ).sum();
     let compared: u64 = tallies.iter().map(|tally| tally.compared).sum();
     println!("{} same, {differ} differ", compared - differ);
