@@ -47,6 +47,16 @@ taken q y p d e =
 left : (q y p : ℕ) → q * q + y * (p + p) ≡ q * q + 2 * y * p
 left q y p = omega (arith, mul-add y p p, mul-assoc 2 y p)
 
+-- the next digit is 1: its step t is in what is left, z
+abbrev pub takes : ℕ → ℕ → Bool
+takes t z = leb t z
+
+takes-1 : (t z : ℕ) → takes t z ≡ true → t ≤ z
+takes-1 t z e = omega (arith, leb-true _ z e)
+
+takes-0 : (t z : ℕ) → takes t z ≡ false → z < t
+takes-0 t z e = omega (arith, leb-false _ z e)
+
 -- A turn with the digit c, 0 or 1, as a factor: what it computes fits a word, and it leaves one digit less to come.
 pub record Turn (n q y k c : ℕ) : Type 0 where
   pub step-fits : Fits w64 (2 * q + place k)
@@ -88,16 +98,16 @@ module _ (n q y k : ℕ) (more : 0 < k) (h : Begun n q y k) where
         goes-on = g;
       }
 
-  pub turn : Turn n q y k (boolByte (leb (2 * q + place k) (2 * y)))
-  turn = go (leb (2 * q + place k) (2 * y)) refl
+  pub turn : Turn n q y k (boolByte (takes (2 * q + place k) (2 * y)))
+  turn = go (takes (2 * q + place k) (2 * y)) refl
     where
-      go : (b : Bool) → leb (2 * q + place k) (2 * y) ≡ b → Turn n q y k (boolByte b)
-      go true t =
-          let l = leb-true (2 * q + place k) (2 * y) t in
-          with-digit 1 (omega arith) (rw (one-mul (place k), one-mul (2 * q + place k)) (digit-1 l))
-      go false t =
-          let l = leb-false (2 * q + place k) (2 * y) t in
-          with-digit 0 (omega arith) (simp (zero-mul, add-zero, sub-zero) (digit-0 l))
+      go : (b : Bool) → takes (2 * q + place k) (2 * y) ≡ b → Turn n q y k (boolByte b)
+      go true e =
+          let t = takes-1 (2 * q + place k) (2 * y) e in
+          with-digit 1 (omega arith) (rw (one-mul (place k), one-mul (2 * q + place k)) (digit-1 t))
+      go false e =
+          let t = takes-0 (2 * q + place k) (2 * y) e in
+          with-digit 0 (omega arith) (simp (zero-mul, add-zero, sub-zero) (digit-0 t))
 
 pub no-more : (n q y k : ℕ) → k ≡ 0 → Begun n q y k → WholeRoot n q
 no-more n q y k e h =

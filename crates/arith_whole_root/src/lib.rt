@@ -5,7 +5,8 @@ ghost use Rattle.arith_whole_root.specs.Whole.{WholeRoot, RootFrom, Half
 
 // The whole square root of d * 2^54, one of its 54 binary digits in a turn: q has the digits found
 // so far, at their places, k is how many are to come, and y is what the square of q leaves of
-// d * 2^54, in units of 2^k.
+// d * 2^54, in units of 2^k. The next digit, at the place b, is 1 where what it adds to the square
+// of q, b * t, is at most what is left, b * z.
 fn whole_root(d: u64) -> u64
     requires { ⌜ d < 2 ^ 54 ⌝ }
     ensures { λ r. ⌜ WholeRoot (d * 2 ^ 54) r ⌝ }

@@ -4,8 +4,7 @@ use Prim.Native.Nat.{_+_, _*_, _^_}
 use native.Mathlib.Nat.{zero-add}
 use native.Mathlib.Omega.{arith}
 use mir.Val.{boolByte}
-use lib.Dec.{leb}
-use Rattle.arith_whole_root.proofs.Steps.{Begun, Turn, place, turn, no-more}
+use Rattle.arith_whole_root.proofs.Steps.{Begun, Turn, place, takes, turn, no-more}
 use Rattle.arith_whole_root.proofs.whole_root.Statement.{statement}
 use Rattle.arith_whole_root.proofs.whole_root.Tie as tie
 
@@ -19,7 +18,7 @@ loop-holds : tie.Need-loop-holds Inv-loop μ-loop
 loop-holds c = record { few = omega arith; room = omega arith; rest = omega arith; square = sym (zero-add _) }
 
 -- what a turn makes of its digit
-digit : (c : tie.In-loop Inv-loop μ-loop) → let s = c .before .loop in Turn (c .before .before .args .d * 2 ^ 54) (s .q) (s .y) (s .k) (boolByte (leb (2 * s .q + place (s .k)) (2 * s .y)))
+digit : (c : tie.In-loop Inv-loop μ-loop) → let s = c .before .loop in Turn (c .before .before .args .d * 2 ^ 54) (s .q) (s .y) (s .k) (boolByte (takes (2 * s .q + place (s .k)) (2 * s .y)))
 digit c = let s = c .before .loop in turn _ (s .q) (s .y) (s .k) (omega arith) (s .inv)
 
 sub-k : tie.Need-sub-k Inv-loop μ-loop
