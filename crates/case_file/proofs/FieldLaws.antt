@@ -4,14 +4,16 @@ use native.Mathlib.Omega.{arith}
 use mathlib.Core.Path.{_≡_, refl, ap, sym, _∙_}
 use mathlib.Core.Bool.{Bool, true, false}
 use mathlib.Core.List.{List}
+use lib.Dec.{eqb}
 use lib.ListN.{length, getD, take, drop, length-take, length-drop}
 use lib.Seq.{ext-getD, getD-take, getD-drop}
+use borrow.Author.Tests.{eqb-true}
 use Rattle.arith.specs.Bytes.{le32, le64, floatAt, vecAt}
 use Rattle.case_file.specs.declared.Counts.{Counts}
-use Rattle.case_file.specs.Trailer.{trailerWord, countsOf, fieldFrom, pressuresFrom, trailerFrom, hasOffsets, hasParts, trailerRight}
+use Rattle.case_file.specs.Trailer.{trailerWord, countsOf, fieldFrom, pressuresFrom, zonesFrom, zoneBytes, trailerFrom, hasOffsets, hasZones, hasParts, trailerRight}
 use Rattle.case_file.specs.Field.{blank, outside, valuesIn, valuesOf}
 use Rattle.case_file.specs.Same.{SameOutsideFields, SameBytes, SameAt}
-use Rattle.case_file.proofs.TrailerLaws.{ends}
+use Rattle.case_file.proofs.TrailerLaws.{zones-some, ends}
 use Rattle.case_file.proofs.OutsideLaws.{outside-counts}
 
 -- ---- numbers in the same bytes
@@ -53,16 +55,16 @@ module _ (a b : List ℕ) (s : SameOutsideFields a b) where
     ends-there : trailerFrom (countsOf a) + 32 ≡ length a
     ends-there = ends a right
 
-    whole : fieldFrom (countsOf a) + 32 * countsOf a .cells ≡ trailerFrom (countsOf a)
-    unfolding fieldFrom trailerFrom
+    ends-behind : zonesFrom (countsOf a) + zoneBytes (countsOf a) + 32 ≡ length a
+    unfolding trailerFrom
+    ends-behind = ends-there
+
+    whole : fieldFrom (countsOf a) + 32 * countsOf a .cells ≡ zonesFrom (countsOf a)
+    unfolding fieldFrom zonesFrom
     whole = omega arith
 
-    parts : pressuresFrom (countsOf a) + 8 * countsOf a .cells ≡ trailerFrom (countsOf a)
-    unfolding pressuresFrom trailerFrom
-    parts = omega arith
-
-    behind : (k : ℕ) → trailerFrom (countsOf a) ≤ k → getD a k 0 ≡ getD b k 0
-    behind k h = s .bytes k (λ w. omega (arith, w .to, parts))
+    behind : (k : ℕ) → zonesFrom (countsOf a) ≤ k → getD a k 0 ≡ getD b k 0
+    behind k h = s .bytes k (λ w. omega (arith, w .to))
 
     before : (k : ℕ) → k < fieldFrom (countsOf a) → getD a k 0 ≡ getD b k 0
     before k h = s .bytes k (λ w. omega (arith, w .from))
@@ -71,15 +73,27 @@ module _ (a b : List ℕ) (s : SameOutsideFields a b) where
     unfolding trailerWord
     word k =
         rw (← s .long)
-        (sym (le32-same a b (length a - 32 + 4 * k) (λ j h. behind (length a - 32 + 4 * k + j) (omega (arith, ends-there)))))
+        (sym (le32-same a b (length a - 32 + 4 * k) (λ j h. behind (length a - 32 + 4 * k + j) (omega (arith, ends-behind)))))
 
     counts : countsOf b ≡ countsOf a
     unfolding countsOf
     counts = rw (word 0, word 1, word 2, word 3)
 
+    -- the offset of the zones, which edition 2 has
+    zones-too : hasZones b (countsOf a) ≡ hasZones a (countsOf a)
+    unfolding hasZones
+    zones-too = by (eqb (countsOf a .edition) 2) refl
+      where
+        by : (t : Bool) → eqb (countsOf a .edition) 2 ≡ t → hasZones b (countsOf a) ≡ hasZones a (countsOf a)
+        by false e = rw e
+        by true e =
+            let z = zones-some (countsOf a) (eqb-true _ _ e) in
+            let w : le32 a (length a - 36) ≡ le32 b (length a - 36) = le32-same a b (length a - 36) (λ j h. behind (length a - 36 + j) (omega (arith, ends-behind, z))) in
+            rw (e, ← s .long, w)
+
     right-too : trailerRight b ≡ true
     unfolding trailerRight hasParts hasOffsets
-    right-too = rw (counts, ← s .long, word 4, word 5, word 6, word 7) right
+    right-too = rw (counts, zones-too, ← s .long, word 4, word 5, word 6, word 7) right
 
     taken : take (fieldFrom (countsOf a)) a ≡ take (fieldFrom (countsOf a)) b
     taken =

@@ -1,4 +1,5 @@
 pub mod ReadLaws
 pub mod TrailerLaws
 pub mod OutsideLaws
+pub mod ZoneLaws
 pub mod FieldLaws

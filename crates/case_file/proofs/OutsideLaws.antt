@@ -1,21 +1,25 @@
--- Outside its field a case reads as before: what opening, walking and points find in the case bytes is what they find in `outside`. Assumes nothing.
+-- Outside its field a case reads as before: what opening, walking, points and zones find in the case bytes is what they find in `outside`. Assumes nothing.
 use Prim.Native.Nat.{ℕ, _+_, _-_, _*_, _≤_, _<_}
 use native.Mathlib.Omega.{arith}
 use mathlib.Core.Path.{_≡_, refl, ap, sym, _∙_}
 use mathlib.Core.Bool.{Bool, true, false}
 use mathlib.Core.List.{List, _++_}
+use lib.Dec.{eqb}
 use lib.ListN.{length, getD, take, drop, replicate, length-append, length-take, length-drop, length-replicate, List·getD-append}
 use lib.Seq.{length-take-le, getD-take, getD-drop, getD-append-add}
-use borrow.Author.Tests.{lt-ltb, le-ltb}
+use borrow.Author.Tests.{lt-ltb, le-ltb, eqb-true}
 use Rattle.arith.specs.Bytes.{le32, le64, floatAt, vecAt}
-use Rattle.case_file.specs.Trailer.{trailerWord, countsOf, wordsFrom, fieldFrom, pressuresFrom, trailerFrom, hasOffsets, hasParts, trailerRight, opened, wordsOf}
+use Rattle.arith.specs.Lists.{allOf}
+use Rattle.arith.specs.Records.{tab}
+use Rattle.arith.proofs.RecordLaws.{tab-same}
+use Rattle.case_file.specs.Trailer.{trailerWord, countsOf, wordsFrom, fieldFrom, pressuresFrom, zonesFrom, zoneBytes, trailerFrom, hasOffsets, hasZones, hasParts, trailerRight, opened, wordsOf}
 use Rattle.case_file.proofs.ReadLaws.{same-readAll}
-use Rattle.case_file.proofs.TrailerLaws.{ends, Opens, opens}
+use Rattle.case_file.proofs.TrailerLaws.{zones-some, ends, Opens, opens}
 use Rattle.arith.specs.F64.{0·0}
 use Rattle.arith.specs.Vec.{origin}
 use Rattle.case_file.specs.declared.Counts.{Counts}
 use Rattle.case_file.specs.declared.Opened.the-variants.{Case}
-use Rattle.case_file.specs.Field.{blank, outside, cellsOf, zeroValues, valuesIn, valuesOf}
+use Rattle.case_file.specs.Field.{blank, outside, cellsOf, zeroValues, valuesIn, valuesOf, zoneIn, zoneOf, zonesOf, isZone, zonesWithin}
 
 module _ (at n : ℕ) (l : List ℕ) (fits : at + n ≤ length l) where
   pub length-blank : length (blank at n l) ≡ length l
@@ -61,8 +65,8 @@ module _ (at n : ℕ) (l : List ℕ) (fits : at + n ≤ length l) where
   vecAt-below i h = rw (le64-below i (omega arith), le64-below (i + 8) (omega arith), le64-below (i + 16) (omega arith))
 
 module _ (file : List ℕ) (right : trailerRight file ≡ true) where
-  long : fieldFrom (countsOf file) + 32 * countsOf file .cells + 32 ≡ length file
-  unfolding fieldFrom trailerFrom
+  long : fieldFrom (countsOf file) + 32 * countsOf file .cells + zoneBytes (countsOf file) + 32 ≡ length file
+  unfolding fieldFrom zonesFrom trailerFrom
   long = let e = ends file right in omega arith
 
   cut : outside file ≡ blank (fieldFrom (countsOf file)) (32 * countsOf file .cells) file
@@ -83,9 +87,25 @@ module _ (file : List ℕ) (right : trailerRight file ≡ true) where
   unfolding countsOf
   same-counts = rw (same-word 0, same-word 1, same-word 2, same-word 3)
 
+  -- the offset of the zones, which edition 2 has
+  same-zones : hasZones (outside file) (countsOf file) ≡ hasZones file (countsOf file)
+  unfolding hasZones
+  same-zones = by (eqb (countsOf file .edition) 2) refl
+    where
+      by : (t : Bool) → eqb (countsOf file .edition) 2 ≡ t → hasZones (outside file) (countsOf file) ≡ hasZones file (countsOf file)
+      by false e = rw e
+      by true e =
+          let z = zones-some (countsOf file) (eqb-true _ _ e) in
+          let m = same-length in
+          let w : le32 (outside file) (length file - 36) ≡ le32 file (length file - 36) =
+          rw cut
+          (le32-above (fieldFrom (countsOf file)) (32 * countsOf file .cells) file (omega (arith, long)) (length file - 36) (omega (arith, long, z)))
+          in
+          rw (e, m, w)
+
   pub same-right : trailerRight (outside file) ≡ true
   unfolding trailerRight hasParts hasOffsets
-  same-right = rw (same-counts, same-length, same-word 4, same-word 5, same-word 6, same-word 7) right
+  same-right = rw (same-counts, same-length, same-zones, same-word 4, same-word 5, same-word 6, same-word 7) right
 
   pub same-opened : opened (outside file) ≡ opened file
   unfolding opened
@@ -103,6 +123,16 @@ module _ (file : List ℕ) (right : trailerRight file ≡ true) where
       (same-readAll _ _ 4 (fieldFrom (countsOf file)) (countsOf file .words) (24 * countsOf file .points)
       (λ i h. le32-below (fieldFrom (countsOf file)) (32 * countsOf file .cells) file (omega (arith, long)) i h)
       (unfold fieldFrom in omega arith))
+
+  -- the zone of a cell, which stands behind the field
+  same-zone : (i : ℕ) → zoneOf (outside file) i ≡ zoneOf file i
+  unfolding zoneOf zoneIn zonesFrom
+  same-zone i =
+      let at : ℕ = 24 * countsOf file .points + 4 * countsOf file .words + 32 * countsOf file .cells + 4 * i in
+      let w : le32 (outside file) at ≡ le32 file at =
+      rw cut (le32-above (fieldFrom (countsOf file)) (32 * countsOf file .cells) file (omega (arith, long)) at (unfold fieldFrom in omega arith))
+      in
+      rw (same-counts, w)
 
 -- ---- for any file, and for a case that opened
 
@@ -126,6 +156,24 @@ module _ (file : List ℕ) where
       by : (t : Bool) → trailerRight file ≡ t → opened (outside file) ≡ opened file
       by true e = same-opened file e
       by false e = ap opened (wrong e)
+
+  -- where lines stop, and refusal 45
+  pub outside-zone : (i : ℕ) → zoneOf (outside file) i ≡ zoneOf file i
+  outside-zone i = by (trailerRight file) refl
+    where
+      by : (t : Bool) → trailerRight file ≡ t → zoneOf (outside file) i ≡ zoneOf file i
+      by true e = same-zone file e i
+      by false e = ap (λ f. zoneOf f i) (wrong e)
+
+  pub outside-zones : zonesOf (outside file) ≡ zonesOf file
+  unfolding zonesOf cellsOf
+  outside-zones =
+      tab-same (zoneOf (outside file)) (zoneOf file) (countsOf (outside file) .cells) (λ i h. outside-zone i)
+      ∙ ap (λ (n : Counts). tab (zoneOf file) (n .cells)) outside-counts
+
+  pub outside-zones-within : zonesWithin (outside file) ≡ zonesWithin file
+  unfolding zonesWithin
+  outside-zones-within = ap (allOf isZone) outside-zones
 
   module _ (n : Counts) (e : opened file ≡ Case n) where
     o : Opens file n

@@ -1,5 +1,5 @@
--- The ways out of `has_parts` and of `open`, and what a case that opened has. Assumes nothing.
-use Prim.Native.Nat.{ℕ, _+_, _*_, _≤_, _<_}
+-- The ways out of `has_zones`, of `has_parts` and of `open`, and what a case that opened has. Assumes nothing.
+use Prim.Native.Nat.{ℕ, _+_, _-_, _*_, _≤_, _<_}
 use native.Mathlib.Omega.{arith}
 use mathlib.Core.Path.{_≡_, refl, sym, _∙_}
 use mathlib.Core.Bool.{Bool, true, false, _&&_, _||_}
@@ -7,9 +7,10 @@ use mathlib.Core.List.{List}
 use lib.Dec.{leb, ltb, eqb}
 use lib.ListN.{length}
 use borrow.Author.Tests.{eq-eqb, ne-eqb, le-leb, lt-leb, eqb-true, ltb-false}
+use Rattle.arith.specs.Bytes.{le32}
 use Rattle.case_file.specs.declared.Counts.{Counts}
 use Rattle.case_file.specs.declared.Opened.the-variants.{Case, Refused}
-use Rattle.case_file.specs.Trailer.{trailerWord, countsOf, wordsFrom, fieldFrom, pressuresFrom, trailerFrom, isDimension, hasOffsets, hasParts, trailerRight, overLimit, opened}
+use Rattle.case_file.specs.Trailer.{trailerWord, countsOf, wordsFrom, fieldFrom, pressuresFrom, zonesFrom, zoneBytes, trailerFrom, isDimension, hasOffsets, hasZones, hasParts, trailerRight, overLimit, opened}
 
 and-false : (a b : Bool) → b ≡ false → false ≡ (a && b)
 and-false true b e = sym e
@@ -22,6 +23,31 @@ and-left false b e = absurd (let z : _≡_ {A = ℕ} 0 1 = cc in omega arith)
 pub and-right : (a b : Bool) → (a && b) ≡ true → b ≡ true
 and-right true b e = e
 and-right false b e = absurd (let z : _≡_ {A = ℕ} 0 1 = cc in omega arith)
+
+-- ---- the zones
+
+-- how long they are, by edition
+pub zones-none : (n : Counts) → (n .edition ≡ 2 → ⊥) → 0 ≡ zoneBytes n
+unfolding zoneBytes
+zones-none n h = rw (ne-eqb (n .edition) 2 h)
+
+pub zones-some : (n : Counts) → n .edition ≡ 2 → 4 * n .cells + 4 ≡ zoneBytes n
+unfolding zoneBytes
+zones-some n h = rw (eq-eqb (n .edition) 2 h)
+
+module _ (file : List ℕ) (n : Counts) where
+  pub zones-first : (n .edition ≡ 2 → ⊥) → true ≡ hasZones file n
+  unfolding hasZones
+  zones-first h = rw (ne-eqb (n .edition) 2 h)
+
+  module _ (two : n .edition ≡ 2) where
+    pub zones-short : length file < 36 → false ≡ hasZones file n
+    unfolding hasZones
+    zones-short h = rw (eq-eqb (n .edition) 2 two, lt-leb 36 (length file) h)
+
+    pub zones-placed : (r : ℕ) → 36 ≤ length file → r ≡ le32 file (length file - 36) → eqb r (24 * n .points + 4 * n .words + 32 * n .cells) ≡ hasZones file n
+    unfolding hasZones zonesFrom
+    zones-placed r h e = rw (eq-eqb (n .edition) 2 two, le-leb 36 (length file) h, e)
 
 -- ---- the offsets and the length
 
@@ -54,13 +80,18 @@ module _ (file : List ℕ) (n : Counts) where
       (eqb (trailerWord file 7) (24 * n .points + 4 * n .words + 24 * n .cells))
       (differs 7 (24 * n .points + 4 * n .words + 24 * n .cells) r e d))
 
-  pub right-offsets : (r4 r5 r6 r7 : ℕ) → r4 ≡ trailerWord file 4 → r4 ≡ 0 → r5 ≡ trailerWord file 5 → r5 ≡ 24 * n .points →
+  pub wrong-zones : hasZones file n ≡ false → false ≡ hasParts file n
+  unfolding hasParts
+  wrong-zones e = rw (← and-false (hasOffsets file n) (hasZones file n) e)
+
+  pub right-offsets : (r4 r5 r6 r7 z : ℕ) → r4 ≡ trailerWord file 4 → r4 ≡ 0 → r5 ≡ trailerWord file 5 → r5 ≡ 24 * n .points →
       r6 ≡ trailerWord file 6 → r6 ≡ 24 * n .points + 4 * n .words → r7 ≡ trailerWord file 7 → r7 ≡ 24 * n .points + 4 * n .words + 24 * n .cells →
-      eqb (length file) (24 * n .points + 4 * n .words + 24 * n .cells + 8 * n .cells + 32) ≡ hasParts file n
-  unfolding hasParts hasOffsets wordsFrom fieldFrom pressuresFrom trailerFrom
-  right-offsets r4 r5 r6 r7 e4 h4 e5 h5 e6 h6 e7 h7 =
-      let end : 24 * n .points + 4 * n .words + 24 * n .cells + 8 * n .cells + 32 ≡ 24 * n .points + 4 * n .words + 32 * n .cells + 32 = omega arith in
-      rw (end, eq-eqb _ _ (sym e4 ∙ h4), eq-eqb _ _ (sym e5 ∙ h5), eq-eqb _ _ (sym e6 ∙ h6), eq-eqb _ _ (sym e7 ∙ h7))
+      z ≡ zoneBytes n → hasZones file n ≡ true →
+      eqb (length file) (24 * n .points + 4 * n .words + 24 * n .cells + 8 * n .cells + z + 32) ≡ hasParts file n
+  unfolding hasParts hasOffsets wordsFrom fieldFrom pressuresFrom zonesFrom trailerFrom
+  right-offsets r4 r5 r6 r7 z e4 h4 e5 h5 e6 h6 e7 h7 ez hz =
+      let end : 24 * n .points + 4 * n .words + 24 * n .cells + 8 * n .cells + z + 32 ≡ 24 * n .points + 4 * n .words + 32 * n .cells + zoneBytes n + 32 = omega arith in
+      rw (end, eq-eqb _ _ (sym e4 ∙ h4), eq-eqb _ _ (sym e5 ∙ h5), eq-eqb _ _ (sym e6 ∙ h6), eq-eqb _ _ (sym e7 ∙ h7), hz)
 
 -- ---- the answers of `open`
 
@@ -101,7 +132,7 @@ module _ (file : List ℕ) where
 pub record Opens (file : List ℕ) (n : Counts) : Type 0 where
   pub same : n ≡ countsOf file
   pub right : trailerRight file ≡ true
-  pub whole : 24 * n .points + 4 * n .words + 32 * n .cells + 32 ≡ length file
+  pub whole : 24 * n .points + 4 * n .words + 32 * n .cells + zoneBytes n + 32 ≡ length file
   pub points : n .points ≤ 65536
   pub cells : n .cells ≤ 16384
   pub words : n .words ≤ 1048576
@@ -109,7 +140,8 @@ pub record Opens (file : List ℕ) (n : Counts) : Type 0 where
 -- a file whose trailer is right ends with it
 pub ends : (file : List ℕ) → trailerRight file ≡ true → trailerFrom (countsOf file) + 32 ≡ length file
 unfolding trailerRight hasParts
-ends file e = sym (eqb-true _ _ (and-right (hasOffsets file (countsOf file)) _ (and-right (leb 32 (length file) && isDimension (countsOf file .dimension)) _ e)))
+ends file e =
+    sym (eqb-true _ _ (and-right (hasOffsets file (countsOf file) && hasZones file (countsOf file)) _ (and-right (leb 32 (length file) && isDimension (countsOf file .dimension)) _ e)))
 
 within : (n : Counts) → overLimit n ≡ false → (n .points ≤ 65536) × (n .cells ≤ 16384) × (n .words ≤ 1048576)
 unfolding overLimit
@@ -138,5 +170,5 @@ opens file n e = by (trailerRight file) refl (overLimit (countsOf file)) refl
     by true r false v =
         let m : n ≡ countsOf file = cc in
         let w = within (countsOf file) v in
-        let all : 24 * countsOf file .points + 4 * countsOf file .words + 32 * countsOf file .cells + 32 ≡ length file = unfold trailerFrom in ends file r in
+        let all : 24 * countsOf file .points + 4 * countsOf file .words + 32 * countsOf file .cells + zoneBytes (countsOf file) + 32 ≡ length file = unfold trailerFrom in unfold zonesFrom in ends file r in
         record { same = m; right = r; whole = rw m all; points = rw m (w .0); cells = rw m (w .1); words = rw m (w .2) }

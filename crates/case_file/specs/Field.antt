@@ -1,23 +1,27 @@
--- The field of a case, and the case without it: "Reading follows from the case bytes and the requests".
+-- The field of a case, the case without it, and its zones: "Reading follows from the case bytes and the requests".
 -- `blank`, `outside`: the case without its field. `cellsOf`: how many cells it has.
 -- `zeroValues`, `valuesIn`, `valuesOf`: the values of a cell.
+-- `zoneIn`, `zoneOf`, `zonesOf`: the zones of the cells. `isZone`, `zonesWithin`: refusal 45.
 use Prim.Native.Nat.{ℕ, _+_, _*_}
-use mathlib.Core.Bool.{true, false, cond}
+use mathlib.Core.Bool.{Bool, true, false, cond, _&&_}
 use mathlib.Core.List.{List, _++_}
-use lib.Dec.{ltb}
+use lib.Dec.{leb, ltb, eqb}
 use lib.ListN.{take, drop, replicate}
 use Rattle.arith.specs.F64.{0·0}
 use Rattle.arith.specs.Vec.{origin}
-use Rattle.arith.specs.Bytes.{floatAt, vecAt}
+use Rattle.arith.specs.Bytes.{le32, floatAt, vecAt}
+use Rattle.arith.specs.Lists.{allOf}
+use Rattle.arith.specs.Records.{tab}
 use Rattle.reading.specs.declared.Values.{Values}
 use Rattle.case_file.specs.declared.Counts.{Counts}
-use Rattle.case_file.specs.Trailer.{countsOf, trailerRight, fieldFrom, pressuresFrom}
+use Rattle.case_file.specs.Trailer.{countsOf, trailerRight, fieldFrom, pressuresFrom, zonesFrom}
 
 -- a file with zeros in the place of n bytes
 unfoldable pub blank : ℕ → ℕ → List ℕ → List ℕ
 blank at n file = take at file ++ (replicate n 0 ++ drop (at + n) file)
 
--- the case with zeros in the place of its velocities and pressures; "a file that gives refusal 1 has no velocities or pressures"
+-- the case with zeros in the place of its velocities and pressures; "a file that gives refusal 1 has no velocities or pressures". The zones stay:
+-- "The planner's and the maker's files must share zones as well as mesh."
 unfoldable pub outside : List ℕ → List ℕ
 outside file =
     let n = countsOf file in
@@ -39,3 +43,23 @@ valuesIn file n i =
 -- those of a case
 unfoldable pub valuesOf : List ℕ → ℕ → Values
 valuesOf file i = valuesIn file (countsOf file) i
+
+-- "a u32 zone per cell after the pressures"; "In edition 1 every zone is 0." What is no cell has zone 0
+unfoldable pub zoneIn : List ℕ → Counts → ℕ → ℕ
+zoneIn file n i = cond (eqb (n .edition) 2 && ltb i (n .cells)) (le32 file (zonesFrom n + 4 * i)) 0
+
+-- that of cell i of a case
+unfoldable pub zoneOf : List ℕ → ℕ → ℕ
+zoneOf file i = zoneIn file (countsOf file) i
+
+-- those of all its cells
+unfoldable pub zonesOf : List ℕ → List ℕ
+zonesOf file = tab (zoneOf file) (cellsOf file)
+
+-- no "zone above 255"
+unfoldable pub isZone : ℕ → Bool
+isZone z = leb z 255
+
+-- refusal 45 is not due
+unfoldable pub zonesWithin : List ℕ → Bool
+zonesWithin file = allOf isZone (zonesOf file)

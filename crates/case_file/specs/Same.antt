@@ -1,16 +1,17 @@
--- What demand 3 asks of its two files: they may differ in velocities and pressures alone, and have the same ones at some cells.
+-- What demand 3 asks of its two files: they may differ in velocities and pressures alone, and have the same ones at some cells. So they "share zones as
+-- well as mesh".
 use Prim.Native.Nat.{ℕ, _+_, _*_, _≤_, _<_}
 use mathlib.Core.Path.{_≡_}
 use mathlib.Core.Bool.{true}
 use mathlib.Core.List.{List}
 use lib.ListN.{length, getD}
-use Rattle.case_file.specs.Trailer.{countsOf, trailerRight, fieldFrom, pressuresFrom, trailerFrom}
+use Rattle.case_file.specs.Trailer.{countsOf, trailerRight, fieldFrom, pressuresFrom, zonesFrom}
 
 -- byte k is one of the velocities or pressures; "a file that gives refusal 1 has no velocities or pressures"
 pub record InField (file : List ℕ) (k : ℕ) : Type 0 where
   pub right : trailerRight file ≡ true
   pub from : fieldFrom (countsOf file) ≤ k
-  pub to : k < trailerFrom (countsOf file)
+  pub to : k < zonesFrom (countsOf file)
 
 -- "both files have the same length", and the same bytes outside velocities and pressures
 pub record SameOutsideFields (a b : List ℕ) : Type 0 where

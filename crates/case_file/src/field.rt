@@ -1,5 +1,5 @@
-// The fields of a case, by cell: `read_cell` alone gives the values of a cell, and it marks the
-// cell. The points of a case are read by `mesh_area::point_at`.
+// The fields and the zones of a case, by cell: `read_cell` alone gives the values of a cell, and it
+// marks the cell. The points of a case are read by `mesh_area::point_at`.
 use crate::Counts;
 use crate::Opened;
 use arith::Vec3;
@@ -10,7 +10,7 @@ ghost use lib.ListN.{set};
 ghost use Rattle.reading.specs.Asks.{ask, give};
 ghost use Rattle.reading.specs.Served.{Served};
 ghost use Rattle.case_file.specs.Trailer.{opened};
-ghost use Rattle.case_file.specs.Field.{valuesOf};
+ghost use Rattle.case_file.specs.Field.{valuesOf, zoneOf, zonesWithin};
 
 // The velocity and the pressure of cell i; zeros where there is none.
 fn values(case: &[u8], n: Counts, i: usize) -> Values
@@ -51,4 +51,34 @@ pub fn read_cell(case: &[u8], n: Counts, marks: &mut [u8], i: usize) -> Values
 {
     mark(marks, i);
     values(case, n, i)
+}
+
+// The zone of cell i; 0 in edition 1, and for what is no cell.
+pub fn zone(case: &[u8], n: Counts, i: usize) -> u32
+    requires { ⌜ opened (now case) ≡ Opened.Case n ⌝ }
+    ensures { λ r. ⌜ r ≡ zoneOf (now (case .entry)) i ⌝ }
+{
+    if n.edition != 2 {
+        return 0;
+    }
+    if n.cells <= i {
+        return 0;
+    }
+    let zones = 24 * n.points + 4 * n.words + 32 * n.cells;
+    bytes::word_at(case, zones + 4 * i)
+}
+
+// No zone is above 255.
+pub fn zones_within(case: &[u8], n: Counts) -> bool
+    requires { ⌜ opened (now case) ≡ Opened.Case n ⌝ }
+    ensures { λ r. ⌜ r ≡ zonesWithin (now (case .entry)) ⌝ }
+{
+    let mut i = 0;
+    while i < n.cells {
+        if zone(case, n, i) > 255 {
+            return false;
+        }
+        i += 1;
+    }
+    true
 }

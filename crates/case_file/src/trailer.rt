@@ -18,15 +18,42 @@ fn trailer_word(case: &[u8], k: usize) -> usize
     bytes::word_at(case, at) as usize
 }
 
+// What the dimension word says: the edition, and the dimension.
+fn edition(w: usize) -> usize
+    ensures { λ r. ⌜ r ≡ Trailer.editionOf w ⌝ }
+{
+    if w == 102 {
+        return 2;
+    }
+    if w == 103 {
+        return 2;
+    }
+    1
+}
+
+fn dimension(w: usize) -> usize
+    ensures { λ r. ⌜ r ≡ Trailer.dimensionOf w ⌝ }
+{
+    if w == 102 {
+        return 2;
+    }
+    if w == 103 {
+        return 3;
+    }
+    w
+}
+
 fn counts(case: &[u8]) -> Counts
     requires { ⌜ 32 ≤ length (now case) ⌝ }
     ensures { λ r. ⌜ Contracts.CountsExit (now (case .entry)) r ⌝ }
 {
+    let w = trailer_word(case, 0);
     Counts {
-        dimension: trailer_word(case, 0),
+        dimension: dimension(w),
         points: trailer_word(case, 1),
         words: trailer_word(case, 2),
         cells: trailer_word(case, 3),
+        edition: edition(w),
     }
 }
 
@@ -39,6 +66,33 @@ fn is_dimension(d: usize) -> bool
     d == 3
 }
 
+// What edition 2 has between the pressures and the trailer: the zones and their offset.
+fn zone_bytes(n: Counts) -> usize
+    requires { ⌜ n .cells < 2^32 ⌝ }
+    ensures { λ r. ⌜ (r ≡ Trailer.zoneBytes n) × (r ≤ 17179869184) ⌝ }
+{
+    if n.edition != 2 {
+        return 0;
+    }
+    4 * n.cells + 4
+}
+
+// The offset of the zones is as the counts say, summed exactly, where there are zones.
+fn has_zones(case: &[u8], n: Counts) -> bool
+    requires { ⌜ Contracts.CountsExit (now case) n ⌝ }
+    ensures { λ r. ⌜ r ≡ Trailer.hasZones (now (case .entry)) n ⌝ }
+{
+    if n.edition != 2 {
+        return true;
+    }
+    if case.len() < 36 {
+        return false;
+    }
+    let zones = 24 * n.points + 4 * n.words + 32 * n.cells;
+    let at = case.len() - 36;
+    bytes::word_at(case, at) as usize == zones
+}
+
 // The offsets and the file's length are as the counts say, summed exactly.
 fn has_parts(case: &[u8], n: Counts) -> bool
     requires { ⌜ (32 ≤ length (now case)) × Contracts.CountsExit (now case) n ⌝ }
@@ -47,7 +101,7 @@ fn has_parts(case: &[u8], n: Counts) -> bool
     let words = 24 * n.points;
     let velocities = words + 4 * n.words;
     let pressures = velocities + 24 * n.cells;
-    let end = pressures + 8 * n.cells + 32;
+    let end = pressures + 8 * n.cells + zone_bytes(n) + 32;
     if trailer_word(case, 4) != 0 {
         return false;
     }
@@ -58,6 +112,9 @@ fn has_parts(case: &[u8], n: Counts) -> bool
         return false;
     }
     if trailer_word(case, 7) != pressures {
+        return false;
+    }
+    if !has_zones(case, n) {
         return false;
     }
     case.len() == end

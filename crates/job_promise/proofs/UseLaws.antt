@@ -8,7 +8,7 @@ use mathlib.Core.List.{List}
 use lib.ListN.{getD, set, length-set}
 use lib.Seq.{getD-set-other}
 use Rattle.reading.specs.After.{After, Named}
-use Rattle.case_file.specs.Trailer.{countsOf, trailerRight, fieldFrom, pressuresFrom, trailerFrom}
+use Rattle.case_file.specs.Trailer.{countsOf, trailerRight, fieldFrom, pressuresFrom, zonesFrom}
 use Rattle.case_file.specs.Field.{cellsOf}
 use Rattle.case_file.specs.Same.{SameOutsideFields, SameAt}
 use Rattle.job_promise.specs.Job.{outcome}
@@ -24,9 +24,9 @@ module _ (case : List ℕ) (right : trailerRight case ≡ true) (i : ℕ) (cell 
   unfolding fieldFrom pressuresFrom cellsOf
   pressures-follow = omega arith
 
-  trailer-follows : trailerFrom (countsOf case) ≡ pressuresFrom (countsOf case) + 8 * cellsOf case
-  unfolding trailerFrom pressuresFrom cellsOf
-  trailer-follows = omega arith
+  zones-follow : zonesFrom (countsOf case) ≡ pressuresFrom (countsOf case) + 8 * cellsOf case
+  unfolding zonesFrom pressuresFrom cellsOf
+  zones-follow = omega arith
 
   other : (k j : ℕ) → (j ≡ k → ⊥) → getD case j 0 ≡ getD (set case k v) j 0
   other k j n = sym (getD-set-other case k j v 0 n)
@@ -37,13 +37,13 @@ module _ (case : List ℕ) (right : trailerRight case ≡ true) (i : ℕ) (cell 
       let k = fieldFrom (countsOf case) + 24 * i + q in
       record {
         long = sym (length-set case k v);
-        bytes = λ j n. other k j (λ e. n (record { right = right; from = omega (arith, e); to = omega (arith, e, pressures-follow, trailer-follows) }));
+        bytes = λ j n. other k j (λ e. n (record { right = right; from = omega (arith, e); to = omega (arith, e, pressures-follow, zones-follow) }));
       }
   rest-same (pressure q h) =
       let k = pressuresFrom (countsOf case) + 8 * i + q in
       record {
         long = sym (length-set case k v);
-        bytes = λ j n. other k j (λ e. n (record { right = right; from = omega (arith, e, pressures-follow); to = omega (arith, e, trailer-follows) }));
+        bytes = λ j n. other k j (λ e. n (record { right = right; from = omega (arith, e, pressures-follow); to = omega (arith, e, zones-follow) }));
       }
 
   -- and every other cell has its bits

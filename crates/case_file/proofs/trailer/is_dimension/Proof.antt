@@ -1,4 +1,3 @@
--- `case_file::trailer::is_dimension` meets its contract. Assumes nothing.
 use borrow.Author.Tests.{eq-eqb, ne-eqb}
 use Rattle.case_file.specs.Trailer.{isDimension}
 use Rattle.case_file.proofs.trailer.is_dimension.Statement.{statement}

@@ -1,4 +1,3 @@
--- `case_file::trailer::is_over` meets its contract. Assumes nothing.
 use borrow.Author.Tests.{lt-ltb, le-ltb}
 use Rattle.case_file.specs.Trailer.{overLimit}
 use Rattle.case_file.proofs.trailer.is_over.Statement.{statement}

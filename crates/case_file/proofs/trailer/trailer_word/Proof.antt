@@ -1,4 +1,3 @@
--- `case_file::trailer::trailer_word` meets its contract. Assumes nothing.
 use borrow.Author.Needs.{needs}
 use Rattle.case_file.specs.Trailer.{trailerWord}
 use Rattle.case_file.proofs.trailer.trailer_word.Statement.{statement}
