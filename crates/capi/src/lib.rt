@@ -26,7 +26,8 @@ pub extern "C" fn hookyellow_job(
 }
 
 // Answers 0 and stores the least number of work words, of floats and of marks of a job on a case;
-// or stores nothing and answers the refusal of the case (1 to 3), or 21 for fewer than three places.
+// or stores nothing and answers the refusal of the case (1 to 3, or 45), or 21 for fewer than three
+// places.
 #[no_mangle]
 pub extern "C" fn hookyellow_needs(case: &[u8], needs: &mut [usize]) -> u64
     ensures { λ r. ⌜ r ≡ needsNumber (surveyOf (now (case .entry))) (length (now (needs .entry))) ⌝ }

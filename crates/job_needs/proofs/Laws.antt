@@ -29,7 +29,7 @@ refused-told file k e l = (rw e, rw e)
 
 module _ (file : List ℕ) (n : Counts) (f : ℕ) (s : Surveys file n f) where
   there : surveyOf file ≡ fine (record { counts = n; definitions = s .ds })
-  there = survey-right file n (s .opens) (s .ds) (s .right)
+  there = survey-right file n (s .opens) (s .ds) (s .right) (s .zones)
 
   pub few : (f ≤ 1048576) × (n .cells ≤ 16384)
   few =

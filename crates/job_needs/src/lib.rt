@@ -9,7 +9,8 @@ ghost use Rattle.job_needs.specs.Needs.{needsNumber, needsOf};
 const NO_PLACE: u64 = 21;
 
 // Answers 0 and stores the least number of work words, of floats and of marks of a job on a case;
-// or stores nothing and answers the refusal of the case (1 to 3), or 21 for fewer than three places.
+// or stores nothing and answers the refusal of the case (1 to 3, or 45), or 21 for fewer than three
+// places.
 pub fn needs(case: &[u8], needs: &mut [usize]) -> u64
     ensures { λ r. ⌜ r ≡ needsNumber (surveyOf (now (case .entry))) (length (now (needs .entry))) ⌝ }
     ensures { λ _. ⌜ now (needs .exit) ≡ needsOf (surveyOf (now (case .entry))) (now (needs .entry)) ⌝ }

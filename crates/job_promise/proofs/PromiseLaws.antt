@@ -3,10 +3,11 @@ use Prim.Native.Nat.{ℕ, zero, suc, _+_, _-_, _*_, _/_, _≤_, _<_}
 use native.Mathlib.Omega.{arith}
 use native.Mathlib.Decide.{ℕ-discrete}
 use mathlib.Core.Path.{_≡_, refl, ap, sym, _∙_, subst}
-use mathlib.Core.Bool.{Bool, true, false, cond}
+use mathlib.Core.Bool.{Bool, true, false, cond, _||_}
 use mathlib.Core.Logic.{⊎-elim}
 use mathlib.Core.List.{List, [], _∷_, _++_, map, append-assoc, List·Memᴰ, List·Memᴰ·not-nil, List·Memᴰ·append-cases, Memᴰ·append-left, Memᴰ·append-right}
-use lib.Dec.{leb}
+use lib.Dec.{leb, eqb}
+use borrow.Author.Tests.{eqb-true}
 use lib.ListN.{length, getD, drop, replicate}
 use lib.Ieee.{Float}
 use Rattle.arith.specs.Lists.{flatten}
@@ -26,14 +27,15 @@ use Rattle.job_room.specs.declared.Prepared.the-variants as Prepared
 use Rattle.job_room.specs.Contracts.{roomIn, countsIn, PrepareExit}
 use Rattle.job_room.proofs.Laws.{prepared-outside, preparing-refused}
 use Rattle.answers.specs.Answer.{fitting, answerWords}
-use Rattle.job_reads.proofs.Ranges.{Ranged, due, none, among-is, between}
-use Rattle.job_reads.proofs.JobRefusals.{job-refusals}
+use Rattle.job_reads.proofs.Ranges.{Ranged, due, none, among-is, told}
+use Rattle.job_reads.proofs.Ranges as Ranges
+use Rattle.job_reads.proofs.JobRefusals.{jobNumber, job-refusals}
 use Rattle.job_reads.proofs.RequestRefusals.{request-refusals}
 use Rattle.job_promise.specs.declared.Outcome.the-variants.{Done, Refused}
 use Rattle.job_promise.specs.List.{isFlat, replyTo, serveAll}
 use Rattle.job_promise.specs.Contracts.{answerTo}
 use Rattle.job_promise.specs.Job.{jobOf, lentTo, outcome, outcomeOf}
-use Rattle.job_promise.specs.Promise.{ResultNumber, accepted, rejected, Answers, end, served, denied, ReadBySome, Mark, marked, clear, JobPromise}
+use Rattle.job_promise.specs.Promise.{ResultNumber, accepted, rejected, rejected-45, Answers, end, served, denied, ReadBySome, Mark, marked, clear, JobPromise}
 use Rattle.job_promise.proofs.ListLaws.{run-all}
 use Rattle.job_promise.proofs.JobLaws.{job-refused, job-done}
 use Rattle.job_promise.proofs.Demand3.{reads-each, two-runs, left-is, read-is-marked, marked-is-read, unread-is-clear, later-kept}
@@ -41,7 +43,7 @@ use Rattle.job_promise.proofs.Demand3.{reads-each, two-runs, left-is, r
 -- ---- the answers of a list
 
 -- one answer before the others
-one-answer : (left later : ℕ) {a : Result (List ℕ)} {n : ℕ} {rest : List ℕ} → Ranged 30 44 a → Answers n rest → Answers (suc n) (answerWords (fitting left later a) ++ rest)
+one-answer : (left later : ℕ) {a : Result (List ℕ)} {n : ℕ} {rest : List ℕ} → Ranged (Ranges.among 30 44) a → Answers n rest → Answers (suc n) (answerWords (fitting left later a) ++ rest)
 unfolding fitting answerWords
 one-answer left later (due k h) w = let b = among-is 30 44 k h in denied (b .0) (b .1) w
 one-answer left later {n = n} {rest = rest} (none {a = ws}) w = by (leb (length ws + 2 + 2 * later) left)
@@ -99,8 +101,22 @@ module _ (case requests : List ℕ) (words floats : ℕ) (answers marks : List �
     unfolding outcome jobOf done _>>=_
     refused-is = rw (prepared-outside case (length requests) with ∙ shut)
 
-    pub refused-number : (1 ≤ k) × (k ≤ 19)
-    refused-number = between k (rw shut at (job-refusals case (length requests) with))
+    told-number : jobNumber k ≡ true
+    told-number = told k (rw shut at (job-refusals case (length requests) with))
+
+    pub refused-number : ResultNumber (refused k) k
+    refused-number = by (Ranges.among 1 19 k) refl told-number
+      where
+        by : (t : Bool) → Ranges.among 1 19 k ≡ t → (t || eqb k 45) ≡ true → ResultNumber (refused k) k
+        by true e h = let b = among-is 1 19 k e in rejected (b .0) (b .1)
+        by false e h = let same = eqb-true k 45 h in rw same rejected-45
+
+    pub refused-above : 1 ≤ k
+    refused-above = by (Ranges.among 1 19 k) refl told-number
+      where
+        by : (t : Bool) → Ranges.among 1 19 k ≡ t → (t || eqb k 45) ≡ true → 1 ≤ k
+        by true e h = among-is 1 19 k e .0
+        by false e h = omega (arith, eqb-true k 45 h)
 
   -- an accepted job
   module _ (room : Room) (built : room-of ≡ fine room) where
@@ -152,7 +168,7 @@ module _ (case requests : List ℕ) (words floats : ℕ) (answers marks : List �
         (all-answers room (valuesOf case) (length answers) (requestsIn requests) (length answers - used))
 
   numbered : (p : Result Room) → room-of ≡ p → ResultNumber p (out .result)
-  numbered (refused k) e = let b = refused-number k e in rw (refused-is k e) (rejected (b .0) (b .1))
+  numbered (refused k) e = rw (refused-is k e) (refused-number k e)
   numbered (fine room) e = rw (accepted-number room e) accepted
 
   -- a job whose number is 0 had its room built
@@ -160,7 +176,7 @@ module _ (case requests : List ℕ) (words floats : ℕ) (answers marks : List �
   if-accepted {P} h z = by room-of refl
     where
       by : (p : Result Room) → room-of ≡ p → P
-      by (refused k) e = absurd (let b = refused-number k e in let w = ap (λ (a : After). a .result) (refused-is k e) in omega (arith, b, w, z))
+      by (refused k) e = absurd (let b = refused-above k e in let w = ap (λ (a : After). a .result) (refused-is k e) in omega (arith, b, w, z))
       by (fine room) e = h room e
 
   kept : (p : Result Room) → room-of ≡ p → drop (cellsOf case) (out .marks) ≡ drop (cellsOf case) marks
@@ -185,7 +201,7 @@ module _ (case requests : List ℕ) (words floats : ℕ) (answers marks : List �
 
   pub refused-promise : {w : List ℕ} {f : List Float} {x : Prepared} {k : ℕ} → PrepareExit room-of case w f x → x ≡ Prepared.Refused k
       → JobPromise case requests words floats answers marks (record { result = k; answers = answers; marks = marks }) × (Refused k ≡ outcomeOf k)
-  refused-promise {k = k} p e = (left (job-refused case requests words floats answers marks p e), never-0 k (refused-number k (preparing-refused p e) .0))
+  refused-promise {k = k} p e = (left (job-refused case requests words floats answers marks p e), never-0 k (refused-above k (preparing-refused p e)))
 
   pub done-promise : {w : List ℕ} {f : List Float} {x : Prepared} {p : Place} {answers′ marks′ : List ℕ} → PrepareExit room-of case w f x → x ≡ Prepared.Ready p
       → Left (done (fine (serveAll (roomIn case w f p) (length answers) (requestsIn requests))) (valuesOf case) (countsIn p .cells) answers marks) 0 answers′ marks′

@@ -15,10 +15,11 @@ use Rattle.job_promise.specs.Job.{lentTo, outcome}
 
 -- ---- the numbers of refusals
 
--- "Refused jobs (1 to 19) give only the number"; 0 is the number of an accepted job, whose room was built
+-- "Refused jobs (1 to 19) give only the number", and 45 "refuses the job as 1 to 19 do"; 0 is the number of an accepted job, whose room was built
 pub data ResultNumber : Result Room → ℕ → Type 0 where
   accepted : {room : Room} → ResultNumber (fine room) 0
   rejected : {k : ℕ} → 1 ≤ k → k ≤ 19 → ResultNumber (refused k) k
+  rejected-45 : ResultNumber (refused 45) 45
 
 -- so many answers, and zeros behind them: "refusal (0 if none), word count n, then n words; a refusal has n = 0", and its number is from 30 to 44
 pub data Answers : ℕ → List ℕ → Type 0 where

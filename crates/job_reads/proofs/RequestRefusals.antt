@@ -39,7 +39,7 @@ use Rattle.job_serve.specs.Serve.{serveFlat, serveSolid, serve}
 use Rattle.job_reads.proofs.Ranges.{among, Ranged, due, none, bind, barred, either, through}
 
 abbrev pub Answer : {A : Type 0} → Result A → Type 0
-Answer r = Ranged 30 44 r
+Answer r = Ranged (among 30 44) r
 
 -- ---- 30 to 33, 36 to 38: a request that is refused when it is taken apart
 

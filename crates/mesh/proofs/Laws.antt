@@ -37,7 +37,7 @@ use Rattle.arith.specs.F64.{within}
 use Rattle.reading.proofs.ResultLaws.{bound}
 use Rattle.arith.specs.Records.{part}
 use Rattle.arith.proofs.RecordLaws.{tab-same}
-use Rattle.case_file.specs.Field.{outside}
+use Rattle.case_file.specs.Field.{outside, zonesWithin}
 use Rattle.case_file.proofs.OutsideLaws.{outside-point}
 use Rattle.case_definitions.proofs.Walking.{words-part}
 use Rattle.case_definitions.proofs.RecordLaws.{definition-read}
@@ -131,7 +131,7 @@ module _ (ps : List Vec3) (s : Sizes) (w w′ w″ : List ℕ) (floats : List Fl
       built (join-fine ps (facesIn s w floats) (cellsIn s w floats) e (sym reached ∙ g) ∙ ap fine (sym mesh-joined)) refl
       (record { few-slots = lw .few-slots; few-faces = lw .few-faces; few-cells = lw .few-cells; long = rw n (lw .long) }) lf
 
--- ---- 1, 2 and 3
+-- ---- 1, 2, 3 and 45
 
 module _ (file : List ℕ) where
   pub survey-shut : (k : ℕ) → opened file ≡ Opened.Refused k → surveyOf file ≡ refused k
@@ -143,9 +143,14 @@ module _ (file : List ℕ) where
     unfolding surveyOf openedCase _>>=_
     survey-wrong k e = rw (o, openedCase, _>>=_) (rw (e, _>>=_))
 
-    pub survey-right : (ds : List Definition) → definitions (n .cells) (wordsOf file n) ≡ fine ds → surveyOf file ≡ fine (record { counts = n; definitions = ds })
-    unfolding surveyOf openedCase _>>=_
-    survey-right ds e = rw (o, openedCase, _>>=_) (rw (e, _>>=_))
+    module _ (ds : List Definition) (e : definitions (n .cells) (wordsOf file n) ≡ fine ds) where
+      pub survey-zoned : zonesWithin file ≡ false → surveyOf file ≡ refused 45
+      unfolding surveyOf openedCase refuse _>>=_
+      survey-zoned z = rw (o, openedCase, _>>=_) (rw (e, _>>=_) (rw (z, refuse, _>>=_)))
+
+      pub survey-right : zonesWithin file ≡ true → surveyOf file ≡ fine (record { counts = n; definitions = ds })
+      unfolding surveyOf openedCase refuse _>>=_
+      survey-right z = rw (o, openedCase, _>>=_) (rw (e, _>>=_) (rw (z, refuse, _>>=_)))
 
 -- the lent slice has the words of the case
 pub words-same : (file : List ℕ) (n : Counts) → opened file ≡ Opened.Case n → (l : List ℕ) → l ≡ part file (wordsFrom n) (4 * n .words) → wordsIn l ≡ wordsOf file n
@@ -162,21 +167,23 @@ pub record Surveys (file : List ℕ) (n : Counts) (f : ℕ) : Type 0 where
   pub ds : List Definition
   pub opens : opened file ≡ Opened.Case n
   pub right : definitions (n .cells) (wordsOf file n) ≡ fine ds
+  pub zones : zonesWithin file ≡ true
   pub count : f ≡ facesCounted ds
 
 pub survey-refused : {file : List ℕ} {r : Surveyed} (k : ℕ) → SurveyExit file r → r ≡ Surveyed.Refused k → surveyOf file ≡ refused k
 survey-refused k (refusing {k = j} e) g = let h : j ≡ k = cc in e ∙ ap refused h
-survey-refused k (surveyed o d f) g = absurd (let z : _≡_ {A = ℕ} 0 1 = cc in omega arith)
+survey-refused k (surveyed o d z f) g = absurd (let z : _≡_ {A = ℕ} 0 1 = cc in omega arith)
 
 pub survey-case : {file : List ℕ} {r : Surveyed} (n : Counts) (f : ℕ) → SurveyExit file r → r ≡ Surveyed.Case n f → Surveys file n f
 survey-case n f (refusing e) g = absurd (let z : _≡_ {A = ℕ} 0 1 = cc in omega arith)
-survey-case {file} n f (surveyed {n = m} {ds = ds} {f = h} o d e) g =
+survey-case {file} n f (surveyed {n = m} {ds = ds} {f = h} o d z e) g =
     let p : m ≡ n = cc in
     let q : h ≡ f = cc in
     record {
       ds = ds;
       opens = o ∙ ap Opened.Case p;
       right = subst (λ (x : Counts). definitions (x .cells) (wordsOf file x) ≡ fine ds) p d;
+      zones = z;
       count = sym q ∙ e;
     }
 
@@ -302,9 +309,9 @@ lent-floats s n f f′ l e h = record { few-slots = l .few-slots; few-faces = h;
 
 -- ---- 4
 
-module _ (file : List ℕ) (n : Counts) (ds : List Definition) (o : opened file ≡ Opened.Case n) (r : definitions (n .cells) (wordsOf file n) ≡ fine ds) (words floats : ℕ) where
+module _ (file : List ℕ) (n : Counts) (ds : List Definition) (o : opened file ≡ Opened.Case n) (r : definitions (n .cells) (wordsOf file n) ≡ fine ds) (z : zonesWithin file ≡ true) (words floats : ℕ) where
   there : surveyOf file ≡ fine (record { counts = n; definitions = ds })
-  there = survey-right file n o ds r
+  there = survey-right file n o ds r z
 
   pub faces-all : facesCounted ds ≡ caseFaces (surveyOf file)
   unfolding caseFaces

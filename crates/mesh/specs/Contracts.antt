@@ -4,6 +4,7 @@
 -- `join`: `JoinEntry`. `complete`: `CompleteEntry`. `build`: `BuildEntry`.
 use Prim.Native.Nat.{ℕ, _+_, _*_, _≤_, _<_}
 use mathlib.Core.Path.{_≡_}
+use mathlib.Core.Bool.{true}
 use mathlib.Core.List.{List}
 use lib.ListN.{length, getD}
 use lib.Ieee.{Float}
@@ -12,6 +13,7 @@ use Rattle.reading.specs.Result.{Result, refused, fine}
 use Rattle.case_definitions.specs.Faces.{Definition, facesCounted}
 use Rattle.case_definitions.specs.Definitions.{definitions}
 use Rattle.case_file.specs.Trailer.{opened, wordsOf}
+use Rattle.case_file.specs.Field.{zonesWithin}
 use Rattle.case_file.specs.declared.Counts.{Counts}
 use Rattle.case_file.specs.declared.Opened.the-variants.{Case}
 use Rattle.mesh_area.specs.Tables.{Mesh}
@@ -29,7 +31,7 @@ use Rattle.mesh.specs.declared.Built.the-variants as Built
 
 -- a case with its counts and the number of faces of all its definitions, or the refusal
 pub data SurveyExit (file : List ℕ) : Surveyed → Type 0 where
-  surveyed : {n : Counts} {ds : List Definition} {f : ℕ} → opened file ≡ Case n → definitions (n .cells) (wordsOf file n) ≡ fine ds → f ≡ facesCounted ds → SurveyExit file (Surveyed.Case n f)
+  surveyed : {n : Counts} {ds : List Definition} {f : ℕ} → opened file ≡ Case n → definitions (n .cells) (wordsOf file n) ≡ fine ds → zonesWithin file ≡ true → f ≡ facesCounted ds → SurveyExit file (Surveyed.Case n f)
   refusing : {k : ℕ} → surveyOf file ≡ refused k → SurveyExit file (Surveyed.Refused k)
 
 -- what each answer of the builder stands for: the mesh that the area holds, or the refusal

@@ -3,6 +3,7 @@ use case_definitions::Walked;
 use case_definitions::walker;
 use case_file::Counts;
 use case_file::Opened;
+use case_file::field;
 use case_file::trailer;
 use mesh_area::Sizes;
 use mesh_cells::CellsAdded;
@@ -24,7 +25,7 @@ ghost use Rattle.mesh.specs.Mesh.{joined, completed, filled, fromCells};
 ghost use Rattle.mesh.specs.Contracts.{SurveyExit, BuildExit, JoinEntry, CompleteEntry, BuildEntry, partialMeshIn};
 ghost use Rattle.mesh.specs.Case.{surveyOf, areaShort, caseFaces, meshFrom};
 
-// The counts of a case and the number of faces of all its definitions, or refusal 1, 2 or 3.
+// The counts of a case and the number of faces of all its definitions, or refusal 1, 2, 3 or 45.
 pub enum Surveyed {
     Case(Counts, usize),
     Refused(u64),
@@ -36,7 +37,7 @@ pub enum Built {
     Refused(u64),
 }
 
-// Opens a case and walks its definitions.
+// Opens a case, walks its definitions and looks at its zones.
 pub fn survey(case: &[u8]) -> Surveyed
     ensures { λ r. ⌜ SurveyExit (now (case .entry)) r ⌝ }
 {
@@ -44,7 +45,12 @@ pub fn survey(case: &[u8]) -> Surveyed
         Opened::Refused(k) => Surveyed::Refused(k),
         Opened::Case(n) => match walker::walk(walker::words(case, n), n.cells) {
             Walked::Refused(k) => Surveyed::Refused(k),
-            Walked::Faces(f) => Surveyed::Case(n, f),
+            Walked::Faces(f) => {
+                if !field::zones_within(case, n) {
+                    return Surveyed::Refused(45);
+                }
+                Surveyed::Case(n, f)
+            }
         },
     }
 }
@@ -149,7 +155,7 @@ pub fn build(case: &[u8], n: Counts, faces: usize, words: &mut [u32], floats: &m
     )
 }
 
-// The mesh of a case: refusals 1 to 4, and 8 to 17.
+// The mesh of a case: refusals 1 to 4, 8 to 17, and 45.
 pub fn from_cells(case: &[u8], words: &mut [u32], floats: &mut [f64]) -> Built
     ensures { λ r. ⌜ BuildExit
         (meshFrom (now (case .entry)) (length (now (words .entry))) (length (now (floats .entry))))

@@ -16,7 +16,7 @@ is-short-requires c κs =
 returns : tie.Need-returns
 returns c =
     let k = survey-case _ _ (c .before .before .before .before .before .survey .ensures) (c .before .before .before .n .given .1) in
-    barred (short-area _ _ (k .ds) (k .opens) (k .right) _ _ (sym (c .before .is-short .ensures (k .ds) (k .count)) ∙ c .if1 .taken))
+    barred (short-area _ _ (k .ds) (k .opens) (k .right) (k .zones) _ _ (sym (c .before .is-short .ensures (k .ds) (k .count)) ∙ c .if1 .taken))
 
 build-requires : tie.Need-build-requires
 build-requires c κs =
@@ -32,8 +32,8 @@ returns-3 c =
     let k = survey-case _ _ (c .before .before .before .before .before .before .before .before .before .before .before .before .survey .ensures) (c .before .before .before .before .before .before .before .before .before .before .n .given .1) in
     let o = opens _ _ (k .opens) in
     rw (← o .same)
-    (built-as (sym (long-area _ _ (k .ds) (k .opens) (k .right) _ _ (sym (c .before .before .before .before .before .before .before .before .is-short .ensures (k .ds) (k .count)) ∙ c .before .before .before .before .before .before .before .if1 .left)))
-    (k .count ∙ faces-all _ _ (k .ds) (k .opens) (k .right) 0 0) (c .before .before .before .before .build .ensures (k .ds) (k .right)))
+    (built-as (sym (long-area _ _ (k .ds) (k .opens) (k .right) (k .zones) _ _ (sym (c .before .before .before .before .before .before .before .before .is-short .ensures (k .ds) (k .count)) ∙ c .before .before .before .before .before .before .before .if1 .left)))
+    (k .count ∙ faces-all _ _ (k .ds) (k .opens) (k .right) (k .zones) 0 0) (c .before .before .before .before .build .ensures (k .ds) (k .right)))
 
 pub from-cells-spec : {M : Type 1} → statement M
 from-cells-spec =
