@@ -2,7 +2,7 @@
 use Prim.Native.Nat.{ℕ}
 use native.Mathlib.Omega.{arith}
 use mathlib.Core.Path.{_≡_, refl, _∙_}
-use mathlib.Core.List.{map}
+use mathlib.Core.List.{[], map}
 use lib.ListN.{length-map}
 use Rattle.reading.specs.Result.{fine}
 use Rattle.reading.proofs.ResultLaws.{bound}
@@ -19,7 +19,7 @@ pub field-from : (m : Mesh) (f : StreamlineField) → fieldOf m ≡ fine f → F
 unfolding fieldOf polygonsOf
 field-from m f e =
     let a = bound _ _ _ e in
-    let w : record { polygons = map (listedIn (a .value)) (polygonsOf m); cells = m .cells; grid = a .value; search = Bins } ≡ f = cc (a .then) in
+    let w : record { polygons = map (listedIn (a .value)) (polygonsOf m); cells = m .cells; grid = a .value; search = Bins; zones = []; home = 0 } ≡ f = cc (a .then) in
     rw (← w) (record { cells = refl; polygons = length-map (map (polygonOf m) (m .cells)) (listedIn (a .value)) ∙ length-map (m .cells) (polygonOf m) })
 
 -- the field of a mesh of n cells

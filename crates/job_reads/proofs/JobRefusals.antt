@@ -1,7 +1,7 @@
--- A job is refused with a number from 1 to 19. Assumes nothing.
+-- A job is refused with a number from 1 to 19, or with 45. Assumes nothing.
 use Prim.Native.Nat.{ℕ, zero, suc}
 use mathlib.Core.Path.{refl}
-use mathlib.Core.Bool.{Bool, true, false, cond}
+use mathlib.Core.Bool.{Bool, true, false, cond, _||_}
 use mathlib.Core.List.{List, [], _∷_}
 use lib.Dec.{leb, eqb}
 use lib.ListN.{getD, length}
@@ -27,14 +27,18 @@ use Rattle.mesh_centres.specs.Finish.{finished}
 use Rattle.mesh_coordinates.specs.Coordinates.{acceptable}
 use Rattle.mesh.specs.Mesh.{joined, completed, filled, fromCells}
 use Rattle.mesh.specs.Case.{CaseSurvey, surveyOf, meshOf}
+use Rattle.lines_locate.specs.Field.{zoned}
 use Rattle.lines_field.specs.Field.{gridFor, gridOf, fieldOf}
 use Rattle.job_room.specs.Room.{Room, Lent, roomFrom, roomOf, shortage, prepared}
-use Rattle.job_reads.proofs.Ranges.{Ranged, due, none, bind, barred, either, through, each}
+use Rattle.job_reads.proofs.Ranges.{among, Ranged, due, none, bind, barred, either, through, each}
+
+abbrev pub jobNumber : ℕ → Bool
+jobNumber k = among 1 19 k || eqb k 45
 
 abbrev pub Job : {A : Type 0} → Result A → Type 0
-Job r = Ranged 1 19 r
+Job r = Ranged jobNumber r
 
--- ---- 1 to 3
+-- ---- 1 to 3, and 45
 
 opening : (file : List ℕ) → Job (openedCase (opened file))
 unfolding openedCase opened
@@ -89,7 +93,7 @@ all-defining (suc n) ws = bind (defining ws) (λ d. bind (all-defining n (d .lef
 
 surveying : (file : List ℕ) → Job (surveyOf file)
 unfolding surveyOf
-surveying file = bind (opening file) (λ n. bind (all-defining _ _) (λ ds. none))
+surveying file = bind (opening file) (λ n. bind (all-defining _ _) (λ ds. bind (barred 45 _ refl) (λ _. none)))
 
 -- ---- 4 to 7
 
@@ -186,11 +190,11 @@ unfolding fieldOf gridOf gridFor
 gridding m =
     bind (bind (barred 18 _ refl) (λ _. bind (barred 19 _ refl) (λ _. none))) (λ g. none)
 
-rooming : (d : ℕ) (m : Mesh) → Job (roomFrom d m)
+rooming : (d : ℕ) (zones : List ℕ) (m : Mesh) → Job (roomFrom d zones m)
 unfolding roomFrom
-rooming d m = by (eqb d 2)
+rooming d zones m = by (eqb d 2)
   where
-    by : (t : Bool) → Job {A = Room} (elim t as (λ _. Result Room) [ true ↦ fieldOf m >>= λ f. fine (Room.flat f) | false ↦ fine (Room.solid m) ])
+    by : (t : Bool) → Job {A = Room} (elim t as (λ _. Result Room) [ true ↦ fieldOf m >>= λ f. fine (Room.flat (zoned zones f)) | false ↦ fine (Room.solid m) ])
     by true = bind (gridding m) (λ f. none)
     by false = none
 
@@ -199,4 +203,4 @@ rooming d m = by (eqb d 2)
 pub job-refusals : (file : List ℕ) (requests : ℕ) (lent : Lent) → Job (prepared file requests lent)
 unfolding prepared roomOf meshOf
 job-refusals file requests lent =
-    bind (surveying file) (λ c. bind (lending c requests lent) (λ _. bind (meshing _ _ _) (λ m. rooming _ m)))
+    bind (surveying file) (λ c. bind (lending c requests lent) (λ _. bind (meshing _ _ _) (λ m. rooming _ _ m)))

@@ -14,10 +14,11 @@ use Rattle.case_file.specs.declared.Counts.{Counts}
 use Rattle.case_file.specs.declared.Opened.{Opened}
 use Rattle.case_file.specs.declared.Opened.the-variants.{Case, Refused}
 use Rattle.case_file.specs.Trailer.{countsOf, opened, openedCase}
+use Rattle.case_file.specs.Field.{zonesOf}
 use Rattle.case_file.proofs.TrailerLaws.{opens}
 use Rattle.case_definitions.proofs.Walking.{length-definitions}
 use Rattle.lines_locate.specs.declared.Search.{Search}
-use Rattle.lines_locate.specs.Field.{StreamlineField, searching}
+use Rattle.lines_locate.specs.Field.{StreamlineField, searching, zoned}
 use Rattle.lines_field.specs.Field.{fieldOf}
 use Rattle.mesh.specs.Case.{CaseSurvey, surveyOf, meshOf}
 use Rattle.job_requests.specs.declared.Request.{Request}
@@ -32,10 +33,14 @@ use Rattle.job_reads.proofs.FieldLaws.{field-sound}
 
 -- ---- the requests
 
--- the same field under another search
+-- the same field under another search, or with other zones
 searching-sound : (n : ℕ) (f : StreamlineField) → Sound n f → (search : Search) → Sound n (searching search f)
 unfolding searching
 searching-sound n f h search = record { few = h .few; near = h .near }
+
+zoned-sound : (n : ℕ) (f : StreamlineField) → Sound n f → (zones : List ℕ) → Sound n (zoned zones f)
+unfolding zoned
+zoned-sound n f h zones = record { few = h .few; near = h .near }
 
 flat-within : (n : ℕ) (f : StreamlineField) → Sound n f → (q : Request) → Within n (serveFlat f q)
 unfolding serveFlat
@@ -71,15 +76,15 @@ room-within n (solid m) h q = solid-within n m h q
 fine-same : {A : Type 0} {x y : A} → fine x ≡ fine y → x ≡ y
 fine-same e = cc
 
-mesh-within : (n d : ℕ) (m : Mesh) (room : Room) → Numbers n m → roomFrom d m ≡ fine room → RoomWithin n room
+mesh-within : (n d : ℕ) (zones : List ℕ) (m : Mesh) (room : Room) → Numbers n m → roomFrom d zones m ≡ fine room → RoomWithin n room
 unfolding roomFrom
-mesh-within n d m room h e = by (eqb d 2) e
+mesh-within n d zones m room h e = by (eqb d 2) e
   where
-    by : (t : Bool) → (elim t as (λ _. Result Room) [ true ↦ fieldOf m >>= λ f. fine (flat f) | false ↦ fine (solid m) ]) ≡ fine room → RoomWithin n room
+    by : (t : Bool) → (elim t as (λ _. Result Room) [ true ↦ fieldOf m >>= λ f. fine (flat (zoned zones f)) | false ↦ fine (solid m) ]) ≡ fine room → RoomWithin n room
     by true e =
         let a = bound _ _ _ e in
-        let w : flat (a .value) ≡ room = fine-same (a .then) in
-        subst (RoomWithin n) w (field-sound n m (a .value) h (a .had))
+        let w : flat (zoned zones (a .value)) ≡ room = fine-same (a .then) in
+        subst (RoomWithin n) w (zoned-sound n (a .value) (field-sound n m (a .value) h (a .had)) zones)
     by false e =
         let w : solid m ≡ room = fine-same e in
         subst (RoomWithin n) w (omega (arith, h .cells))
@@ -88,7 +93,7 @@ case-within : (file : List ℕ) (c : CaseSurvey) (room : Room) → roomOf file c
 unfolding roomOf meshOf
 case-within file c room e =
     let a = bound _ _ _ e in
-    mesh-within (length (c .definitions)) (c .counts .dimension) (a .value) room (mesh-numbers _ _ (c .definitions) (a .value) (a .had)) (a .then)
+    mesh-within (length (c .definitions)) (c .counts .dimension) (zonesOf file) (a .value) room (mesh-numbers _ _ (c .definitions) (a .value) (a .had)) (a .then)
 
 -- ---- the case
 
@@ -103,7 +108,8 @@ unfolding surveyOf
 survey-counts file c e =
     let a = bound _ _ _ e in
     let b = bound _ _ _ (a .then) in
-    let w : record { counts = a .value; definitions = b .value } ≡ c = fine-same (b .then) in
+    let d = bound _ _ _ (b .then) in
+    let w : record { counts = a .value; definitions = b .value } ≡ c = fine-same (d .then) in
     rw (← w) (length-definitions _ _ (b .value) (b .had) ∙ ap (λ (k : Counts). k .cells) (counts-of file (a .value) (opened file) refl (a .had)))
 
 -- the room of an accepted case has the case's cells

@@ -18,7 +18,7 @@ use Rattle.reading.specs.Result as result
 use Rattle.reading.specs.Result.{refused, fine, refuse}
 use Rattle.reading.proofs.Within.{Within, given, asked, within-bind}
 use Rattle.lines_locate.specs.Locate.{locateWhere, locate}
-use Rattle.lines_locate.specs.Field.{StreamlineField}
+use Rattle.lines_locate.specs.Field.{StreamlineField, staying}
 use Rattle.lines_velocity.specs.declared.Vector.{Vector}
 use Rattle.lines_velocity.specs.declared.Vector.the-variants.{Here, Nowhere}
 use Rattle.lines_velocity.specs.Velocity.{locateIn, neighboursOf, distanceSquared, nearerOf, nearestOf, besideIf, beside, besideNearest, toward, velocityIn, velocityWhere, velocityAt, from, directionAt}
@@ -162,9 +162,15 @@ module _ (n : ℕ) (f : StreamlineField) (sound : Sound n f) where
   line-from-within o h zero p total = given
   line-from-within o h (suc k) p total = within-bind (step-within o h p total) (onward-within (lineFrom f o h k) (line-from-within o h k) total)
 
+-- the same field for a line that stays in a zone
+staying-sound : (n : ℕ) (f : StreamlineField) → Sound n f → (home : ℕ) → Sound n (staying home f)
+unfolding staying
+staying-sound n f h home = record { few = h .few; near = h .near }
+
+module _ (n : ℕ) (f : StreamlineField) (sound : Sound n f) where
   line-within : (s : StreamlineSettings) (seed : Vec3) → Within n (line f s seed)
   unfolding line pointsAfter
-  line-within s seed = within-bind (line-from-within (s .options) (signedStep s) (s .options .«max_steps») seed 0·0) (λ l. given)
+  line-within s seed = within-bind (line-from-within n _ (staying-sound n f sound _) (s .options) (signedStep s) (s .options .«max_steps») seed 0·0) (λ l. given)
 
   line-answer-within : (style : Style) (s : StreamlineSettings) (seed : Vec3) → Within n (lineAnswer f style s seed)
   unfolding lineAnswer

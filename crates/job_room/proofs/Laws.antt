@@ -11,13 +11,13 @@ use Rattle.reading.specs.Result.{Result, refused, fine, _>>=_}
 use Rattle.reading.proofs.ResultLaws.{bound, not-due}
 use Rattle.case_definitions.specs.Faces.{Definition}
 use Rattle.case_definitions.specs.Definitions.{definitions}
-use Rattle.case_file.specs.Field.{outside}
+use Rattle.case_file.specs.Field.{outside, zonesWithin}
 use Rattle.case_file.specs.Trailer.{countsOf, trailerRight, overLimit, opened, openedCase, wordsOf}
 use Rattle.case_file.specs.declared.Counts.{Counts}
 use Rattle.case_file.specs.declared.Opened.{Opened}
-use Rattle.case_file.proofs.OutsideLaws.{outside-opened, outside-words}
+use Rattle.case_file.proofs.OutsideLaws.{outside-opened, outside-words, outside-zones, outside-zones-within}
 use Rattle.mesh.specs.Case.{CaseSurvey, surveyOf, meshOf}
-use Rattle.mesh.proofs.Laws.{survey-shut, survey-wrong, survey-right, outside-points}
+use Rattle.mesh.proofs.Laws.{survey-shut, survey-wrong, survey-zoned, survey-right, outside-points}
 use Rattle.job_room.specs.Room.{Room, Lent, roomOf, requestsWrong, shortage, prepared}
 use Rattle.job_room.specs.Contracts.{roomIn, RoomStands, PrepareExit, standing, barred}
 use Rattle.job_room.specs.declared.Place.{Place}
@@ -60,23 +60,31 @@ prepared-then file requests lent c e = rw (e, _>>=_)
 outside-room : (file : List ℕ) (n : Counts) (ds : List Definition) → opened file ≡ Opened.Case n
     → roomOf (outside file) (record { counts = n; definitions = ds }) ≡ roomOf file (record { counts = n; definitions = ds })
 unfolding roomOf meshOf
-outside-room file n ds o = rw (outside-points file n o)
+outside-room file n ds o = rw (outside-points file n o, outside-zones file)
 
 pub prepared-outside : (file : List ℕ) (requests : ℕ) (lent : Lent) → prepared (outside file) requests lent ≡ prepared file requests lent
 prepared-outside file requests lent = by-opened (opened file) refl
   where
+    by-zones : (n : Counts) (o : opened file ≡ Opened.Case n) (ds : List Definition) → definitions (n .cells) (wordsOf file n) ≡ fine ds → (t : Bool) → zonesWithin file ≡ t
+        → prepared (outside file) requests lent ≡ prepared file requests lent
+    by-zones n o ds e false z =
+        prepared-shut (outside file) requests lent 45
+        (survey-zoned (outside file) n (outside-opened file ∙ o) ds (ap (definitions (n .cells)) (outside-words file n o) ∙ e) (outside-zones-within file ∙ z))
+        ∙ sym (prepared-shut file requests lent 45 (survey-zoned file n o ds e z))
+    by-zones n o ds e true z =
+        let c : CaseSurvey = record { counts = n; definitions = ds } in
+        prepared-then (outside file) requests lent c
+        (survey-right (outside file) n (outside-opened file ∙ o) ds (ap (definitions (n .cells)) (outside-words file n o) ∙ e) (outside-zones-within file ∙ z))
+        ∙ ap (λ (r : Result Room). shortage c requests lent >>= λ _. r) (outside-room file n ds o)
+        ∙ sym (prepared-then file requests lent c (survey-right file n o ds e z))
+
     by-definitions : (n : Counts) (o : opened file ≡ Opened.Case n) (d : Result (List Definition)) → definitions (n .cells) (wordsOf file n) ≡ d
         → prepared (outside file) requests lent ≡ prepared file requests lent
     by-definitions n o (refused k) e =
         prepared-shut (outside file) requests lent k
         (survey-wrong (outside file) n (outside-opened file ∙ o) k (ap (definitions (n .cells)) (outside-words file n o) ∙ e))
         ∙ sym (prepared-shut file requests lent k (survey-wrong file n o k e))
-    by-definitions n o (fine ds) e =
-        let c : CaseSurvey = record { counts = n; definitions = ds } in
-        prepared-then (outside file) requests lent c
-        (survey-right (outside file) n (outside-opened file ∙ o) ds (ap (definitions (n .cells)) (outside-words file n o) ∙ e))
-        ∙ ap (λ (r : Result Room). shortage c requests lent >>= λ _. r) (outside-room file n ds o)
-        ∙ sym (prepared-then file requests lent c (survey-right file n o ds e))
+    by-definitions n o (fine ds) e = by-zones n o ds e (zonesWithin file) refl
 
     by-opened : (x : Opened) → opened file ≡ x → prepared (outside file) requests lent ≡ prepared file requests lent
     by-opened (Opened.Refused k) e =
@@ -101,7 +109,8 @@ unfolding surveyOf
 surveyed-counts file c e =
     let s1 = bound _ _ _ e in
     let s2 = bound _ _ _ (s1 .then) in
-    let same-case : record { counts = s1 .value; definitions = s2 .value } ≡ c = fine-same (s2 .then) in
+    let s3 = bound _ _ _ (s2 .then) in
+    let same-case : record { counts = s1 .value; definitions = s2 .value } ≡ c = fine-same (s3 .then) in
     ap (λ (c : CaseSurvey). c .counts) (sym same-case) ∙ counts-are file (s1 .value) (s1 .had)
   where
     fine-same : {A : Type 0} {a b : A} → fine a ≡ fine b → a ≡ b

@@ -14,6 +14,7 @@ use Rattle.reading.proofs.ResultLaws.{bound, not-due}
 use Rattle.case_definitions.specs.Faces.{Definition, facesCounted}
 use Rattle.case_definitions.specs.Definitions.{definitions}
 use Rattle.case_file.specs.Trailer.{opened, wordsOf}
+use Rattle.case_file.specs.Field.{zonesOf}
 use Rattle.case_file.specs.declared.Counts.{Counts}
 use Rattle.case_file.specs.declared.Opened.the-variants.{Case}
 use Rattle.case_file.proofs.TrailerLaws.{opens}
@@ -34,7 +35,7 @@ use Rattle.lines_locate.specs.declared.Grid.{Grid}
 use Rattle.lines_field.specs.declared.Built as polygons
 use Rattle.lines_field.specs.declared.Built.the-variants as Traced
 use Rattle.lines_field.specs.Field.{polygonsOf, gridOf, fieldOf, builtGrid}
-use Rattle.lines_locate.specs.Field.{StreamlineField, searching}
+use Rattle.lines_locate.specs.Field.{StreamlineField, searching, zoned, staying}
 use Rattle.lines_locate.specs.Layout.{fieldIn}
 use Rattle.lines_velocity.specs.Contracts.{tracerField, verticesWithin}
 use Rattle.lines_field.specs.Contracts.{FromDatasetExit}
@@ -114,17 +115,17 @@ module _ (case : List ℕ) (n : Counts) (s : Sizes) (w : List ℕ) (f : List Flo
             };
       }
 
-  pub add-field-solid : (n .dimension ≡ 2 → ⊥) → PrepareExit (roomFrom (n .dimension) m) case w f (Prepared.Ready (Solid n s))
+  pub add-field-solid : (n .dimension ≡ 2 → ⊥) → PrepareExit (roomFrom (n .dimension) (zonesOf case) m) case w f (Prepared.Ready (Solid n s))
   unfolding roomFrom roomIn
   add-field-solid h =
-      let e : roomFrom (n .dimension) m ≡ fine (solid m) = rw (ne-eqb (n .dimension) 2 h, roomFrom) in standing {p = Solid n s} e solid-stands
+      let e : roomFrom (n .dimension) (zonesOf case) m ≡ fine (solid m) = rw (ne-eqb (n .dimension) 2 h, roomFrom) in standing {p = Solid n s} e solid-stands
 
   mesh-field-within : (k : StreamlineField) → fieldOf m ≡ fine k → verticesWithin k ≡ true
   unfolding meshIn
   mesh-field-within k e = field-within m (vertex-within case (n .points) (d .points-within)) k e
 
   module _ (two : n .dimension ≡ 2) (w′ : List ℕ) (f′ : List Float) where
-    room-from-flat : roomFrom (n .dimension) m ≡ (fieldOf m >>= λ k. fine (flat k))
+    room-from-flat : roomFrom (n .dimension) (zonesOf case) m ≡ (fieldOf m >>= λ k. fine (flat (zoned (zonesOf case) k)))
     unfolding roomFrom
     room-from-flat = rw (eq-eqb (n .dimension) 2 two, roomFrom)
 
@@ -139,16 +140,16 @@ module _ (case : List ℕ) (n : Counts) (s : Sizes) (w : List ℕ) (f : List Flo
           let g : gridOf (s .cells) (polygonsOf m) ≡ refused k = sym (t .result) ∙ ap builtGrid e in
           rw (count, g, _>>=_)
 
-      pub add-field-refused : (k : ℕ) → r ≡ Traced.Refused k → PrepareExit (roomFrom (n .dimension) m) case w′ f′ (Prepared.Refused k)
+      pub add-field-refused : (k : ℕ) → r ≡ Traced.Refused k → PrepareExit (roomFrom (n .dimension) (zonesOf case) m) case w′ f′ (Prepared.Refused k)
       unfolding _>>=_
       add-field-refused k e =
-          let g : roomFrom (n .dimension) m ≡ refused k = room-from-flat ∙ rw (field-refused k e, _>>=_) in barred g
+          let g : roomFrom (n .dimension) (zonesOf case) m ≡ refused k = room-from-flat ∙ rw (field-refused k e, _>>=_) in barred g
 
-      pub add-field-flat : (g : Grid) → r ≡ Traced.Made g → length w′ ≡ length w → length f′ ≡ length f → PrepareExit (roomFrom (n .dimension) m) case w′ f′ (Prepared.Ready (Flat (record { counts = n; sizes = s; grid = g; search = Bins })))
-      unfolding _>>=_ roomIn Servable countsIn tracerField searching fieldIn
+      pub add-field-flat : (g : Grid) → r ≡ Traced.Made g → length w′ ≡ length w → length f′ ≡ length f → PrepareExit (roomFrom (n .dimension) (zonesOf case) m) case w′ f′ (Prepared.Ready (Flat (record { counts = n; sizes = s; grid = g; search = Bins; home = 0 })))
+      unfolding _>>=_ roomIn Servable countsIn tracerField staying zoned searching fieldIn verticesWithin
       add-field-flat g e lw lf =
-          let whole : roomFrom (n .dimension) m ≡ fine (flat (fieldIn g s w′ f′)) = room-from-flat ∙ rw (t .field g e, _>>=_) in
-          standing {p = Flat (record { counts = n; sizes = s; grid = g; search = Bins })} whole
+          let whole : roomFrom (n .dimension) (zonesOf case) m ≡ fine (flat (zoned (zonesOf case) (fieldIn g s w′ f′))) = room-from-flat ∙ rw (t .field g e, _>>=_) in
+          standing {p = Flat (record { counts = n; sizes = s; grid = g; search = Bins; home = 0 })} whole
           (record {
             opens = d .opens;
             servable =
@@ -169,7 +170,7 @@ module _ (case : List ℕ) (n : Counts) (defs : List Definition) (k : ℕ) (w : 
       let g : roomOf case (record { counts = n; definitions = defs }) ≡ refused k = rw (building-refused k b e, _>>=_) in barred g
 
   module _ (s : Sizes) (e : x ≡ Built.Mesh s) where
-    pub built-room : roomFrom (n .dimension) (meshIn (pointsIn case (n .points)) s w f) ≡ roomOf case (record { counts = n; definitions = defs })
+    pub built-room : roomFrom (n .dimension) (zonesOf case) (meshIn (pointsIn case (n .points)) s w f) ≡ roomOf case (record { counts = n; definitions = defs })
     unfolding roomOf meshOf _>>=_
     built-room = rw (building-mesh s b e .mesh, _>>=_)
 
@@ -202,7 +203,7 @@ module _ (case : List ℕ) (n : Counts) (faces requests : ℕ) (lent : Lent) (s 
   short = h (s .ds) (s .count)
 
   there : surveyOf case ≡ fine c
-  there = survey-right case n (s .opens) (s .ds) (s .right)
+  there = survey-right case n (s .opens) (s .ds) (s .right) (s .zones)
 
   refused-as : (k : ℕ) → (k ≡ 0 → ⊥) → acceptedAs k ≡ refused k
   unfolding acceptedAs

@@ -109,6 +109,6 @@ module _ (m : Mesh) (w : (k : ℕ) → xyWithin (xyOf (pointAt (m .points) k)) �
   unfolding fieldOf verticesWithin polygonsOf
   field-within f e =
       let b = bound _ _ _ e in
-      let s : record { polygons = map (listedIn (b .value)) (map (polygonOf m) (m .cells)); cells = m .cells; grid = b .value; search = Bins } ≡ f = fine-same (b .then) in
+      let s : record { polygons = map (listedIn (b .value)) (map (polygonOf m) (m .cells)); cells = m .cells; grid = b .value; search = Bins; zones = []; home = 0 } ≡ f = fine-same (b .then) in
       subst (λ (f : StreamlineField). allOf (λ (c : CellPolygon). allOf xyWithin (c .polygon)) (f .polygons) ≡ true) s
       (each-all (λ (c : CellPolygon). allOf xyWithin (c .polygon)) (map (listedIn (b .value)) (map (polygonOf m) (m .cells))) (listed-within (b .value) (m .cells)))

@@ -30,7 +30,7 @@ use Rattle.job_room.specs.declared.Prepared.the-variants as Prepared
 
 -- the room that stands at a place
 unfoldable pub roomIn : List ℕ → List ℕ → List Float → Place → Room
-roomIn file words floats (Flat t) = flat (tracerField t words floats)
+roomIn file words floats (Flat t) = flat (tracerField t file words floats)
 roomIn file words floats (Solid n s) = solid (meshIn (pointsIn file (n .points)) s words floats)
 
 -- the counts of its case

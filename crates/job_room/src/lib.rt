@@ -1,4 +1,4 @@
-// The room of a case: its mesh in the work area and, in 2D, its field. Refusals 1 to 19.
+// The room of a case: its mesh in the work area and, in 2D, its field. Refusals 1 to 19, and 45.
 use case_file::Counts;
 use lines_build::build;
 use lines_locate::Search;
@@ -14,6 +14,7 @@ ghost use Rattle.reading.specs.Result.{fine};
 ghost use Rattle.case_definitions.specs.Faces.{Definition};
 ghost use Rattle.case_definitions.specs.Definitions.{definitions};
 ghost use Rattle.case_file.specs.Trailer.{wordsOf};
+ghost use Rattle.case_file.specs.Field.{zonesOf};
 ghost use Rattle.mesh_area.specs.Layout.{pointsIn, meshIn};
 ghost use Rattle.mesh.specs.Contracts.{BuildEntry};
 ghost use Rattle.job_room.specs.Room as Room;
@@ -34,7 +35,7 @@ pub enum Prepared {
 // The field of a 2D mesh; a 3D one needs none.
 fn add_field(case: &[u8], n: Counts, s: Sizes, words: &mut [u32], floats: &mut [f64]) -> Prepared
     requires { ⌜ AddFieldEntry (now case) n s (now words) (now floats) ⌝ }
-    ensures { λ r. ⌜ PrepareExit (Room.roomFrom (n .dimension)
+    ensures { λ r. ⌜ PrepareExit (Room.roomFrom (n .dimension) (zonesOf (now (case .entry)))
         (meshIn (pointsIn (now (case .entry)) (n .points)) s (now (words .entry)) (now (floats .entry))))
         (now (case .entry)) (now (words .exit)) (now (floats .exit)) r ⌝ }
 {
@@ -49,6 +50,7 @@ fn add_field(case: &[u8], n: Counts, s: Sizes, words: &mut [u32], floats: &mut [
                 sizes: s,
                 grid: g,
                 search: Search::Bins,
+                home: 0,
             };
             Prepared::Ready(Place::Flat(t))
         }

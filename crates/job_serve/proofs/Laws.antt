@@ -199,7 +199,7 @@ module _ (file words : List ℕ) (floats : List Float) (p : Place) where
   stands-solid n s marks e h b = (rw e at (h .servable)) marks (rw e at b)
 
   module _ (v : ℕ → Values) {r : Answered} (o : List ℕ) {o′ m m′ : List ℕ} (q : Request) where
-    pub in-flat : (t : Tracer) → p ≡ Flat t → Reply (serveFlat (tracerField t words floats) q) v o r o o′ m m′
+    pub in-flat : (t : Tracer) → p ≡ Flat t → Reply (serveFlat (tracerField t file words floats) q) v o r o o′ m m′
         → Reply (serve (roomIn file words floats p) q) v (leftUnder (roomIn file words floats p) q v o) r o o′ m m′
     unfolding serve roomIn leftUnder
     in-flat t e h = rw e h

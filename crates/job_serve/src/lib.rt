@@ -92,8 +92,8 @@ fn serve_locate(
     search: Search,
 ) -> Answered
     requires { ⌜ LocateEntry (now words) (now floats) t ⌝ }
-    ensures { λ r. ⌜ ((f : ℕ → Values) (m : List ℕ) → Reply
-        (Serve.serveFlat (tracerField t (now (words .entry)) (now (floats .entry))) (Code.Locate p search))
+    ensures { λ r. ⌜ ((case : List ℕ) (f : ℕ → Values) (m : List ℕ) → Reply
+        (Serve.serveFlat (tracerField t case (now (words .entry)) (now (floats .entry))) (Code.Locate p search))
         f (now (out .entry)) r (now (out .entry)) (now (out .exit)) m m) ⌝ }
 {
     let tracer = lines_velocity::searching(t, search);
@@ -113,7 +113,8 @@ fn serve_velocity(
     search: Search,
 ) -> Answered
     requires { ⌜ TracerEntry (now case) (now words) (now floats) t ⌝ }
-    ensures { λ r. ⌜ Reply (Serve.serveFlat (tracerField t (now (words .entry)) (now (floats .entry)))
+    ensures { λ r. ⌜ Reply (Serve.serveFlat
+        (tracerField t (now (case .entry)) (now (words .entry)) (now (floats .entry)))
         (Code.Velocity p search)) (valuesOf (now (case .entry))) (now (out .entry)) r (now (out .entry))
         (now (out .exit)) (now (marks .entry)) (now (marks .exit)) ⌝ }
 {
@@ -135,7 +136,8 @@ fn serve_flat(
 ) -> Answered
     requires { ⌜ TracerEntry (now case) (now words) (now floats) t ⌝ }
     requires { ⌜ Allowed q ⌝ }
-    ensures { λ r. ⌜ Reply (Serve.serveFlat (tracerField t (now (words .entry)) (now (floats .entry))) q)
+    ensures { λ r. ⌜ Reply (Serve.serveFlat
+        (tracerField t (now (case .entry)) (now (words .entry)) (now (floats .entry))) q)
         (valuesOf (now (case .entry))) (now (out .entry)) r (now (out .entry)) (now (out .exit)) (now (marks .entry))
         (now (marks .exit)) ⌝ }
 {

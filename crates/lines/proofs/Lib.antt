@@ -1,3 +1,4 @@
+pub mod HomeLaws
 pub mod LineLaws
 pub mod LocateLaws
 pub mod JobLaws

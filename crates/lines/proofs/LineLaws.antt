@@ -22,13 +22,13 @@ use Rattle.lines_words.specs.Words.{lineWords}
 use Rattle.lines_words.specs.Pen.{nextWord, wordsAlong, penAlong}
 use Rattle.lines_words.specs.Contracts.{PenEntry, PutPointExit}
 use Rattle.lines_words.proofs.PenLaws.{after-kept, along-at, line-words, line-count, line-few}
-use Rattle.lines_locate.specs.Field.{StreamlineField}
+use Rattle.lines_locate.specs.Field.{StreamlineField, staying}
 use Rattle.lines_step.specs.declared.Step.{Step}
 use Rattle.lines_step.specs.declared.Step.the-variants.{Next, Ended}
 use Rattle.lines_step.specs.declared.StreamlineOptions.{StreamlineOptions}
 use Rattle.lines_step.specs.Step.{step}
 use Rattle.lines.specs.declared.StreamlineSettings.{StreamlineSettings}
-use Rattle.lines.specs.Line.{sign, signedStep, onward, lineFrom, pointsAfter, line, lineAnswer}
+use Rattle.lines.specs.Line.{homeOf, sign, signedStep, onward, lineFrom, pointsAfter, line, lineAnswer}
 use Rattle.lines.specs.Contracts.{PointsAfterExit, TraceExit}
 
 pub give-then : {A B : Type 0} (a : A) (k : A → Asks B) → (give a >>= k) ≡ k a
@@ -111,15 +111,18 @@ pen-first {start} {seed = seed} t low none = let k = after-kept start seed in rw
 pub pen-last : {t : Asks (List Vec3)} {f : ℕ → Values} {m m′ o₁ o₂ : List ℕ} {first pen : Pen} → PointsAfterExit t f m m′ first o₁ o₂ pen → first .at ≤ 16000000 → PenEntry pen
 pen-last {t} {f} {first} w low = record { low = rw (w .pen, along-at first (run t f)) low; few = w .few }
 
-pub traced : (F : StreamlineField) (s : StreamlineSettings) (f : ℕ → Values) (m m′ o o₁ o₂ o₃ : List ℕ) (start first pen : Pen) (r : ℕ) (seed : Vec3) → start .count ≡ 0
-    → PutPointExit start seed o o₁ first → PointsAfterExit (pointsAfter F s seed) f m m′ first o₁ o₂ pen → o₃ ≡ set o₂ (pen .at) (pen .count) → r ≡ nextWord pen - pen .at
+-- F for a line that stays in its seed's zone is G
+pub traced : (F G : StreamlineField) (s : StreamlineSettings) (f : ℕ → Values) (m m′ o o₁ o₂ o₃ : List ℕ) (start first pen : Pen) (r : ℕ) (seed : Vec3) → G ≡ staying (homeOf F seed) F → start .count ≡ 0
+    → PutPointExit start seed o o₁ first → PointsAfterExit (pointsAfter G s seed) f m m′ first o₁ o₂ pen → o₃ ≡ set o₂ (pen .at) (pen .count) → r ≡ nextWord pen - pen .at
     → TraceExit (lineAnswer F (start .style) s seed) f m m′ o o₃ (start .at) r × (r ≤ 196612)
-traced F s f m m′ o o₁ o₂ o₃ start first pen r seed none t w c n =
-    let pts = run (pointsAfter F s seed) f in
+traced F G s f m m′ o o₁ o₂ o₃ start first pen r seed g none t v c n =
+    let w = rw g at v in
+    let stays : StreamlineField = staying (homeOf F seed) F in
+    let pts = run (pointsAfter stays s seed) f in
     let answer : run (lineAnswer F (start .style) s seed) f ≡ lineWords (start .style) (seed ∷ pts) =
-    unfold lineAnswer line in run-bind (pointsAfter F s seed >>= λ l. give (seed ∷ l)) (λ l. give (lineWords (start .style) l)) f ∙ ap (lineWords (start .style)) (run-bind (pointsAfter F s seed) (λ l. give (seed ∷ l)) f) in
-    let asked : reads (lineAnswer F (start .style) s seed) f ≡ reads (pointsAfter F s seed) f =
-    unfold lineAnswer line in reads-bind (pointsAfter F s seed >>= λ l. give (seed ∷ l)) (λ l. give (lineWords (start .style) l)) f ∙ append-nil _ ∙ reads-bind (pointsAfter F s seed) (λ l. give (seed ∷ l)) f ∙ append-nil _ in (
+    unfold lineAnswer line in run-bind (pointsAfter stays s seed >>= λ l. give (seed ∷ l)) (λ l. give (lineWords (start .style) l)) f ∙ ap (lineWords (start .style)) (run-bind (pointsAfter stays s seed) (λ l. give (seed ∷ l)) f) in
+    let asked : reads (lineAnswer F (start .style) s seed) f ≡ reads (pointsAfter stays s seed) f =
+    unfold lineAnswer line in reads-bind (pointsAfter stays s seed >>= λ l. give (seed ∷ l)) (λ l. give (lineWords (start .style) l)) f ∙ append-nil _ ∙ reads-bind (pointsAfter stays s seed) (λ l. give (seed ∷ l)) f ∙ append-nil _ in (
       record {
         marks = w .marks ∙ ap (markAll m) (sym asked);
         words = line-words start seed pts o o₁ o₂ o₃ first pen r none t (w .words) (w .pen) c n ∙ ap (sets o (start .at)) (sym answer);

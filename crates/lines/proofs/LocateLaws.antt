@@ -3,6 +3,7 @@ use Prim.Native.Nat.{ℕ}
 use native.Mathlib.Omega.{arith}
 use mathlib.Core.Path.{_≡_, refl, ap, sym, _∙_}
 use mathlib.Core.Bool.{Bool, true, false, cond, not, _&&_, true≢false}
+use lib.Dec.{eqb}
 use lib.Ieee.{Float}
 use Rattle.arith.specs.F64.{_⊕_, _≺_, finite}
 use Rattle.arith.specs.Vec.{minus, norm}
@@ -14,7 +15,7 @@ use Rattle.reading.specs.Asks.{Asks, give, run, _>>=_}
 use Rattle.reading.proofs.AsksLaws.{run-bind}
 use Rattle.lines_millimetres.specs.Nearest.{under2^53}
 use Rattle.lines_words.specs.Contracts.{SheetPointEntry}
-use Rattle.lines_locate.specs.Field.{StreamlineField}
+use Rattle.lines_locate.specs.Field.{StreamlineField, zoneAt}
 use Rattle.lines_velocity.specs.declared.Vector.{Vector}
 use Rattle.lines_velocity.specs.declared.Vector.the-variants.{Here, Nowhere}
 use Rattle.lines_velocity.specs.Velocity.{locateIn, from, directionAt}
@@ -39,12 +40,16 @@ near F p w h = found-near F p (locateIn F p) refl w h
 
 module _ (F : StreamlineField) where
   -- the point itself, where it locates
-  here-locates : (p q : Vec3) (r : Found) → locateIn F p ≡ r → hereIf r p ≡ Here q → nowhere F q ≡ false
+  here-locates : (p q : Vec3) (r : Found) → locateIn F p ≡ r → hereIf F r p ≡ Here q → nowhere F q ≡ false
   unfolding hereIf nowhere isNowhere
   here-locates p q Nothing e h = absurd (let z : _≡_ {A = ℕ} 0 1 = cc in omega arith)
-  here-locates p q (At i) e h = let same : p ≡ q = cc in rw (← same, e)
+  here-locates p q (At i) e h = by (eqb (zoneAt F i) (F .home)) h
+    where
+      by : (b : Bool) → cond b (Here p) Nowhere ≡ Here q → nowhere F q ≡ false
+      by true h = let same : p ≡ q = cc in rw (← same, e)
+      by false h = absurd (let z : _≡_ {A = ℕ} 0 1 = cc in omega arith)
 
-  from-locates : (v : Vector) (f : ℕ → Values) (q : Vec3) → run (from (λ p. give (hereIf (locateIn F p) p)) v) f ≡ Here q → nowhere F q ≡ false
+  from-locates : (v : Vector) (f : ℕ → Values) (q : Vec3) → run (from (λ p. give (hereIf F (locateIn F p) p)) v) f ≡ Here q → nowhere F q ≡ false
   unfolding from
   from-locates Nowhere f q h = absurd (let z : _≡_ {A = ℕ} 0 1 = cc in omega arith)
   from-locates (Here p) f q h = here-locates p q (locateIn F p) refl h
@@ -53,7 +58,7 @@ module _ (F : StreamlineField) where
   unfolding rk4Step
   rk4-locates stagnation h p f q e =
       let t = rungeKutta (directionAt F stagnation) h p in
-      from-locates (run t f) f q (sym (run-bind t (from (λ r. give (hereIf (locateIn F r) r))) f) ∙ e)
+      from-locates (run t f) f q (sym (run-bind t (from (λ r. give (hereIf F (locateIn F r) r))) f) ∙ e)
 
   within-here : (longest : Float) (p : Vec3) (total : Float) (v : Vector) (q : Vec3) (segment : Float) → withinLength longest p total v ≡ Next q segment → v ≡ Here q
   unfolding withinLength

@@ -1,6 +1,6 @@
 -- `integrate`: the line from a seed, with the refusals 34 and 35, and its answer words.
 -- `sign`, `signedStep`: the step, forward or backward.
--- `onward`, `lineFrom`, `pointsAfter`, `line`: the points of a line.
+-- `zoneFound`, `homeOf`: the zone of a seed. `onward`, `lineFrom`, `pointsAfter`, `line`: the points of a line.
 -- `isLength`, `isSpeed`, `areAccepted`: refusal 34. `isNowhere`, `nowhere`: refusal 35.
 -- `lineAnswer`: the answer. `integrate`: the answer, or the refusal.
 use Prim.Native.Nat.{ℕ, zero, suc}
@@ -18,7 +18,7 @@ use Rattle.reading.specs.Result as result
 use Rattle.reading.specs.Result.{Result, fine, refuse}
 use Rattle.lines_words.specs.declared.Style.{Style}
 use Rattle.lines_words.specs.Words.{lineWords}
-use Rattle.lines_locate.specs.Field.{StreamlineField}
+use Rattle.lines_locate.specs.Field.{StreamlineField, zoneAt, staying}
 use Rattle.lines_velocity.specs.Velocity.{locateIn}
 use Rattle.lines_step.specs.declared.Step.{Step}
 use Rattle.lines_step.specs.declared.Step.the-variants.{Next, Ended}
@@ -37,6 +37,15 @@ sign Backward = -1·0
 unfoldable pub signedStep : StreamlineSettings → Float
 signedStep s = s .options .«step_size» ⊗ sign (s .direction)
 
+-- the zone of the cell that was found
+unfoldable pub zoneFound : StreamlineField → Found → ℕ
+zoneFound f Nothing = 0
+zoneFound f (At i) = zoneAt f i
+
+-- the zone that a seed locates in
+unfoldable pub homeOf : StreamlineField → Vec3 → ℕ
+homeOf f seed = zoneFound f (locateIn f seed)
+
 -- after a step: the next point, and what `rest` adds to it
 unfoldable pub onward : (Vec3 → Float → Asks (List Vec3)) → Float → Step → Asks (List Vec3)
 onward rest total Ended = give []
@@ -51,9 +60,9 @@ lineFrom f o h (suc n) p total = step f o h p total >>= onward (lineFrom f o h n
 unfoldable pub pointsAfter : StreamlineField → StreamlineSettings → Vec3 → Asks (List Vec3)
 pointsAfter f s seed = lineFrom f (s .options) (signedStep s) (s .options .«max_steps») seed 0·0
 
--- the whole line, its seed first
+-- the whole line, its seed first; it stays in the seed's zone
 unfoldable pub line : StreamlineField → StreamlineSettings → Vec3 → Asks (List Vec3)
-line f s seed = pointsAfter f s seed >>= λ l. give (seed ∷ l)
+line f s seed = pointsAfter (staying (homeOf f seed) f) s seed >>= λ l. give (seed ∷ l)
 
 -- finite, and above 0
 unfoldable pub isLength : Float → Bool

@@ -10,7 +10,8 @@ use lines_velocity::Tracer;
 use lines_velocity::interpolate;
 use lines_words::Style;
 ghost use mathlib.Core.Path.{_≡_};
-ghost use Prim.Native.Nat.{_≤_};
+ghost use mathlib.Core.List.{List};
+ghost use Prim.Native.Nat.{ℕ, _≤_};
 ghost use Rattle.arith.specs.Limits.{mostSteps};
 ghost use Rattle.case_file.specs.Field.{valuesOf};
 ghost use Rattle.answers.specs.Contracts.{decided, Reply};
@@ -48,7 +49,8 @@ pub(crate) fn are_accepted(options: StreamlineOptions) -> bool
 // A point locates nowhere.
 pub(crate) fn is_nowhere(words: &[u32], floats: &[f64], t: Tracer, p: Vec3) -> bool
     requires { ⌜ LocateEntry (now words) (now floats) t ⌝ }
-    ensures { λ r. ⌜ r ≡ Line.nowhere (tracerField t (now (words .entry)) (now (floats .entry))) p ⌝ }
+    ensures { λ r. ⌜ ((case : List ℕ) → r ≡ Line.nowhere
+        (tracerField t case (now (words .entry)) (now (floats .entry))) p) ⌝ }
 {
     let found = interpolate::locate(words, floats, t, p);
     let cell = found.cell;
@@ -72,8 +74,9 @@ pub fn integrate(
 ) -> Answered
     requires { ⌜ TracerEntry (now case) (now words) (now floats) t ⌝ }
     requires { ⌜ settings .options .«max_steps» ≤ mostSteps ⌝ }
-    ensures { λ r. ⌜ Reply (decided (Line.integrate (tracerField t (now (words .entry)) (now (floats .entry))) seed
-        settings style)) (valuesOf (now (case .entry))) (now (out .entry)) r (now (out .entry)) (now (out .exit))
+    ensures { λ r. ⌜ Reply (decided (Line.integrate
+        (tracerField t (now (case .entry)) (now (words .entry)) (now (floats .entry))) seed settings style))
+        (valuesOf (now (case .entry))) (now (out .entry)) r (now (out .entry)) (now (out .exit))
         (now (marks .entry)) (now (marks .exit)) ⌝ }
 {
     if are_accepted(settings.options) {

@@ -1,9 +1,12 @@
 // A line from its seed: what is written of it goes to the answer words as far as they fit.
 use crate::StreamlineDirection;
 use crate::StreamlineSettings;
+use arith::Found;
 use arith::Vec3;
+use case_file::field;
 use lines_step::Step;
 use lines_velocity::Tracer;
+use lines_velocity::interpolate;
 use lines_words::Pen;
 ghost use mathlib.Core.Path.{_≡_};
 ghost use mathlib.Core.Bool.{false};
@@ -38,7 +41,8 @@ fn points_after(
 ) -> Pen
     requires { ⌜ TracerEntry (now case) (now words) (now floats) t ⌝ }
     requires { ⌜ (start .at ≤ 16000000) × (start .count ≤ 1) × (settings .options .«max_steps» ≤ mostSteps) ⌝ }
-    ensures { λ r. ⌜ PointsAfterExit (Line.pointsAfter (tracerField t (now (words .entry)) (now (floats .entry)))
+    ensures { λ r. ⌜ PointsAfterExit (Line.pointsAfter
+        (tracerField t (now (case .entry)) (now (words .entry)) (now (floats .entry)))
         settings seed) (valuesOf (now (case .entry))) (now (marks .entry)) (now (marks .exit)) start
         (now (out .entry)) (now (out .exit)) r ⌝ }
 {
@@ -67,6 +71,23 @@ fn points_after(
     pen
 }
 
+// The zone that a seed locates in; in edition 1 it is 0 for every seed.
+fn home_of(case: &[u8], words: &[u32], floats: &[f64], t: Tracer, seed: Vec3) -> u32
+    requires { ⌜ TracerEntry (now case) (now words) (now floats) t ⌝ }
+    ensures { λ r. ⌜ r ≡ Line.homeOf
+        (tracerField t (now (case .entry)) (now (words .entry)) (now (floats .entry))) seed ⌝ }
+{
+    if t.counts.edition != 2 {
+        return 0;
+    }
+    let found = interpolate::locate(words, floats, t, seed);
+    let cell = found.cell;
+    match cell {
+        Found::At(i) => field::zone(case, t.counts, i),
+        Found::Nothing => 0,
+    }
+}
+
 // The words of the line from a seed that locates, with a pen that wrote nothing yet; how many there
 // are.
 pub fn trace(
@@ -82,12 +103,25 @@ pub fn trace(
 ) -> usize
     requires { ⌜ TracerEntry (now case) (now words) (now floats) t ⌝ }
     requires { ⌜ (start .at ≤ 16000000) × (start .count ≡ 0) × (settings .options .«max_steps» ≤ mostSteps) ⌝ }
-    requires { ⌜ Line.nowhere (tracerField t (now words) (now floats)) seed ≡ false ⌝ }
-    ensures { λ r. ⌜ TraceExit (Line.lineAnswer (tracerField t (now (words .entry)) (now (floats .entry)))
+    requires { ⌜ Line.nowhere (tracerField t (now case) (now words) (now floats)) seed ≡ false ⌝ }
+    ensures { λ r. ⌜ TraceExit (Line.lineAnswer
+        (tracerField t (now (case .entry)) (now (words .entry)) (now (floats .entry)))
         (start .style) settings seed) (valuesOf (now (case .entry))) (now (marks .entry)) (now (marks .exit))
         (now (out .entry)) (now (out .exit)) (start .at) r × (r ≤ 196612) ⌝ }
 {
+    let home = home_of(case, words, floats, t, seed);
+    let tracer = lines_velocity::staying(t, home);
     let first = lines_words::put_point(out, start, seed);
-    let pen = points_after(case, words, floats, t, marks, out, first, seed, settings);
+    let pen = points_after(
+        case,
+        words,
+        floats,
+        tracer,
+        marks,
+        out,
+        first,
+        seed,
+        settings,
+    );
     lines_words::close(out, pen)
 }

@@ -9,7 +9,8 @@ use lines_velocity::Tracer;
 use lines_words::Style;
 ghost use mathlib.Core.Path.{_≡_};
 ghost use mathlib.Core.Bool.{false};
-ghost use Prim.Native.Nat.{_≤_, _<_, _*_, _+_};
+ghost use mathlib.Core.List.{List};
+ghost use Prim.Native.Nat.{ℕ, _≤_, _<_, _*_, _+_};
 ghost use Rattle.arith.specs.Limits.{mostSteps};
 ghost use Rattle.arith.specs.Lists.{anyOf};
 ghost use Rattle.case_file.specs.Field.{valuesOf};
@@ -32,8 +33,8 @@ fn seed_at(rake: Rake, i: usize) -> Vec3
 fn any_nowhere(words: &[u32], floats: &[f64], t: Tracer, rake: Rake) -> bool
     requires { ⌜ LocateEntry (now words) (now floats) t ⌝ }
     requires { ⌜ (2 ≤ rake .count) × (rake .count ≤ 64) ⌝ }
-    ensures { λ r. ⌜ r ≡ anyOf (nowhere (tracerField t (now (words .entry)) (now (floats .entry))))
-        (Rakes.seeds rake) ⌝ }
+    ensures { λ r. ⌜ ((case : List ℕ) → r ≡ anyOf (nowhere
+        (tracerField t case (now (words .entry)) (now (floats .entry)))) (Rakes.seeds rake)) ⌝ }
 {
     let count = rake.count;
     let mut i = 0;
@@ -59,8 +60,9 @@ fn trace_all(
 ) -> usize
     requires { ⌜ TracerEntry (now case) (now words) (now floats) t ⌝ }
     requires { ⌜ (2 ≤ rake .count) × (rake .count ≤ 64) × (settings .options .«max_steps» ≤ mostSteps) ⌝ }
-    requires { ⌜ anyOf (nowhere (tracerField t (now words) (now floats))) (Rakes.seeds rake) ≡ false ⌝ }
-    ensures { λ r. ⌜ TraceExit (Rakes.linesWords (tracerField t (now (words .entry)) (now (floats .entry))) settings
+    requires { ⌜ anyOf (nowhere (tracerField t (now case) (now words) (now floats))) (Rakes.seeds rake) ≡ false ⌝ }
+    ensures { λ r. ⌜ TraceExit (Rakes.linesWords
+        (tracerField t (now (case .entry)) (now (words .entry)) (now (floats .entry))) settings
         (Rakes.seeds rake)) (valuesOf (now (case .entry))) (now (marks .entry)) (now (marks .exit))
         (now (out .entry)) (now (out .exit)) 1 r × (r ≤ 12583168) ⌝ }
 {
@@ -90,7 +92,8 @@ pub fn integrate_rake(
 ) -> Answered
     requires { ⌜ TracerEntry (now case) (now words) (now floats) t ⌝ }
     requires { ⌜ (2 ≤ rake .count) × (rake .count ≤ 64) × (settings .options .«max_steps» ≤ mostSteps) ⌝ }
-    ensures { λ r. ⌜ Reply (decided (Rakes.integrateRake (tracerField t (now (words .entry)) (now (floats .entry)))
+    ensures { λ r. ⌜ Reply (decided (Rakes.integrateRake
+        (tracerField t (now (case .entry)) (now (words .entry)) (now (floats .entry)))
         rake settings)) (valuesOf (now (case .entry))) (now (out .entry)) r (now (out .entry)) (now (out .exit))
         (now (marks .entry)) (now (marks .exit)) ⌝ }
 {

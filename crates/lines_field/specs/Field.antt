@@ -1,6 +1,6 @@
 -- `StreamlineField::from_dataset`, with the refusals 18 and 19.
 use Prim.Native.Nat.{ℕ}
-use mathlib.Core.List.{List, map}
+use mathlib.Core.List.{List, [], map}
 use lib.ListN.{length}
 use Rattle.arith.specs.Lists.{flatten}
 use Rattle.arith.specs.declared.Vec2.{Vec2}
@@ -33,7 +33,7 @@ gridOf cells ls = gridFor (boundsOf (flatten ls)) (binCounts cells (boundsOf (fl
 unfoldable pub fieldOf : Mesh → Result StreamlineField
 fieldOf m =
     gridOf (length (m .cells)) (polygonsOf m) >>= λ g.
-    fine (record { polygons = map (listedIn g) (polygonsOf m); cells = m .cells; grid = g; search = Bins })
+    fine (record { polygons = map (listedIn g) (polygonsOf m); cells = m .cells; grid = g; search = Bins; zones = []; home = 0 })
 
 -- what each case of the answer stands for
 unfoldable pub builtGrid : Built → Result Grid

@@ -5,7 +5,7 @@
 -- `wordsAt`, `floatsAt`: where a cell's words and floats start. `countIn`, `polygonIn`: its polygon.
 -- `binFrom`, `cellPolygonIn`, `cellPolygonsIn`: the polygons with their bins. `fieldIn`: the whole field.
 use Prim.Native.Nat.{ℕ, _+_, _*_, _/_, _%_, min}
-use mathlib.Core.List.{List}
+use mathlib.Core.List.{List, []}
 use lib.ListN.{getD}
 use lib.Ieee.{Float}
 use Rattle.arith.specs.Limits.{mostBins}
@@ -53,7 +53,7 @@ cellPolygonIn s words floats i =
 unfoldable pub cellPolygonsIn : Sizes → List ℕ → List Float → List CellPolygon
 cellPolygonsIn s words floats = tab (cellPolygonIn s words floats) (s .cells)
 
--- the field that the area holds, whatever stands there, as it is built
+-- the field that the area holds, whatever stands there, as it is built: without zones
 unfoldable pub fieldIn : Grid → Sizes → List ℕ → List Float → StreamlineField
 fieldIn g s words floats =
-    record { polygons = cellPolygonsIn s words floats; cells = cellsIn s words floats; grid = g; search = Bins }
+    record { polygons = cellPolygonsIn s words floats; cells = cellsIn s words floats; grid = g; search = Bins; zones = []; home = 0 }

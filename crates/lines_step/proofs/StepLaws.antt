@@ -4,6 +4,7 @@ use mathlib.Core.Path.{_≡_, sym, _∙_}
 use mathlib.Core.Bool.{Bool, true, false}
 use mathlib.Core.List.{List}
 use lib.Ieee.{Float}
+use borrow.Author.Tests.{eq-eqb, ne-eqb}
 use Rattle.arith.specs.F64.{_⊕_, _≺_, finite}
 use Rattle.arith.specs.Vec.{plus, minus, times, norm}
 use Rattle.arith.specs.declared.Vec3.{Vec3}
@@ -13,7 +14,7 @@ use Rattle.reading.specs.declared.Values.{Values}
 use Rattle.reading.specs.Asks.{Asks, give, _>>=_}
 use Rattle.reading.specs.Served.{Served}
 use Rattle.reading.proofs.ServedLaws.{served-give, served-then}
-use Rattle.lines_locate.specs.Field.{StreamlineField}
+use Rattle.lines_locate.specs.Field.{StreamlineField, zoneAt}
 use Rattle.lines_velocity.specs.declared.Vector.{Vector}
 use Rattle.lines_velocity.specs.declared.Vector.the-variants.{Here, Nowhere}
 use Rattle.lines_velocity.specs.Velocity.{locateIn, from, directionAt}
@@ -37,18 +38,25 @@ module _ (F : StreamlineField) (v : ℕ → Values) (m m′ : List ℕ) (still h
     (d : Served (rungeKutta (directionAt F still) h p) v m m′ r) where
   pub rk4-lost : r ≡ Nowhere → Served (rk4Step F still h p) v m m′ Nowhere
   unfolding rk4Step
-  rk4-lost e = served-lost (λ q. give (hereIf (locateIn F q) q)) d e
+  rk4-lost e = served-lost (λ q. give (hereIf F (locateIn F q) q)) d e
 
   module _ (q : Vec3) (l : Found) (e : r ≡ Here q) (el : l ≡ locateIn F q) where
     pub rk4-outside : l ≡ Nothing → Served (rk4Step F still h p) v m m′ Nowhere
     unfolding rk4Step hereIf
     rk4-outside n =
-        served-found (λ q. give (hereIf (locateIn F q) q)) d e (rw (sym el ∙ n) served-give)
+        served-found (λ q. give (hereIf F (locateIn F q) q)) d e (rw (sym el ∙ n) served-give)
 
-    pub rk4-inside : (i : ℕ) → l ≡ At i → Served (rk4Step F still h p) v m m′ (Here q)
-    unfolding rk4Step hereIf
-    rk4-inside i n =
-        served-found (λ q. give (hereIf (locateIn F q) q)) d e (rw (sym el ∙ n) served-give)
+    -- the zone of the cell that was found, and the line's
+    module _ (i z home : ℕ) (n : l ≡ At i) (ez : z ≡ zoneAt F i) (eh : home ≡ F .home) where
+      pub rk4-inside : z ≡ home → Served (rk4Step F still h p) v m m′ (Here q)
+      unfolding rk4Step hereIf
+      rk4-inside k =
+          served-found (λ q. give (hereIf F (locateIn F q) q)) d e (rw (sym el ∙ n) (rw (eq-eqb (zoneAt F i) (F .home) (sym ez ∙ k ∙ eh)) served-give))
+
+      pub rk4-across : (z ≡ home → ⊥) → Served (rk4Step F still h p) v m m′ Nowhere
+      unfolding rk4Step hereIf
+      rk4-across k =
+          served-found (λ q. give (hereIf F (locateIn F q) q)) d e (rw (sym el ∙ n) (rw (ne-eqb (zoneAt F i) (F .home) (λ w. k (ez ∙ w ∙ sym eh))) served-give))
 
 module _ (f : StreamlineField) (v : ℕ → Values) (m m′ : List ℕ) (o : StreamlineOptions) (h : Float) (p : Vec3) (total : Float) (r : Vector)
     (d : Served (rk4Step f (o .«stagnation_speed») h p) v m m′ r) where

@@ -2,6 +2,7 @@
 use arith::Found;
 use arith::Vec3;
 use arith::float;
+use case_file::field;
 use lines_velocity::Tracer;
 use lines_velocity::Vector;
 use lines_velocity::interpolate::direction_at;
@@ -56,7 +57,8 @@ fn fourth(
 ) -> Vector
     requires { ⌜ TracerEntry (now case) (now words) (now floats) t ⌝ }
     ensures { λ r. ⌜ Served (RungeKutta.fourth
-        (directionAt (tracerField t (now (words .entry)) (now (floats .entry))) (start .«stagnation_speed»))
+        (directionAt (tracerField t (now (case .entry)) (now (words .entry)) (now (floats .entry)))
+        (start .«stagnation_speed»))
         (start .step) (start .point) k1 k2 k3)
         (valuesOf (now (case .entry))) (now (marks .entry)) (now (marks .exit)) r ⌝ }
 {
@@ -81,7 +83,8 @@ fn third(
 ) -> Vector
     requires { ⌜ TracerEntry (now case) (now words) (now floats) t ⌝ }
     ensures { λ r. ⌜ Served (RungeKutta.third
-        (directionAt (tracerField t (now (words .entry)) (now (floats .entry))) (start .«stagnation_speed»))
+        (directionAt (tracerField t (now (case .entry)) (now (words .entry)) (now (floats .entry)))
+        (start .«stagnation_speed»))
         (start .step) (start .point) k1 k2)
         (valuesOf (now (case .entry))) (now (marks .entry)) (now (marks .exit)) r ⌝ }
 {
@@ -105,7 +108,8 @@ fn second(
 ) -> Vector
     requires { ⌜ TracerEntry (now case) (now words) (now floats) t ⌝ }
     ensures { λ r. ⌜ Served (RungeKutta.second
-        (directionAt (tracerField t (now (words .entry)) (now (floats .entry))) (start .«stagnation_speed»))
+        (directionAt (tracerField t (now (case .entry)) (now (words .entry)) (now (floats .entry)))
+        (start .«stagnation_speed»))
         (start .step) (start .point) k1)
         (valuesOf (now (case .entry))) (now (marks .entry)) (now (marks .exit)) r ⌝ }
 {
@@ -128,7 +132,8 @@ fn runge_kutta(
 ) -> Vector
     requires { ⌜ TracerEntry (now case) (now words) (now floats) t ⌝ }
     ensures { λ r. ⌜ Served (RungeKutta.rungeKutta
-        (directionAt (tracerField t (now (words .entry)) (now (floats .entry))) (start .«stagnation_speed»))
+        (directionAt (tracerField t (now (case .entry)) (now (words .entry)) (now (floats .entry)))
+        (start .«stagnation_speed»))
         (start .step) (start .point)) (valuesOf (now (case .entry))) (now (marks .entry)) (now (marks .exit)) r ⌝ }
 {
     let Vector::Here(k1) = direction_at(
@@ -145,7 +150,7 @@ fn runge_kutta(
     second(case, words, floats, t, marks, start, k1)
 }
 
-// The same, where it locates.
+// The same, where it locates in the line's zone.
 fn rk4_step(
     case: &[u8],
     words: &[u32],
@@ -155,7 +160,8 @@ fn rk4_step(
     start: StepStart,
 ) -> Vector
     requires { ⌜ TracerEntry (now case) (now words) (now floats) t ⌝ }
-    ensures { λ r. ⌜ Served (Steps.rk4Step (tracerField t (now (words .entry)) (now (floats .entry)))
+    ensures { λ r. ⌜ Served (Steps.rk4Step
+        (tracerField t (now (case .entry)) (now (words .entry)) (now (floats .entry)))
         (start .«stagnation_speed») (start .step) (start .point))
         (valuesOf (now (case .entry))) (now (marks .entry)) (now (marks .exit)) r ⌝ }
 {
@@ -164,10 +170,14 @@ fn rk4_step(
     };
     let found = locate(words, floats, t, q);
     let cell = found.cell;
-    let Found::At(_) = cell else {
+    let Found::At(i) = cell else {
         return Vector::Nowhere;
     };
-    Vector::Here(q)
+    if field::zone(case, t.counts, i) == t.home {
+        Vector::Here(q)
+    } else {
+        Vector::Nowhere
+    }
 }
 
 // The next point q with its segment, where the line may go on to it.
@@ -197,7 +207,8 @@ pub fn line_step(
     total: f64,
 ) -> Step
     requires { ⌜ TracerEntry (now case) (now words) (now floats) t ⌝ }
-    ensures { λ r. ⌜ Served (Steps.step (tracerField t (now (words .entry)) (now (floats .entry))) options h p total)
+    ensures { λ r. ⌜ Served (Steps.step
+        (tracerField t (now (case .entry)) (now (words .entry)) (now (floats .entry))) options h p total)
         (valuesOf (now (case .entry))) (now (marks .entry)) (now (marks .exit)) r ⌝ }
 {
     let start = StepStart {

@@ -1,3 +1,3 @@
 pub mod VelocityLaws
 pub mod ReachLaws
-pub mod SearchLaws
+pub mod TracerLaws

@@ -20,8 +20,7 @@ use Rattle.reading.specs.Served.{Served}
 use Rattle.reading.proofs.ServedLaws.{served-give, served-then}
 use Rattle.mesh_area.specs.Tables.{Cell, cellAt}
 use Rattle.mesh_area.specs.Layout.{cellsIn}
-use Rattle.lines_locate.specs.Field.{StreamlineField}
-use Rattle.lines_locate.specs.Field.{searching}
+use Rattle.lines_locate.specs.Field.{StreamlineField, searching, zoned, staying}
 use Rattle.lines_locate.specs.Layout.{fieldIn}
 use Rattle.lines_velocity.specs.declared.Tracer.{Tracer}
 use Rattle.lines_velocity.specs.declared.Vector.{Vector}
@@ -68,45 +67,45 @@ module _ (cells : List Cell) (p : Vec3) where
 
 -- ---- the blend
 
-module _ (t : Tracer) (w : List ℕ) (f : List Float) (v : ℕ → Values) (m : List ℕ) (p : Vec3) (i : ℕ) (base : Vec3) where
+module _ (t : Tracer) (case w : List ℕ) (f : List Float) (v : ℕ → Values) (m : List ℕ) (p : Vec3) (i : ℕ) (base : Vec3) where
   module _ (k : ℕ) (ci ck offset : Vec3) (a : Bool) (ei : ci ≡ cellAt (cellsIn (t .sizes) w f) i .centre) (ek : ck ≡ cellAt (cellsIn (t .sizes) w f) k .centre)
       (eo : offset ≡ minus ck ci) (ea : a ≡ apart offset) where
-    here : ci ≡ centreOf (tracerField t w f .cells) i
-    unfolding centreOf tracerField searching fieldIn
+    here : ci ≡ centreOf (tracerField t case w f .cells) i
+    unfolding centreOf tracerField staying zoned searching fieldIn
     here = ei
 
-    there : offset ≡ minus (centreOf (tracerField t w f .cells) k) (centreOf (tracerField t w f .cells) i)
-    unfolding centreOf tracerField searching fieldIn
+    there : offset ≡ minus (centreOf (tracerField t case w f .cells) k) (centreOf (tracerField t case w f .cells) i)
+    unfolding centreOf tracerField staying zoned searching fieldIn
     there = eo ∙ rw (ek, ei)
 
-    pub beside-not : a ≡ false → Served (beside (tracerField t w f) p i base k) v m m base
+    pub beside-not : a ≡ false → Served (beside (tracerField t case w f) p i base k) v m m base
     unfolding beside besideIf
     beside-not e = rw (← there, ← ea, e) served-give
 
     pub beside-read : {m′ : List ℕ} {u : Values} {r : Vec3} → a ≡ true → Served (ask k give) v m m′ u → r ≡ blended p ci offset base (u .velocity)
-        → Served (beside (tracerField t w f) p i base k) v m m′ r
+        → Served (beside (tracerField t case w f) p i base k) v m m′ r
     unfolding beside besideIf
     beside-read e s er =
         rw (← there, ← ea, e)
         (rw (er, here, there)
-        (served-then (λ x. give (blended p (centreOf (tracerField t w f .cells) i) (minus (centreOf (tracerField t w f .cells) k) (centreOf (tracerField t w f .cells) i)) base (x .velocity))) s served-give))
+        (served-then (λ x. give (blended p (centreOf (tracerField t case w f .cells) i) (minus (centreOf (tracerField t case w f .cells) k) (centreOf (tracerField t case w f .cells) i)) base (x .velocity))) s served-give))
 
-  pub toward-none : (count : ℕ) → count ≡ length (cellAt (cellsIn (t .sizes) w f) i .neighbours) → count ≡ 0 → Served (toward (tracerField t w f) p i base) v m m base
-  unfolding toward neighboursOf tracerField searching fieldIn
+  pub toward-none : (count : ℕ) → count ≡ length (cellAt (cellsIn (t .sizes) w f) i .neighbours) → count ≡ 0 → Served (toward (tracerField t case w f) p i base) v m m base
+  unfolding toward neighboursOf tracerField staying zoned searching fieldIn
   toward-none count e z = by (cellAt (cellsIn (t .sizes) w f) i .neighbours) (sym e ∙ z)
     where
-      by : (l : List ℕ) → length l ≡ 0 → Served (besideNearest (tracerField t w f) p i base l) v m m base
+      by : (l : List ℕ) → length l ≡ 0 → Served (besideNearest (tracerField t case w f) p i base l) v m m base
       by [] q = unfold besideNearest in served-give
       by (x ∷ l) q = absurd (omega arith)
 
   pub toward-some : {m′ : List ℕ} {r : Vec3} (count k : ℕ) → count ≡ length (cellAt (cellsIn (t .sizes) w f) i .neighbours) → (count ≡ 0 → ⊥)
       → k ≡ nearestOf (cellsIn (t .sizes) w f) p (neighboursOf (cellsIn (t .sizes) w f) i)
-      → Served (beside (tracerField t w f) p i base k) v m m′ r → Served (toward (tracerField t w f) p i base) v m m′ r
-  unfolding toward neighboursOf tracerField searching fieldIn
+      → Served (beside (tracerField t case w f) p i base k) v m m′ r → Served (toward (tracerField t case w f) p i base) v m m′ r
+  unfolding toward neighboursOf tracerField staying zoned searching fieldIn
   toward-some {m′} {r} count k e z ek d = by (cellAt (cellsIn (t .sizes) w f) i .neighbours) (λ q. z (e ∙ q)) (rw ek at d)
     where
-      by : (l : List ℕ) → (length l ≡ 0 → ⊥) → Served (beside (tracerField t w f) p i base (nearestOf (tracerField t w f .cells) p l)) v m m′ r
-          → Served (besideNearest (tracerField t w f) p i base l) v m m′ r
+      by : (l : List ℕ) → (length l ≡ 0 → ⊥) → Served (beside (tracerField t case w f) p i base (nearestOf (tracerField t case w f .cells) p l)) v m m′ r
+          → Served (besideNearest (tracerField t case w f) p i base l) v m m′ r
       by [] q x = absurd (q refl)
       by (n ∷ l) q x = unfold besideNearest in x
 

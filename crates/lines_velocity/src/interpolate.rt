@@ -104,7 +104,7 @@ fn beside(
 ) -> Vec3
     requires { ⌜ (opened (now case) ≡ Case (t .counts)) × LentFloats (t .sizes) (now floats) ⌝ }
     ensures { λ r. ⌜ ((words : List ℕ) → Served
-        (Velocity.beside (tracerField t words (now (floats .entry))) p i base k)
+        (Velocity.beside (tracerField t (now (case .entry)) words (now (floats .entry))) p i base k)
         (valuesOf (now (case .entry))) (now (marks .entry)) (now (marks .exit)) r) ⌝ }
 {
     let centre = mesh_area::centre_of(floats, t.sizes, i);
@@ -128,7 +128,8 @@ fn toward(
     base: Vec3,
 ) -> Vec3
     requires { ⌜ TracerEntry (now case) (now words) (now floats) t ⌝ }
-    ensures { λ r. ⌜ Served (Velocity.toward (tracerField t (now (words .entry)) (now (floats .entry))) p i base)
+    ensures { λ r. ⌜ Served (Velocity.toward
+        (tracerField t (now (case .entry)) (now (words .entry)) (now (floats .entry))) p i base)
         (valuesOf (now (case .entry))) (now (marks .entry)) (now (marks .exit)) r ⌝ }
 {
     if mesh_area::neighbour_count(words, t.sizes, i) == 0 {
@@ -149,7 +150,8 @@ fn velocity_in(
     i: usize,
 ) -> Vec3
     requires { ⌜ TracerEntry (now case) (now words) (now floats) t ⌝ }
-    ensures { λ r. ⌜ Served (Velocity.velocityIn (tracerField t (now (words .entry)) (now (floats .entry))) p i)
+    ensures { λ r. ⌜ Served (Velocity.velocityIn
+        (tracerField t (now (case .entry)) (now (words .entry)) (now (floats .entry))) p i)
         (valuesOf (now (case .entry))) (now (marks .entry)) (now (marks .exit)) r ⌝ }
 {
     let v = field::read_cell(case, t.counts, marks, i);
@@ -159,8 +161,10 @@ fn velocity_in(
 // The cell that p locates in, and where p lies to its polygon.
 pub fn locate(words: &[u32], floats: &[f64], t: Tracer, p: Vec3) -> Located
     requires { ⌜ LocateEntry (now words) (now floats) t ⌝ }
-    ensures { λ r. ⌜ r ≡ Velocity.locatedIn (tracerField t (now (words .entry)) (now (floats .entry))) p ⌝ }
-    ensures { λ r. ⌜ r .cell ≡ Velocity.locateIn (tracerField t (now (words .entry)) (now (floats .entry))) p ⌝ }
+    ensures { λ r. ⌜ ((case : List ℕ) → r ≡ Velocity.locatedIn
+        (tracerField t case (now (words .entry)) (now (floats .entry))) p) ⌝ }
+    ensures { λ r. ⌜ ((case : List ℕ) → r .cell ≡ Velocity.locateIn
+        (tracerField t case (now (words .entry)) (now (floats .entry))) p) ⌝ }
 {
     let search = t.search;
     lines_locate::locate_cell(words, floats, t.sizes, t.grid, search, p)
@@ -176,7 +180,8 @@ pub fn velocity_at(
     p: Vec3,
 ) -> Vector
     requires { ⌜ TracerEntry (now case) (now words) (now floats) t ⌝ }
-    ensures { λ r. ⌜ Served (Velocity.velocityAt (tracerField t (now (words .entry)) (now (floats .entry))) p)
+    ensures { λ r. ⌜ Served (Velocity.velocityAt
+        (tracerField t (now (case .entry)) (now (words .entry)) (now (floats .entry))) p)
         (valuesOf (now (case .entry))) (now (marks .entry)) (now (marks .exit)) r ⌝ }
 {
     let found = locate(words, floats, t, p);
@@ -212,7 +217,8 @@ pub fn direction_at(
     stagnation_speed: f64,
 ) -> Vector
     requires { ⌜ TracerEntry (now case) (now words) (now floats) t ⌝ }
-    ensures { λ r. ⌜ Served (Velocity.directionAt (tracerField t (now (words .entry)) (now (floats .entry)))
+    ensures { λ r. ⌜ Served (Velocity.directionAt
+        (tracerField t (now (case .entry)) (now (words .entry)) (now (floats .entry)))
         «stagnation_speed» p) (valuesOf (now (case .entry))) (now (marks .entry)) (now (marks .exit)) r ⌝ }
 {
     let Vector::Here(v) = velocity_at(case, words, floats, t, marks, p) else {

@@ -19,3 +19,4 @@ pub mod SharedFace
 pub mod Sheets
 pub mod Tetrahedron
 pub mod ThirdUser
+pub mod Zones

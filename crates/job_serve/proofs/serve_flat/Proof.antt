@@ -1,4 +1,4 @@
-use Rattle.lines_velocity.proofs.SearchLaws.{searching-field, searching-traces}
+use Rattle.lines_velocity.proofs.TracerLaws.{searching-field, searching-traces}
 use Rattle.job_serve.proofs.Laws.{flat-refused, flat-other, flat-code, flat-streamline, flat-rake, allowed-streamline, allowed-rake}
 use borrow.Author.Needs.{needs}
 use Rattle.job_serve.proofs.serve_flat.Statement.{statement}
@@ -48,7 +48,7 @@ same-length : tie.Need-same-length
 same-length c = search needs
 
 returns-2 : tie.Need-returns-2
-returns-2 c = flat-code _ _ _ (c .before .before .before .before .before .q2 .given .1) (c .before .before .serve-locate .ensures _ _)
+returns-2 c = flat-code _ _ _ (c .before .before .before .before .before .q2 .given .1) (c .before .before .serve-locate .ensures _ _ _)
 
 same-length-2 : tie.Need-same-length-2
 same-length-2 c = search needs
@@ -67,7 +67,7 @@ same-length-5 c = search needs
 
 returns-4 : tie.Need-returns-4
 returns-4 c =
-    flat-streamline _ _ _ _ _ (searching-field _ _ _ _ _ (c .before .before .before .before .before .before .before .searching .ensures)) _ _ (c .before .before .before .before .before .before .before .before .before .q4 .given .1) (c .before .before .before .before .integrate .ensures)
+    flat-streamline _ _ _ _ _ (searching-field _ _ _ _ _ (c .before .before .before .before .before .before .before .searching .ensures) _) _ _ (c .before .before .before .before .before .before .before .before .before .q4 .given .1) (c .before .before .before .before .integrate .ensures)
 
 same-length-6 : tie.Need-same-length-6
 same-length-6 c = search needs
@@ -77,7 +77,7 @@ same-length-7 c = search needs
 
 returns-5 : tie.Need-returns-5
 returns-5 c =
-    flat-rake _ _ _ _ _ (searching-field _ _ _ _ _ (c .before .before .before .before .before .before .before .searching2 .ensures)) _ (c .before .before .before .before .before .before .before .before .before .q5 .given .1) (c .before .before .before .before .integrate-rake .ensures)
+    flat-rake _ _ _ _ _ (searching-field _ _ _ _ _ (c .before .before .before .before .before .before .before .searching2 .ensures) _) _ (c .before .before .before .before .before .before .before .before .before .q5 .given .1) (c .before .before .before .before .integrate-rake .ensures)
 
 returns-6 : tie.Need-returns-6
 returns-6 c = flat-other _ _ (c .match .keys6)

@@ -1,4 +1,4 @@
-use Rattle.lines_velocity.proofs.SearchLaws.{searching-field, searching-locates}
+use Rattle.lines_velocity.proofs.TracerLaws.{searching-field, searching-locates}
 use Rattle.job_serve.proofs.Laws.{locate-reply}
 use borrow.Author.Needs.{needs}
 use Rattle.job_serve.proofs.serve_locate.Statement.{statement}
@@ -18,8 +18,8 @@ same-length c = search needs
 
 returns : tie.Need-returns
 returns c =
-    λ f m.
-    locate-reply _ _ _ _ _ (searching-field _ _ _ _ _ (c .before .before .before .before .before .searching .ensures)) (c .before .before .before .before .locate .ensures .0) (c .before .before .put-located .ensures)
+    λ case f m.
+    locate-reply _ _ _ _ _ (searching-field _ _ _ _ _ (c .before .before .before .before .before .searching .ensures) case) (c .before .before .before .before .locate .ensures .0 case) (c .before .before .put-located .ensures)
 
 pub serve-locate-spec : {M : Type 1} → statement M
 serve-locate-spec =

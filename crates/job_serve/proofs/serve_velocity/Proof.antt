@@ -1,4 +1,4 @@
-use Rattle.lines_velocity.proofs.SearchLaws.{searching-field, searching-traces}
+use Rattle.lines_velocity.proofs.TracerLaws.{searching-field, searching-traces}
 use Rattle.job_serve.proofs.Laws.{velocity-reply}
 use borrow.Author.Needs.{needs}
 use Rattle.job_serve.proofs.serve_velocity.Statement.{statement}
@@ -21,7 +21,7 @@ same-length-2 c = search needs
 
 returns : tie.Need-returns
 returns c =
-    velocity-reply _ _ _ _ _ (searching-field _ _ _ _ _ (c .before .before .before .before .before .before .before .before .searching .ensures)) (c .before .before .before .before .before .before .velocity-at .ensures) (c .before .before .put-velocity .ensures)
+    velocity-reply _ _ _ _ _ (searching-field _ _ _ _ _ (c .before .before .before .before .before .before .before .before .searching .ensures) _) (c .before .before .before .before .before .before .velocity-at .ensures) (c .before .before .put-velocity .ensures)
 
 pub serve-velocity-spec : {M : Type 1} → statement M
 serve-velocity-spec =

@@ -14,7 +14,7 @@ is-nowhere-requires c κs = search needs
 
 returns : tie.Need-returns
 unfolding integrate
-returns c = answered-refused 35 (is-lost _ _ (c .before .before .before .are-accepted .ensures) (c .before .before .if1 .taken) (c .before .is-nowhere .ensures) (c .if2 .taken))
+returns c = answered-refused 35 (is-lost _ _ (c .before .before .before .are-accepted .ensures) (c .before .before .if1 .taken) (c .before .is-nowhere .ensures _) (c .if2 .taken))
 
 pen-at-requires : tie.Need-pen-at-requires
 pen-at-requires c κs = search needs
@@ -23,7 +23,7 @@ trace-requires : tie.Need-trace-requires
 trace-requires c κs =
     let entry = c .before .before .before .before .before .before .before .before .before .before .before .before .pre in
     let pen = c .before .before .pen-at .ensures in
-    (entry .0, (rw pen (omega arith, refl, entry .1), sym (c .before .before .before .before .is-nowhere .ensures) ∙ c .before .before .before .if2 .left))
+    (entry .0, (rw pen (omega arith, refl, entry .1), sym (c .before .before .before .before .is-nowhere .ensures _) ∙ c .before .before .before .if2 .left))
 
 same-length : tie.Need-same-length
 same-length c = search needs
@@ -35,7 +35,7 @@ returns-2 : tie.Need-returns-2
 unfolding integrate
 returns-2 c =
     answered-fine _
-    (is-fine _ _ (c .before .before .before .before .before .before .before .before .before .before .before .are-accepted .ensures) (c .before .before .before .before .before .before .before .before .before .before .if1 .taken) (c .before .before .before .before .before .before .before .before .before .is-nowhere .ensures) (c .before .before .before .before .before .before .before .before .if2 .left))
+    (is-fine _ _ (c .before .before .before .before .before .before .before .before .before .before .before .are-accepted .ensures) (c .before .before .before .before .before .before .before .before .before .before .if1 .taken) (c .before .before .before .before .before .before .before .before .before .is-nowhere .ensures _) (c .before .before .before .before .before .before .before .before .if2 .left))
     (rw (c .before .before .before .before .before .before .before .pen-at .ensures) at (c .before .before .before .before .trace .ensures .0))
 
 returns-3 : tie.Need-returns-3

@@ -13,10 +13,10 @@ enum-told-2 : tie.Need-enum-told-2
 enum-told-2 c = search needs
 
 returns : tie.Need-returns
-returns c = nowhere-not _ _ _ (c .before .before .locate .ensures .1) _ (c .enum-told .given .1)
+returns c = λ case. nowhere-not _ _ _ (c .before .before .locate .ensures .1 case) _ (c .enum-told .given .1)
 
 returns-2 : tie.Need-returns-2
-returns-2 c = nowhere-so _ _ _ (c .before .before .locate .ensures .1) (c .enum-told2 .given .1)
+returns-2 c = λ case. nowhere-so _ _ _ (c .before .before .locate .ensures .1 case) (c .enum-told2 .given .1)
 
 pub is-nowhere-spec : {M : Type 1} → statement M
 is-nowhere-spec = tie.close (tie.spec locate-requires enum-told enum-told-2 returns returns-2)

@@ -20,7 +20,7 @@ use Rattle.lines.proofs.line.points_after.Statement.{statement}
 use Rattle.lines.proofs.line.points_after.Tie as tie
 
 abbrev Inv-loop : tie.InvT-loop
-Inv-loop case words floats t marks₀ out₀ options h most total₀ p₀ pen₀ k₀ marks out total p pen k = record { done : List Vec3; below : k ≤ most; few : pen .count ≤ k + 1; place : pen .at ≡ pen₀ .at; kept : length marks ≡ length marks₀; as-long : length out ≡ length out₀; written : out ≡ sets out₀ (nextWord pen₀) (wordsAlong pen₀ done); drawn-by : pen ≡ penAlong pen₀ done; going : Going (lineFrom (tracerField t words floats) options h most p₀ 0·0) (valuesOf case) marks₀ (left (tracerField t words floats) options h done (most - k) p total) marks }
+Inv-loop case words floats t marks₀ out₀ options h most total₀ p₀ pen₀ k₀ marks out total p pen k = record { done : List Vec3; below : k ≤ most; few : pen .count ≤ k + 1; place : pen .at ≡ pen₀ .at; kept : length marks ≡ length marks₀; as-long : length out ≡ length out₀; written : out ≡ sets out₀ (nextWord pen₀) (wordsAlong pen₀ done); drawn-by : pen ≡ penAlong pen₀ done; going : Going (lineFrom (tracerField t case words floats) options h most p₀ 0·0) (valuesOf case) marks₀ (left (tracerField t case words floats) options h done (most - k) p total) marks }
 
 abbrev μ-loop : tie.MeasureT-loop
 μ-loop case words floats t marks₀ out₀ options h most total₀ p₀ pen₀ k₀ marks out total p pen k = most - k

@@ -13,11 +13,11 @@ any-nowhere-requires c κs = search needs
 
 returns : tie.Need-returns
 unfolding integrateRake
-returns c = answered-refused 35 (is-lost _ _ (c .before .before .before .are-accepted .ensures) (c .before .before .if1 .taken) (c .before .any-nowhere .ensures) (c .if2 .taken))
+returns c = answered-refused 35 (is-lost _ _ (c .before .before .before .are-accepted .ensures) (c .before .before .if1 .taken) (c .before .any-nowhere .ensures _) (c .if2 .taken))
 
 trace-all-requires : tie.Need-trace-all-requires
 trace-all-requires c κs =
-    let entry = c .before .before .before .before .before .before .before .before .before .before .before .pre in (entry .0, (entry .1, sym (c .before .before .before .any-nowhere .ensures) ∙ c .before .before .if2 .left))
+    let entry = c .before .before .before .before .before .before .before .before .before .before .before .pre in (entry .0, (entry .1, sym (c .before .before .before .any-nowhere .ensures _) ∙ c .before .before .if2 .left))
 
 put-requires : tie.Need-put-requires
 put-requires c κs = search needs
@@ -33,7 +33,7 @@ same-length-2 c = search needs
 
 returns-2 : tie.Need-returns-2
 unfolding integrateRake
-returns-2 c = answered-fine _ (is-fine _ _ (c .before .before .before .before .before .before .before .before .before .before .before .before .before .before .are-accepted .ensures) (c .before .before .before .before .before .before .before .before .before .before .before .before .before .if1 .taken) (c .before .before .before .before .before .before .before .before .before .before .before .before .any-nowhere .ensures) (c .before .before .before .before .before .before .before .before .before .before .before .if2 .left)) (rake-written _ _ _ _ _ _ (c .before .before .before .before .before .before .before .before .trace-all .ensures .0) (c .before .before .put .ensures))
+returns-2 c = answered-fine _ (is-fine _ _ (c .before .before .before .before .before .before .before .before .before .before .before .before .before .before .are-accepted .ensures) (c .before .before .before .before .before .before .before .before .before .before .before .before .before .if1 .taken) (c .before .before .before .before .before .before .before .before .before .before .before .before .any-nowhere .ensures _) (c .before .before .before .before .before .before .before .before .before .before .before .if2 .left)) (rake-written _ _ _ _ _ _ (c .before .before .before .before .before .before .before .before .trace-all .ensures .0) (c .before .before .put .ensures))
 
 returns-3 : tie.Need-returns-3
 unfolding integrateRake

@@ -17,7 +17,7 @@ use Rattle.lines.proofs.rakes.trace_all.Statement.{statement}
 use Rattle.lines.proofs.rakes.trace_all.Tie as tie
 
 abbrev Inv-loop : tie.InvT-loop
-Inv-loop case words floats t marks₀ out₀ rake settings count written₀ i₀ marks out written i = record { done : List ℕ; as-many : written ≡ length done; below : i ≤ count; few : written ≤ 196612 * i; kept : length marks ≡ length marks₀; as-long : length out ≡ length out₀; stand : out ≡ sets out₀ 1 done; locate : anyOf (nowhere (tracerField t words floats)) (drop i (seeds rake)) ≡ false; going : Going (linesWords (tracerField t words floats) settings (seeds rake)) (valuesOf case) marks₀ (left (tracerField t words floats) settings done (drop i (seeds rake))) marks }
+Inv-loop case words floats t marks₀ out₀ rake settings count written₀ i₀ marks out written i = record { done : List ℕ; as-many : written ≡ length done; below : i ≤ count; few : written ≤ 196612 * i; kept : length marks ≡ length marks₀; as-long : length out ≡ length out₀; stand : out ≡ sets out₀ 1 done; locate : anyOf (nowhere (tracerField t case words floats)) (drop i (seeds rake)) ≡ false; going : Going (linesWords (tracerField t case words floats) settings (seeds rake)) (valuesOf case) marks₀ (left (tracerField t case words floats) settings done (drop i (seeds rake))) marks }
 
 abbrev μ-loop : tie.MeasureT-loop
 μ-loop case words floats t marks₀ out₀ rake settings count written₀ i₀ marks out written i = count - i

@@ -25,10 +25,10 @@ same-length : tie.Need-same-length
 same-length c = search needs
 
 returns : tie.Need-returns
-returns c = λ words. beside-read _ words _ _ _ _ _ _ _ _ _ _ _ (c .before .before .before .before .before .before .before .before .before .centre-of .ensures words) (c .before .before .before .before .before .before .before .before .centre-of2 .ensures words) (c .before .before .before .before .before .before .before .sub .ensures) (c .before .before .before .before .before .before .apart .ensures) (c .before .before .before .before .before .if1 .taken) (c .before .before .before .read-cell .ensures) (c .blended .ensures)
+returns c = λ words. beside-read _ _ words _ _ _ _ _ _ _ _ _ _ _ (c .before .before .before .before .before .before .before .before .before .centre-of .ensures words) (c .before .before .before .before .before .before .before .before .centre-of2 .ensures words) (c .before .before .before .before .before .before .before .sub .ensures) (c .before .before .before .before .before .before .apart .ensures) (c .before .before .before .before .before .if1 .taken) (c .before .before .before .read-cell .ensures) (c .blended .ensures)
 
 returns-2 : tie.Need-returns-2
-returns-2 c = λ words. beside-not _ words _ _ _ _ _ _ _ _ _ _ _ (c .before .before .before .before .centre-of .ensures words) (c .before .before .before .centre-of2 .ensures words) (c .before .before .sub .ensures) (c .before .apart .ensures) (c .if1 .left)
+returns-2 c = λ words. beside-not _ _ words _ _ _ _ _ _ _ _ _ _ _ (c .before .before .before .before .centre-of .ensures words) (c .before .before .before .centre-of2 .ensures words) (c .before .before .sub .ensures) (c .before .apart .ensures) (c .if1 .left)
 
 pub beside-spec : {M : Type 1} → statement M
 beside-spec =

@@ -7,7 +7,7 @@ neighbour-count-requires : tie.Need-neighbour-count-requires
 neighbour-count-requires c κs = search needs
 
 returns : tie.Need-returns
-returns c = toward-none _ _ _ _ _ _ _ _ _ (c .before .neighbour-count .ensures .0 (c .before .before .before .before .before .before .args .floats .now)) (c .if1 .taken)
+returns c = toward-none _ _ _ _ _ _ _ _ _ _ (c .before .neighbour-count .ensures .0 (c .before .before .before .before .before .before .args .floats .now)) (c .if1 .taken)
 
 nearest-requires : tie.Need-nearest-requires
 nearest-requires c κs = search needs
@@ -19,7 +19,7 @@ same-length : tie.Need-same-length
 same-length c = search needs
 
 returns-2 : tie.Need-returns-2
-returns-2 c = toward-some _ _ _ _ _ _ _ _ _ _ (c .before .before .before .before .before .before .neighbour-count .ensures .0 (c .before .before .before .before .before .before .before .before .before .before .before .args .floats .now)) (c .before .before .before .before .before .if1 .left) (c .before .before .before .before .nearest .ensures) (c .before .before .beside .ensures (c .before .before .before .before .before .before .before .before .before .before .before .args .words .now))
+returns-2 c = toward-some _ _ _ _ _ _ _ _ _ _ _ (c .before .before .before .before .before .before .neighbour-count .ensures .0 (c .before .before .before .before .before .before .before .before .before .before .before .args .floats .now)) (c .before .before .before .before .before .if1 .left) (c .before .before .before .before .nearest .ensures) (c .before .before .beside .ensures (c .before .before .before .before .before .before .before .before .before .before .before .args .words .now))
 
 pub toward-spec : {M : Type 1} → statement M
 toward-spec =

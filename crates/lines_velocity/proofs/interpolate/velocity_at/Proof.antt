@@ -13,7 +13,7 @@ enum-told : tie.Need-enum-told
 enum-told c = search needs
 
 returns : tie.Need-returns
-returns c = velocity-nowhere _ _ _ _ (c .before .before .locate .ensures .1) (c .enum-told .given .1)
+returns c = velocity-nowhere _ _ _ _ (c .before .before .locate .ensures .1 _) (c .enum-told .given .1)
 
 velocity-in-requires : tie.Need-velocity-in-requires
 velocity-in-requires c κs = search needs
@@ -22,7 +22,7 @@ same-length : tie.Need-same-length
 same-length c = search needs
 
 returns-2 : tie.Need-returns-2
-returns-2 c = velocity-here _ _ _ _ _ (c .before .before .before .before .before .before .before .locate .ensures .1) (c .before .before .before .before .before .cell .given .1) (c .before .before .velocity-in .ensures)
+returns-2 c = velocity-here _ _ _ _ _ (c .before .before .before .before .before .before .before .locate .ensures .1 _) (c .before .before .before .before .before .cell .given .1) (c .before .before .velocity-in .ensures)
 
 pub velocity-at-spec : {M : Type 1} → statement M
 velocity-at-spec =
