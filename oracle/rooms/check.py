@@ -1,7 +1,7 @@
 #!/usr/bin/env python3
 """Holds what crates/test_rooms expects of each room to what a reference job around FLURSYS prints.
 
-    check.py REFJOB [OPTION..]      the reference of 02: check.py refjob2 --until 4
+    check.py REFJOB [OPTION..]      the reference of 02: check.py refjob2 --until 5
 
 A room is a file of crates/test_rooms/specs with `file`, `requests` and `expected`. Ends with 1 where one differs.
 """
