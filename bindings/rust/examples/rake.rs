@@ -6,14 +6,14 @@
 //!
 //! By the bins a line ends at the floor or before x = 7: cells that reach the right or the upper
 //! wall are found by no point (docs/DIFFERENCES.md). The same rake among all cells goes on to the
-//! wall.
+//! wall; with the right half of the room in a zone of its own it ends at the border between the two.
 use hookyellow::*;
 
 const COLUMNS: u32 = 8;
 const ROWS: u32 = 4;
 
 fn main() -> Result<(), Box<dyn std::error::Error>> {
-    let case = room()?;
+    let case = room().build()?;
     let mut workspace = Workspace::for_case(&case)?;
     let options = LineOptions { step_size: 0.25, max_steps: 100, max_length: 20.0, stagnation_speed: 0.0, all_cells: false };
     let (start, end) = (Vector::new(0.5, 0.75, 0.0), Vector::new(0.5, 2.75, 0.0));
@@ -43,14 +43,20 @@ fn main() -> Result<(), Box<dyn std::error::Error>> {
     );
     let all = LineOptions { all_cells: true, ..options };
     let lines = rake(&case, start, end, 5, Direction::Forward, all, &mut workspace)?.answer?;
-    let ends = lines.iter().map(|line| line.points[line.points.len() - 1]);
-    let ends: Vec<String> = ends.map(|last| format!("({:.3}, {:.3})", last.x, last.y)).collect();
-    println!("among all cells the lines end at {}", ends.join(", "));
+    println!("among all cells the lines end at {}", ends(&lines));
+    let zoned = room().zones((0..ROWS * COLUMNS).map(|cell| u32::from(cell % COLUMNS >= COLUMNS / 2))).build()?;
+    let lines = rake(&zoned, start, end, 5, Direction::Forward, all, &mut workspace)?.answer?;
+    println!("in the left half they end at {}", ends(&lines));
     Ok(())
 }
 
+fn ends(lines: &[Streamline]) -> String {
+    let ends = lines.iter().map(|line| line.points[line.points.len() - 1]);
+    ends.map(|last| format!("({:.3}, {:.3})", last.x, last.y)).collect::<Vec<_>>().join(", ")
+}
+
 /// Cells row by row from the lower left. The velocity in each is (1, -x/16) at its centre.
-fn room() -> Result<Case, BuildError> {
+fn room() -> CaseBuilder {
     let points = (0..=ROWS).flat_map(|j| (0..=COLUMNS).map(move |i| [f64::from(i), f64::from(j), 0.0]));
     let cells = || (0..ROWS).flat_map(|j| (0..COLUMNS).map(move |i| (i, j)));
     let square = |(i, j)| {
@@ -62,5 +68,4 @@ fn room() -> Result<Case, BuildError> {
         .cells(cells().map(square))
         .velocities(cells().map(|(i, _)| [1.0, -(f64::from(i) + 0.5) / 16.0, 0.0]))
         .pressures(cells().map(|_| 0.0))
-        .build()
 }

@@ -2,7 +2,8 @@
 use crate::Vector;
 use std::fmt;
 
-/// The bytes of a case: a mesh with a velocity and a pressure in each cell (docs/FORMAT.md).
+/// The bytes of a case: a mesh with a velocity and a pressure in each cell, and in edition 2 a zone
+/// (docs/FORMAT.md).
 ///
 /// Any bytes will do: what is not a case, a job refuses.
 #[derive(Clone, Debug, PartialEq, Eq)]
@@ -65,6 +66,8 @@ pub enum BuildError {
     Velocities,
     /// Not one pressure for each cell.
     Pressures,
+    /// Zones, and not one for each cell.
+    Zones,
     /// A count or an offset does not fit in the 32 bits that the format has for it.
     TooLarge,
 }
@@ -74,6 +77,7 @@ impl fmt::Display for BuildError {
         f.write_str(match self {
             Self::Velocities => "the case has not one velocity for each cell",
             Self::Pressures => "the case has not one pressure for each cell",
+            Self::Zones => "the case has zones, and not one for each cell",
             Self::TooLarge => "a count or an offset of the case does not fit in 32 bits",
         })
     }
@@ -81,19 +85,21 @@ impl fmt::Display for BuildError {
 
 impl std::error::Error for BuildError {}
 
-/// Writes a case from points, cells and values in memory.
+/// Writes a case from points, cells and values in memory: of edition 1, or with [`zones`](Self::zones) of edition 2.
 ///
 /// It refuses only what the format cannot hold. Whether the mesh is sound is for the job to say, and so are the format's limits.
 ///
 /// ```
 /// use hookyellow::{Case, Cell, Dimension, Vector};
-/// let case = Case::builder(Dimension::Two)
+/// let triangle = Case::builder(Dimension::Two)
 ///     .points([[0.0, 0.0, 0.0], [1.0, 0.0, 0.0], [0.0, 1.0, 0.0]])
 ///     .cells([Cell::Polygon(vec![0, 1, 2])])
 ///     .velocities([Vector::new(1.0, 0.0, 0.0)])
-///     .pressures([0.0])
-///     .build()?;
+///     .pressures([0.0]);
+/// let case = triangle.clone().build()?;
 /// assert_eq!(case.as_bytes().len(), 3 * 24 + 5 * 4 + 24 + 8 + 32);
+/// let case = triangle.zones([7]).build()?;
+/// assert_eq!(case.as_bytes().len(), 3 * 24 + 5 * 4 + 24 + 8 + 4 + 36);
 /// # Ok::<(), hookyellow::BuildError>(())
 /// ```
 #[derive(Clone, Debug)]
@@ -103,12 +109,14 @@ pub struct CaseBuilder {
     cells: Vec<Cell>,
     velocities: Vec<Vector>,
     pressures: Vec<f64>,
+    zones: Option<Vec<u32>>,
 }
 
 impl CaseBuilder {
     /// A writer without points or cells.
     pub fn new(dimension: Dimension) -> Self {
-        Self { dimension, points: Vec::new(), cells: Vec::new(), velocities: Vec::new(), pressures: Vec::new() }
+        let (points, cells, velocities, pressures) = (Vec::new(), Vec::new(), Vec::new(), Vec::new());
+        Self { dimension, points, cells, velocities, pressures, zones: None }
     }
 
     /// Adds points. They are numbered from 0 in the order in which they come.
@@ -135,6 +143,14 @@ impl CaseBuilder {
         self
     }
 
+    /// Adds zones, one for each cell, at most 255 (else 45): rooms, plenums and enclosures by their numbers. The case is then of
+    /// edition 2, in which a line ends before its first point in another zone than its seed's. A case without zones is of
+    /// edition 1, and its lines run on.
+    pub fn zones(mut self, zones: impl IntoIterator<Item = u32>) -> Self {
+        self.zones.get_or_insert_with(Vec::new).extend(zones);
+        self
+    }
+
     /// Writes the case.
     pub fn build(self) -> Result<Case, BuildError> {
         if self.velocities.len() != self.cells.len() {
@@ -143,17 +159,29 @@ impl CaseBuilder {
         if self.pressures.len() != self.cells.len() {
             return Err(BuildError::Pressures);
         }
+        if self.zones.as_ref().is_some_and(|zones| zones.len() != self.cells.len()) {
+            return Err(BuildError::Zones);
+        }
         let words = definition_words(&self.cells)?;
-        let trailer = trailer(self.dimension, self.points.len(), words.len(), self.cells.len())?;
+        let mut trailer = trailer(self.dimension, self.points.len(), words.len(), self.cells.len())?;
         let mut bytes = Vec::new();
         put_vectors(&mut bytes, &self.points);
         put_words(&mut bytes, &words);
         put_vectors(&mut bytes, &self.velocities);
         bytes.extend(self.pressures.iter().flat_map(|pressure| pressure.to_bits().to_le_bytes()));
+        if let Some(zones) = &self.zones {
+            let offset = u32::try_from(bytes.len()).map_err(|_| BuildError::TooLarge)?;
+            put_words(&mut bytes, zones);
+            put_words(&mut bytes, &[offset]);
+            trailer[0] += SECOND_EDITION;
+        }
         put_words(&mut bytes, &trailer);
         Ok(Case { bytes })
     }
 }
+
+/// What the dimension word of edition 2 has more than the dimension.
+const SECOND_EDITION: u32 = 100;
 
 /// One record for each cell.
 fn definition_words(cells: &[Cell]) -> Result<Vec<u32>, BuildError> {

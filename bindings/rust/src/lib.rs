@@ -1,6 +1,6 @@
 //! Streamlines and plane sections of the air flow in a room, and with each the cells that it was made from.
 //!
-//! A [`Case`] holds a mesh with a velocity and a pressure in each cell, a [`Request`] asks for a cell, a velocity, streamlines or a
+//! A [`Case`] holds a mesh with a velocity and a pressure in each cell, and in edition 2 a zone; a [`Request`] asks for a cell, a velocity, streamlines or a
 //! plane section, and [`job`] answers a list of requests. Each request can also be called alone: [`locate`], [`velocity`],
 //! [`streamline`], [`rake`] and [`sheet`] on a 2D case, [`section`], [`statistics`], [`integrals`] and [`probe`] on a 3D one.
 //!
@@ -64,9 +64,30 @@
 //! # Ok::<(), Box<dyn std::error::Error>>(())
 //! ```
 //!
+//! Rooms, plenums and enclosures are told apart by a zone for each cell ([`CaseBuilder::zones`]). A
+//! line ends before its first point in another zone than its seed's; where a side is shared, a point
+//! on it is of the cell that it locates in. The same line, with the right square in a zone of its own:
+//!
+//! ```
+//! # use hookyellow::{streamline, Case, Cell, Dimension, Direction, LineOptions, Vector, Workspace};
+//! let case = Case::builder(Dimension::Two)
+//! #     .points([[0., 0., 0.], [1., 0., 0.], [2., 0., 0.], [0., 1., 0.], [1., 1., 0.], [2., 1., 0.]])
+//! #     .cells([Cell::Polygon(vec![0, 1, 4, 3]), Cell::Polygon(vec![1, 2, 5, 4])])
+//! #     .velocities([[1., 0., 0.], [3., 0., 0.]])
+//! #     .pressures([0., 0.])
+//!     // points, cells, velocities and pressures as above
+//!     .zones([0, 1])
+//!     .build()?;
+//! let options = LineOptions { step_size: 0.25, max_steps: 10, max_length: 9., stagnation_speed: 0., all_cells: true };
+//! let seed = Vector::new(0.5, 0.5, 0.);
+//! let line = streamline(&case, seed, Direction::Forward, options, &mut Workspace::new())?.answer?;
+//! assert_eq!(line.points.iter().map(|p| p.x).collect::<Vec<_>>(), [0.5, 0.75, 1.]);
+//! # Ok::<(), Box<dyn std::error::Error>>(())
+//! ```
+//!
 //! The formats are those of docs/FORMAT.md; docs/01-scope.md says what each answer is, and
-//! docs/02-change-requests.md what a sheet is, what `all_cells` asks for and when a point is on an
-//! edge. The work is done by the proved code in the static library that `rt staticlib capi` writes;
+//! docs/02-change-requests.md what a sheet is, what `all_cells` asks for, when a point is on an edge
+//! and what zones are for. The work is done by the proved code in the static library that `rt staticlib capi` writes;
 //! [`raw`] has its functions as they are.
 #![warn(missing_docs)]
 

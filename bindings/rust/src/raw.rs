@@ -4,8 +4,8 @@ pub use crate::geometry::{SectionPlane, Vector};
 pub use crate::request::LineOptions;
 
 extern "C" {
-    /// Stores the least lengths of the words, the floats and the marks of a job on a case; 0. Or the refusal of the case (1 to 3),
-    /// or 21 for fewer than three places to store them in.
+    /// Stores the least lengths of the words, the floats and the marks of a job on a case; 0. Or the refusal of the case (1, 2, 3
+    /// or 45), or 21 for fewer than three places to store them in.
     pub fn hookyellow_needs(case: *const u8, case_length: usize, needs: *mut usize, needs_length: usize) -> u64;
     /// Builds the mesh of a case and serves the requests in order; 0, or the refusal. No buffer may overlap another.
     pub fn hookyellow_job(

@@ -54,7 +54,7 @@ macro_rules! refusals {
 refusals! {
     /// Why a whole job is refused. It then changes neither answers nor marks.
     Refusal {
-        1 Trailer "the trailer is wrong: under 32 bytes, a dimension other than 2 or 3, or offsets or a length that do not agree",
+        1 Trailer "the trailer is wrong: under 32 bytes, in edition 2 under 36, a dimension word other than 2, 3, 102 or 103, or offsets or a length that do not agree",
         2 Counts "more than 65,536 points, 16,384 cells or 1,048,576 definition words",
         3 Definitions "an unknown kind of cell, an inner count over its limit, or words that are not exactly one record for each cell",
         4 WorkArea "too few words or floats in the work area",
@@ -73,6 +73,7 @@ refusals! {
         17 Disconnected "a mesh that is not connected",
         18 FlatBounds "a 2D mesh whose bounds are flat",
         19 BinCount "a 2D mesh that needs more than 65,536 bins along an axis",
+        45 Zone "a zone above 255; it comes after 3 and before 4",
     }
 }
 

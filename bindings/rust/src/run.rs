@@ -31,8 +31,8 @@ pub struct Single<T> {
 
 /// Builds the mesh of a case and serves requests in order.
 ///
-/// The buffers of the workspace are lengthened first as [`Workspace`] says: to what the case needs (unless it is refused with 1
-/// to 3), and to the answer words of the requests. Under a refusal they stay that long, and marks and answers hold what they held.
+/// The buffers of the workspace are lengthened first as [`Workspace`] says: to what the case needs (unless it is refused with 1,
+/// 2, 3 or 45), and to the answer words of the requests. Under a refusal they stay that long, and marks and answers hold what they held.
 pub fn job(case: &Case, requests: &[Request], workspace: &mut Workspace) -> Result<Outcome, Refusal> {
     let bytes: Vec<u8> = requests.iter().flat_map(Request::to_bytes).collect();
     let cells_read =
@@ -83,7 +83,7 @@ pub fn velocity(
     single(case, workspace, answer::velocity, |buffers| call!(hookyellow_velocity, case, buffers, point, all_cells))
 }
 
-/// The streamline from a seed.
+/// The streamline from a seed. In a case with zones it ends before its first point in another zone.
 pub fn streamline(
     case: &Case,
     seed: Vector,
@@ -95,7 +95,8 @@ pub fn streamline(
     single(case, workspace, answer::streamline, |buffers| call!(hookyellow_streamline, case, buffers, seed, backward, options))
 }
 
-/// The streamlines from `count` seeds that are spread evenly from `start` to `end`.
+/// The streamlines from `count` seeds that are spread evenly from `start` to `end`. In a case with zones each ends before its
+/// first point in another zone than its own seed's.
 pub fn rake(
     case: &Case,
     start: Vector,

@@ -15,7 +15,7 @@ pub struct Needs {
     pub marks: usize,
 }
 
-/// How much a case needs, or why it is refused (1 to 3).
+/// How much a case needs, or why it is refused (1, 2, 3 or 45).
 pub fn needs(case: &Case) -> Result<Needs, Refusal> {
     let bytes = case.as_bytes();
     let mut needs = [0_usize; 3];

@@ -5,7 +5,9 @@ use hookyellow::*;
 
 /// A room with some bytes changed, cut or added, or bytes in no order.
 fn case(random: &mut Random) -> Case {
-    let room = [pair(), square(X), cubes(&[(X, 1.0), (Y, 2.0)])][random.below(3)].clone();
+    let cubes = [cubes, zoned_cubes][random.below(2)](&[(X, 1.0), (Y, 2.0)]);
+    let zones = [0, 1, 7, 255, 256].map(|zone| [zone, 1])[random.below(5)];
+    let room = [pair(), zoned_pair(zones), square(X), cubes][random.below(4)].clone();
     let mut bytes = room.into_bytes();
     match random.below(4) {
         0 => bytes = (0..random.below(400)).map(|_| random.next() as u8).collect(),
@@ -38,7 +40,7 @@ fn requests(random: &mut Random) -> Vec<u8> {
 #[test]
 fn any_job_ends() {
     let mut random = Random(2);
-    let mut refusals = [0; 20];
+    let mut refusals = [0; 46];
     for _ in 0..20_000 {
         let (case, requests) = (case(&mut random), requests(&mut random));
         let (words, floats) = (random.below(1_600), random.below(1_200));
@@ -52,7 +54,7 @@ fn any_job_ends() {
         assert_eq!((workspace.marks(), workspace.answers()), (&marks[..], &answers[..]), "{refusal}");
         refusals[refusal.number() as usize] += 1;
     }
-    assert!([0, 1, 3, 4, 5, 6, 7].iter().all(|&number| refusals[number] > 0), "{refusals:?}");
+    assert!([0, 1, 3, 4, 5, 6, 7, 45].iter().all(|&number| refusals[number] > 0), "{refusals:?}");
 }
 
 /// A float of any size or none.

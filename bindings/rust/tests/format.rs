@@ -176,11 +176,13 @@ fn kinds_have_the_records_of_the_table() {
 
 #[test]
 fn values_are_one_for_each_cell() {
-    use hookyellow::BuildError::{Pressures, Velocities};
+    use hookyellow::BuildError::{Pressures, Velocities, Zones};
     let triangle = || Case::builder(Dimension::Two).cells([Cell::Polygon(vec![0, 1, 2])]);
     assert_eq!(triangle().pressures([0.0]).build(), Err(Velocities));
     assert_eq!(triangle().velocities([X, X]).pressures([0.0]).build(), Err(Velocities));
     assert_eq!(triangle().velocities([X]).build(), Err(Pressures));
+    assert_eq!(triangle().velocities([X]).pressures([0.0]).zones([]).build(), Err(Zones));
+    assert_eq!(triangle().velocities([X]).pressures([0.0]).zones([1, 2]).build(), Err(Zones));
 }
 
 /// A NaN keeps its payload and a zero its sign.

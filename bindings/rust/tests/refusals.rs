@@ -5,15 +5,16 @@ use hookyellow::*;
 use std::collections::HashSet;
 
 #[test]
-fn numbers_are_those_of_01() {
+fn numbers_are_those_of_01_and_02() {
     let jobs: Vec<u64> = Refusal::ALL.iter().map(|refusal| refusal.number()).collect();
     let requests: Vec<u64> = RequestRefusal::ALL.iter().map(|refusal| refusal.number()).collect();
-    assert_eq!(jobs, (1..=19).collect::<Vec<_>>());
+    let listed = |number: &u64| (1..=19).contains(number) || *number == 45;
+    assert_eq!(jobs, (1..100).filter(listed).collect::<Vec<_>>());
     assert_eq!(requests, (30..=44).collect::<Vec<_>>());
     for number in 0..100 {
         assert_eq!(Refusal::from_number(number).number(), number);
         assert_eq!(RequestRefusal::from_number(number).number(), number);
-        assert_eq!(matches!(Refusal::from_number(number), Refusal::Unknown(_)), !(1..=19).contains(&number));
+        assert_eq!(matches!(Refusal::from_number(number), Refusal::Unknown(_)), !listed(&number));
         assert_eq!(matches!(RequestRefusal::from_number(number), RequestRefusal::Unknown(_)), !(30..=44).contains(&number));
     }
 }
@@ -23,7 +24,7 @@ fn each_has_words_of_its_own() {
     let jobs = Refusal::ALL.iter().map(|refusal| refusal.meaning());
     let meanings: Vec<&str> = jobs.chain(RequestRefusal::ALL.iter().map(|refusal| refusal.meaning())).collect();
     assert!(meanings.iter().all(|meaning| meaning.contains(' ')));
-    assert_eq!(meanings.iter().collect::<HashSet<_>>().len(), 19 + 15);
+    assert_eq!(meanings.iter().collect::<HashSet<_>>().len(), 20 + 15);
     let error: Box<dyn std::error::Error> = Box::new(RequestRefusal::FewSeeds);
     assert_eq!(error.to_string(), "refusal 32: a rake of fewer than 2 seeds");
 }
@@ -45,6 +46,8 @@ fn cases_are_refused_by_the_fault_they_have() {
     let (far, flat, nan) = ([1_048_577., 0., 0.], [2., 0., 0.], [f64::NAN, 0., 0.]);
     let many = |n: usize| Cell::Polygon((0..n as u32).collect());
     let polygon = |cell| Case::builder(Dimension::Two).cells([cell]).velocities([X]).pressures([0.]).build().unwrap();
+    let zoned =
+        |cell, zone| Case::builder(Dimension::Two).cells([cell]).velocities([X]).pressures([0.]).zones([zone]).build().unwrap();
     let two_apart = triangles(&[o, a, b, [5., 5., 0.], [6., 5., 0.], [5., 6., 0.]], &[[0, 1, 2], [3, 4, 5]]);
     let cases = [
         (Case::from_bytes(vec![]), Refusal::Trailer),
@@ -60,11 +63,15 @@ fn cases_are_refused_by_the_fault_they_have() {
         (triangles(&[o, a, b], &[[0, 1, 2]; 3]), Refusal::NonManifoldFace),
         (triangles(&[o, a, flat], &[[0, 1, 2]]), Refusal::ZeroVolume),
         (two_apart, Refusal::Disconnected),
+        (zoned(many(24), 255), Refusal::PointNumber),
+        (zoned(many(24), 256), Refusal::Zone),
+        (zoned(many(25), 256), Refusal::Definitions),
     ];
     let mut workspace = Workspace::new();
     for (case, refusal) in cases {
         assert_eq!(job(&case, &[], &mut workspace), Err(refusal));
-        assert_eq!(needs(&case).err(), (refusal.number() <= 3).then_some(refusal));
+        let of_the_file = refusal.number() <= 3 || refusal == Refusal::Zone;
+        assert_eq!(needs(&case).err(), of_the_file.then_some(refusal));
     }
 }
 

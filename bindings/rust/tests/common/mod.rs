@@ -1,6 +1,6 @@
 //! Rooms that the tests share.
 #![allow(dead_code)]
-use hookyellow::{Case, Cell, Dimension, LineOptions, SectionPlane, Vector};
+use hookyellow::{Case, CaseBuilder, Cell, Dimension, LineOptions, SectionPlane, Vector};
 
 /// The codes of the requests.
 pub const CODES: [u64; 14] = [1, 2, 3, 4, 5, 6, 7, 8, 9, 10, 11, 12, 13, 14];
@@ -12,15 +12,22 @@ pub fn at(x: f64, y: f64, z: f64) -> Vector {
     Vector::new(x, y, z)
 }
 
-/// 01's room Pair.
-pub fn pair() -> Case {
+fn pair_builder() -> CaseBuilder {
     Case::builder(Dimension::Two)
         .points([[0., 0., 0.], [1., 0., 0.], [2., 0., 0.], [0., 1., 0.], [1., 1., 0.], [2., 1., 0.]])
         .cells([Cell::Polygon(vec![0, 1, 4, 3]), Cell::Polygon(vec![1, 2, 5, 4])])
         .velocities([[1., 0., 0.], [3., 0., 0.]])
         .pressures([0., 0.])
-        .build()
-        .unwrap()
+}
+
+/// 01's room Pair.
+pub fn pair() -> Case {
+    pair_builder().build().unwrap()
+}
+
+/// Pair in edition 2, its squares in these zones.
+pub fn zoned_pair(zones: [u32; 2]) -> Case {
+    pair_builder().zones(zones).build().unwrap()
 }
 
 /// One unit square. It is all the mesh, so that there is one bin and the far border is not lost.
@@ -36,6 +43,15 @@ pub fn square(velocity: Vector) -> Case {
 
 /// Unit cubes in a row along x, with a velocity and a pressure in each.
 pub fn cubes(values: &[(Vector, f64)]) -> Case {
+    cube_builder(values).build().unwrap()
+}
+
+/// The cubes in edition 2, numbered by their zones.
+pub fn zoned_cubes(values: &[(Vector, f64)]) -> Case {
+    cube_builder(values).zones(0..values.len() as u32).build().unwrap()
+}
+
+fn cube_builder(values: &[(Vector, f64)]) -> CaseBuilder {
     let corners = (0..=values.len()).flat_map(|i| [(0., 0.), (1., 0.), (1., 1.), (0., 1.)].map(|(y, z)| at(i as f64, y, z)));
     let cell = |i: u32| Cell::Hexahedron(std::array::from_fn(|k| 4 * i + k as u32));
     Case::builder(Dimension::Three)
@@ -43,8 +59,6 @@ pub fn cubes(values: &[(Vector, f64)]) -> Case {
         .cells((0..values.len() as u32).map(cell))
         .velocities(values.iter().map(|value| value.0))
         .pressures(values.iter().map(|value| value.1))
-        .build()
-        .unwrap()
 }
 
 /// The plane z = height, with the normal upward.
