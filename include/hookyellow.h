@@ -1,6 +1,8 @@
 /* Hookyellow: lines and plane sections of the air flow in a room, and the cells that each was made from.
  *
- * `rt staticlib capi` writes target/staticlib/libcapi.a. docs/FORMAT.md has the case, request and answer formats.
+ * `rt staticlib capi` writes target/staticlib/libcapi.a. docs/FORMAT.md has the case, request and answer formats. A case is of
+ * edition 1, or of edition 2, which has a zone for each cell: in it a line ends before its first point in another zone than its
+ * seed's. Everything else is alike in both.
  *
  * Every pointer comes with its length, which counts elements. Any length and any contents may be given.
  * - Where the length is 0 nothing is read or written there, and the pointer may be NULL.
@@ -46,15 +48,15 @@ typedef struct hookyellow_line_options {
 
 /* The least lengths of the buffers of a job on a case: needs[0] words, needs[1] floats and needs[2] marks.
  *
- * Answers 0. Or, with needs as it was, the refusal of the case (1 to 3), or 21 where needs_length is below 3; 21 has no other
- * meaning. */
+ * Answers 0. Or, with needs as it was, the refusal of the case (1, 2, 3 or 45), or 21 where needs_length is below 3; 21 has no
+ * other meaning. */
 uint64_t hookyellow_needs(const uint8_t *case_bytes, size_t case_length,
                           size_t *needs, size_t needs_length);
 
 /* Runs a job: builds the mesh of the case and serves the requests in order.
  *
- * Answers 0, or the refusal (1 to 19), under which answers and marks are as they were. The work area (words and floats) needs
- * nothing in it and holds nothing of use afterwards. */
+ * Answers 0, or the refusal (1 to 19, or 45 between 3 and 4), under which answers and marks are as they were. The work area
+ * (words and floats) needs nothing in it and holds nothing of use afterwards. */
 uint64_t hookyellow_job(const uint8_t *case_bytes, size_t case_length,
                         const uint8_t *requests, size_t requests_length,
                         uint32_t *words, size_t words_length,
@@ -86,7 +88,8 @@ uint64_t hookyellow_velocity(const uint8_t *case_bytes, size_t case_length,
                              uint8_t *marks, size_t marks_length,
                              uint64_t *answers, size_t answers_length);
 
-/* 3, with all_cells 11: the line from a seed. */
+/* 3, with all_cells 11: the line from a seed. In a case of edition 2 it ends before its first point in another zone; the zone of
+ * a point is that of the cell that it locates in. */
 uint64_t hookyellow_streamline(const uint8_t *case_bytes, size_t case_length,
                                hookyellow_vector seed, bool backward, hookyellow_line_options options,
                                uint32_t *words, size_t words_length,
@@ -94,7 +97,8 @@ uint64_t hookyellow_streamline(const uint8_t *case_bytes, size_t case_length,
                                uint8_t *marks, size_t marks_length,
                                uint64_t *answers, size_t answers_length);
 
-/* 4, with all_cells 12: the lines from count seeds, spread from start to end. */
+/* 4, with all_cells 12: the lines from count seeds, spread from start to end. In a case of edition 2 each goes by the zone of its
+ * own seed. */
 uint64_t hookyellow_rake(const uint8_t *case_bytes, size_t case_length,
                          hookyellow_vector start, hookyellow_vector end, size_t count, bool backward, hookyellow_line_options options,
                          uint32_t *words, size_t words_length,

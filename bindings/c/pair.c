@@ -6,8 +6,8 @@
  * Everything that is expected stands in docs/01-scope.md: in "Known rooms", or under the number of a refusal. The sheet is
  * 01's 0.5 line in millimetres (docs/FORMAT.md). Among all cells the points of the right square are
  * found too: it is the lowest cell whose polygon contains them (docs/02-change-requests.md, Q-2).
- * Behind the cell stands whether the point is on an edge of it or inside (Q-3). Ends with 1 where a
- * check fails. */
+ * Behind the cell stands whether the point is on an edge of it or inside (Q-3). With a zone for each
+ * square a line ends at the border of its seed's zone (Q-5). Ends with 1 where a check fails. */
 #include "hookyellow.h"
 #include <stdio.h>
 #include <string.h>
@@ -49,25 +49,29 @@ static void put_floats(uint8_t *bytes, size_t *at, const double *list, size_t n)
     for (size_t i = 0; i < n; i++) put(bytes, at, bits(list[i]), 8);
 }
 
-/* "Case file: points, definition words, velocities, pressures, then a 32-byte trailer that points back" */
+/* "Case file: points, definition words, velocities, pressures, then a 32-byte trailer that points back". With zones it is
+ * one of edition 2: "dimension word 102 or 103, a u32 zone per cell after the pressures, and the zone part's offset,
+ * 24P+4W+32C, in the four bytes before the trailer" */
 static void build(uint32_t dimension, const double *points, uint32_t p, const uint32_t *definitions, uint32_t w,
-                  const double *velocities, const double *pressures, uint32_t c) {
-    uint32_t trailer[8] = {dimension, p, w, c, 0, 24 * p, 24 * p + 4 * w, 24 * p + 4 * w + 24 * c};
+                  const double *velocities, const double *pressures, const uint32_t *zones, uint32_t c) {
+    uint32_t trailer[8] = {dimension + (zones ? 100 : 0), p, w, c, 0, 24 * p, 24 * p + 4 * w, 24 * p + 4 * w + 24 * c};
     case_length = 0;
     put_floats(case_bytes, &case_length, points, 3 * p);
     for (uint32_t i = 0; i < w; i++) put(case_bytes, &case_length, definitions[i], 4);
     put_floats(case_bytes, &case_length, velocities, 3 * c);
     put_floats(case_bytes, &case_length, pressures, c);
+    for (uint32_t i = 0; zones && i < c; i++) put(case_bytes, &case_length, zones[i], 4);
+    if (zones) put(case_bytes, &case_length, 24 * p + 4 * w + 32 * c, 4);
     for (int i = 0; i < 8; i++) put(case_bytes, &case_length, trailer[i], 4);
 }
 
 /* "Pair: points (0,0) (1,0) (2,0) (0,1) (1,1) (2,1), heights 0; polygons 0 1 4 3 and 1 2 5 4; velocities (1,0,0), (3,0,0),
  * pressures 0." */
-static void build_pair(void) {
+static void build_pair(const uint32_t *zones) {
     const double points[18] = {0, 0, 0, 1, 0, 0, 2, 0, 0, 0, 1, 0, 1, 1, 0, 2, 1, 0};
     const uint32_t polygons[12] = {0, 4, 0, 1, 4, 3, 0, 4, 1, 2, 5, 4};
     const double velocities[6] = {1, 0, 0, 3, 0, 0}, pressures[2] = {0, 0};
-    build(2, points, 6, polygons, 12, velocities, pressures, 2);
+    build(2, points, 6, polygons, 12, velocities, pressures, zones, 2);
 }
 
 /* "Unit cube, velocity (0,0,2), pressure 3" */
@@ -75,7 +79,7 @@ static void build_cube(void) {
     const double points[24] = {0, 0, 0, 1, 0, 0, 1, 1, 0, 0, 1, 0, 0, 0, 1, 1, 0, 1, 1, 1, 1, 0, 1, 1};
     const uint32_t hexahedron[9] = {2, 0, 1, 2, 3, 4, 5, 6, 7};
     const double velocity[3] = {0, 0, 2}, pressure[1] = {3};
-    build(3, points, 8, hexahedron, 9, velocity, pressure, 1);
+    build(3, points, 8, hexahedron, 9, velocity, pressure, NULL, 1);
 }
 
 /* "Request: 16 words of 8 bytes, the code first, then the arguments; words not used are zero." */
@@ -95,7 +99,7 @@ static int leaves(const uint64_t *list, size_t n, int first, int second) {
     return marks[0] == first && marks[1] == second && marks[2] == 7;
 }
 
-/* "Refused jobs (1 to 19) give only the number and leave answers and marks untouched." */
+/* "Refused jobs (1 to 19) give only the number and leave answers and marks untouched"; so does 45. */
 static int untouched(void) {
     for (int i = 0; i < 24; i++)
         if (answers[i] != 5) return 0;
@@ -189,6 +193,28 @@ static void check_limits(void) {
     check(hookyellow_rake(CASE, start, end, 1, false, options, BUFFERS) == 0 && leaves(refused, 2, 0, 0), "a rake of one seed: 32");
 }
 
+/* Pair in edition 2. The squares in two zones: a line from the left one ends on the side that both share, which is of the
+ * left one, the lower; in one zone it goes on to the far side. "45: a zone above 255, after 3" */
+static void check_zones(void) {
+    const uint32_t two[2] = {0, 1}, one[2] = {255, 255}, above[2] = {0, 256};
+    const hookyellow_vector seed = {0.75, 0.5, 0};
+    const hookyellow_line_options all = {0.25, 10, 9, 0, true};
+    const uint64_t ends[9] = {0, 7, 2, bits(0.75), bits(0.5), 0, bits(1), bits(0.5), 0};
+    const uint64_t goes_on[15] = {0, 13, 6, 750, 500, 1000, 500, 1250, 500, 1500, 500, 1750, 500, 2000, 500};
+    size_t needs[3] = {9, 9, 9};
+    fill();
+    build_pair(two);
+    check(case_length == 288 + 2 * 4 + 4, "the length of edition 2");
+    check(hookyellow_streamline(CASE, seed, false, all, BUFFERS) == 0 && leaves(ends, 9, 1, 1), "two zones: up to the border");
+    build_pair(one);
+    check(hookyellow_sheet(CASE, seed, false, all, BUFFERS) == 0 && leaves(goes_on, 15, 1, 1), "one zone: to the far side");
+    fill();
+    build_pair(above);
+    check(hookyellow_job(CASE, NULL, 0, BUFFERS) == 45 && untouched(), "a zone above 255: 45");
+    check(hookyellow_job(CASE, NULL, 0, NULL, 0, NULL, 0, NULL, 0, NULL, 0) == 45, "45 before 4");
+    check(hookyellow_needs(CASE, needs, 3) == 45 && needs[0] == 9, "the needs of a zone above 255");
+}
+
 /* "plane z = 0.5, u along X, v along Y: area 1, flux 2" */
 static void check_cube(void) {
     const hookyellow_plane plane = {{0, 0, 0.5}, {1, 0, 0}, {0, 1, 0}};
@@ -198,12 +224,13 @@ static void check_cube(void) {
 }
 
 int main(void) {
-    build_pair();
+    build_pair(NULL);
     check_job();
     check_alone();
     check_positions();
     check_all_cells();
     check_limits();
+    check_zones();
     build_cube();
     check_cube();
     printf("pair: %d checks, %d failed\n", checks, failed);

@@ -35,8 +35,9 @@ static uint64_t bits(double x) {
     return b;
 }
 
-/* n by n squares, or n by n by n cubes; every cell has another velocity, and along the walls it leads inward */
-static void build(task *t, int dimension, uint32_t n) {
+/* n by n squares, or n by n by n cubes; every cell has another velocity, and along the walls it leads inward. In edition 2
+ * all cells are of one zone, so that lines are as long. */
+static void build(task *t, int dimension, uint32_t n, uint32_t edition) {
     uint32_t layers = dimension == 3 ? n : 0, row = n + 1, p = row * row * (layers + 1);
     uint32_t c = dimension == 3 ? n * n * n : n * n, w = c * (dimension == 3 ? 9 : 6);
     t->length = 0;
@@ -58,7 +59,12 @@ static void build(task *t, int dimension, uint32_t n) {
         put(t->bytes, &t->length, bits(dimension == 3 ? 1 + i % 7 : 0), 8);
     }
     for (uint32_t i = 0; i < c; i++) put(t->bytes, &t->length, bits(i), 8);
-    uint32_t trailer[8] = {(uint32_t)dimension, p, w, c, 0, 24 * p, 24 * p + 4 * w, 24 * p + 4 * w + 24 * c};
+    uint32_t offset = (uint32_t)t->length, first = (uint32_t)dimension + (edition == 2 ? 100 : 0);
+    uint32_t trailer[8] = {first, p, w, c, 0, 24 * p, 24 * p + 4 * w, 24 * p + 4 * w + 24 * c};
+    if (edition == 2) {
+        for (uint32_t i = 0; i < c; i++) put(t->bytes, &t->length, 7, 4);
+        put(t->bytes, &t->length, offset, 4);
+    }
     for (int i = 0; i < 8; i++) put(t->bytes, &t->length, trailer[i], 4);
 }
 
@@ -114,13 +120,15 @@ int main(void) {
         int flat = code < 5 || code > 8;
         uint32_t small = 4, large = flat ? 128 : 25;
         for (uint32_t n = small; n <= large; n += large - small) {
-            build(&t, flat ? 2 : 3, n);
-            ask(&t, code, n);
-            size_t deep = used(run, &t) - thread;
-            printf("code %d, %6d cells, %7d answer words: %zu bytes\n", (int)code, (int)(flat ? n * n : n * n * n),
-                   (int)t.answers[1], deep);
-            if (t.result || t.answers[0]) return 2;
-            most = deep > most ? deep : most;
+            for (uint32_t edition = 1; edition <= 2; edition++) {
+                build(&t, flat ? 2 : 3, n, edition);
+                ask(&t, code, n);
+                size_t deep = used(run, &t) - thread;
+                printf("code %d, edition %d, %6d cells, %7d answer words: %zu bytes\n", (int)code, (int)edition,
+                       (int)(flat ? n * n : n * n * n), (int)t.answers[1], deep);
+                if (t.result || t.answers[0]) return 2;
+                most = deep > most ? deep : most;
+            }
         }
     }
     printf("stack: at most %zu bytes of %d\n", most, HOOKYELLOW_STACK);
