@@ -7,7 +7,8 @@ use hookyellow::raw::hookyellow_job;
 use hookyellow::{job, Answer, Case, Cell, Dimension, Direction, LineOptions, Request};
 use hookyellow::{Located as Found, Position, Sheet, Streamline, Vector, Workspace};
 use reference::refair::ref02::standing;
-use reference::refair::{read_case, with_room, Lens, Order, Stats, Twin};
+use reference::read_case;
+use reference::refair::{with_room, Lens, Order, Stats, Twin};
 use std::slice::{from_raw_parts, from_raw_parts_mut};
 
 /// 01's room: two unit squares side by side.
@@ -166,7 +167,7 @@ unsafe extern "C" fn ruled<R: Rule>(
     if result != 0 || !requests.chunks_exact(128).any(asks) {
         return result;
     }
-    let case = read_case(from_raw_parts(a, an)).ok().expect("a served case");
+    let case = read_case(from_raw_parts(a, an)).ok().expect("a served case").case;
     let twin = with_room(&case, Order::Rust, &mut Stats::default(), |room, _| room.twin.clone()).ok().flatten();
     let mut at = 0;
     for request in requests.chunks_exact(128) {

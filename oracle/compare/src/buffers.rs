@@ -1,8 +1,8 @@
 //! The lent buffers of a job: each lies between guard words, at changing alignments. Marks and answers hold random
 //! numbers before a job; the work area holds random numbers, ones, zeros or what the job before it left.
 use crate::pairs::Pair;
+use reference::read_case;
 use reference::refair::gen::Rng;
-use reference::refair::read_case;
 
 extern "C" {
     // of the C library: a job that does not end is ended by a signal
@@ -181,7 +181,7 @@ impl Area {
             s.push('\n');
         }
         s += "read";
-        let c = read_case(&j.case).map_or(0, |c| c.defs.len());
+        let c = read_case(&j.case).map_or(0, |c| c.zones.len());
         for (i, m) in self.marks.lent().iter().take(c).enumerate() {
             match m {
                 0 => {}

@@ -9,7 +9,8 @@ use crate::tests::first_difference_in;
 use hookyellow::raw::hookyellow_job;
 use hookyellow::{Answer, Located as Found, Position, Request, Vector};
 use reference::refair::ref02::standing;
-use reference::refair::{read_case, with_room, JobOut, Order, Stats};
+use reference::read_case;
+use reference::refair::{with_room, JobOut, Order, Stats};
 use std::slice::{from_raw_parts, from_raw_parts_mut};
 
 type Vertex = (f64, f64);
@@ -50,7 +51,7 @@ unsafe extern "C" fn ruled<R: Rule>(
     if result != 0 {
         return result;
     }
-    let case = read_case(from_raw_parts(a, an)).ok().expect("a served case");
+    let case = read_case(from_raw_parts(a, an)).ok().expect("a served case").case;
     let twin = with_room(&case, Order::Rust, &mut Stats::default(), |room, _| room.twin.clone()).ok().flatten();
     let mut at = 0;
     for request in requests.chunks_exact(128) {

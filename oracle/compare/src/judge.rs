@@ -2,8 +2,9 @@
 //! answer buffer by its bits and every byte of the marks buffer. Each NaN of the Rust counts as
 //! 7ff8000000000000; the sign of a zero minimum or maximum of code 6 is not compared. The laws of
 //! located.rs must hold of codes 1 and 9, and where the angles leave no choice their cells must be
-//! FLURSYS's own (locators.rs).
+//! FLURSYS's own (locators.rs), and an edition 2 file must go with edition 1 (editions.rs).
 use crate::buffers::Area;
+use crate::editions::{Editions, First};
 use crate::located::{Located, Positions};
 use crate::locators::held;
 use crate::names::{name_of, value_of};
@@ -26,6 +27,8 @@ pub struct Counts {
     pub positions: Positions,
     /// cells that are FLURSYS's own
     pub cells: u64,
+    /// files of edition 2
+    pub editions: Editions,
 }
 
 pub enum Verdict {
@@ -51,8 +54,12 @@ pub struct Outcome {
 pub fn judge(p: &Pair, seed: u64, area: &mut Area) -> Outcome {
     let clock = Instant::now();
     let mut stats = Stats::default();
-    let ran = catch_unwind(AssertUnwindSafe(|| job(&p.case, &p.requests, p.lens, Order::Rust, &mut stats)));
+    let ran = catch_unwind(AssertUnwindSafe(|| {
+        (job(&p.case, &p.requests, p.lens, Order::Rust, &mut stats), First::of(p))
+    }));
     let theirs = clock.elapsed();
+    // before the pair itself, whose buffers are shown where it differs
+    let held = ran.as_ref().ok().and_then(|ran| ran.1.as_ref()).map_or(Ok(()), |first| first.held(seed, area));
     let clock = Instant::now();
     let got = area.run(p, seed);
     let ours = clock.elapsed();
@@ -62,8 +69,14 @@ pub fn judge(p: &Pair, seed: u64, area: &mut Area) -> Outcome {
             let text = e.downcast_ref::<String>().cloned().or(e.downcast_ref::<&str>().map(|s| s.to_string()));
             (Verdict::Differ(format!("the reference itself fails: {}", text.unwrap_or_default())), None)
         }
-        Ok(want) => {
-            let (verdict, want) = compare(p, want, stats.near > 0, got, area, &mut counts);
+        Ok((want, first)) => {
+            let (mut verdict, want) = compare(p, want, stats.near > 0, got, area, &mut counts);
+            let found = held.and_then(|()| first.map_or(Ok(Editions::default()), |first| first.agrees(&want)));
+            match (&verdict, found) {
+                (Verdict::Same, Err(why)) => verdict = Verdict::Differ(why),
+                (Verdict::Same, Ok(found)) => counts.editions = found,
+                _ => {}
+            }
             (verdict, Some(want))
         }
     };

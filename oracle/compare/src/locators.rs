@@ -3,16 +3,16 @@
 //! copy of that file with one bin for all cells. FLURSYS has no position: the first word is what it
 //! gives.
 use crate::pairs::Pair;
-use reference::by_bins;
+use reference::{by_bins, read_case};
 use reference::flursys::workbench::results::{streamlines, streamlines_plain, ResultDataset};
 use reference::flursys::Vec3;
-use reference::refair::{build_mesh, read_case, NONE};
+use reference::refair::{build_mesh, NONE};
 
 /// How many cells in the answers of a served job are FLURSYS's; an error names the first that is
 /// not.
 pub fn held(p: &Pair, answers: &[u64]) -> Result<u64, String> {
     let asked = (0..p.requests.len() / 128).any(|i| by_bins(p.code(i)) == 1);
-    let case = read_case(&p.case).ok().filter(|case| asked && case.dimension == 2);
+    let case = read_case(&p.case).ok().map(|read| read.case).filter(|case| asked && case.dimension == 2);
     let Some(case) = case else { return Ok(0) };
     let mesh = build_mesh(&case).map_err(|k| format!("FLURSYS refuses the mesh of a served job ({k})"))?;
     let data = ResultDataset::stub(mesh, case.velocity);

@@ -5,12 +5,16 @@
 //!
 //! runs the pairs of the seeds from FIRST on, COUNT of them (REFERENCE names the folder of the
 //! reference job, see reference/build.rs). --lines, --planes, --sheets, --border and --edges make
-//! rooms that are nearly all accepted; --all adds damaged files, lengths beside every limit and the
-//! pairs of the reference's own generators. Without them a quarter are lines, a quarter planes, an
-//! eighth sheets, an eighth border, a sixteenth edges and the rest all, and one in 300 has the
-//! greatest counts. --dir DIR says where pairs that differ are written (target/compare.differ),
+//! rooms that are nearly all accepted, --zones edition 2 files, a sixth of them with a fault; --all
+//! adds damaged files, lengths beside every limit and the pairs of the reference's own generators.
+//! Without them three sixteenths are lines, as many planes, an eighth each sheets, border and zones,
+//! a sixteenth edges and the rest all, and one in 300 has the greatest counts. In every mode but
+//! --zones an eighth of the files are put into edition 2. --dir DIR says where pairs that differ are written (target/compare.differ),
 //! each in a folder of its seed: made smaller, and whole/ as it was. --write writes every pair and
 //! runs neither side.
+//!
+//! An edition 2 file whose cells are all of one zone must be answered as the edition 1 file of the
+//! same contents is, by both sides; editions.rs has this and what holds of several zones.
 //!
 //! Where a point is asked for by its bin and then among all cells (codes 1 and 9), the second cell
 //! must be the first or a lower one; how often each comes is printed, and how many points are on an
@@ -23,6 +27,7 @@ mod border;
 mod buffers;
 mod damage;
 mod edges;
+mod editions;
 mod fields;
 mod judge;
 mod limits;
@@ -43,10 +48,19 @@ mod border_tests;
 #[cfg(test)]
 mod edge_tests;
 #[cfg(test)]
+mod edition_tests;
+#[cfg(test)]
+mod file_tests;
+#[cfg(test)]
 mod sheet_tests;
 #[cfg(test)]
 mod tests;
+#[cfg(test)]
+mod zone_tests;
 mod vectors;
+mod zone_faults;
+mod zone_rooms;
+mod zones;
 
 use buffers::Area;
 use judge::{judge, Counts, Outcome, Verdict};
@@ -60,7 +74,7 @@ use std::time::{Duration, Instant};
 use tally::Tally;
 
 const USAGE: &str =
-    "usage: compare FIRST COUNT [--lines|--planes|--sheets|--border|--edges|--all] [--dir DIR] [--write]";
+    "usage: compare FIRST COUNT [--lines|--planes|--sheets|--border|--edges|--zones|--all] [--dir DIR] [--write]";
 /// So many pairs that differ are written and made smaller; later ones are named only.
 const WRITTEN: u32 = 20;
 const PROGRESS: Duration = Duration::from_secs(5);
@@ -86,6 +100,7 @@ impl Options {
                 "--sheets" => o.mode = Mode::Sheets,
                 "--border" => o.mode = Mode::Border,
                 "--edges" => o.mode = Mode::Edges,
+                "--zones" => o.mode = Mode::Zones,
                 "--all" => o.mode = Mode::All,
                 "--write" => o.write = true,
                 "--dir" => o.dir = args.next()?.into(),
@@ -139,6 +154,7 @@ impl Run {
         self.counts.located.add(&o.counts.located);
         self.counts.positions.add(&o.counts.positions);
         self.counts.cells += o.counts.cells;
+        self.counts.editions.add(&o.counts.editions);
         self.ours += o.ours;
         self.theirs += o.theirs;
         self.slowest = self.slowest.max((o.ours, o.theirs, seed));
@@ -177,6 +193,7 @@ impl Run {
         let Positions { none, edge, inside } = self.counts.positions;
         println!("positions of codes 1 and 9: {none} none, {edge} edge, {inside} inside");
         println!("{} of these answers have the cell of FLURSYS's own locator", self.counts.cells);
+        println!("{}", self.counts.editions.line());
         println!("near pairs: {} as the Rust, {} by 01's angle order alone", self.near - self.near_by_01, self.near_by_01);
         let per = |t: Duration| t.as_secs_f64() * 1e6 / o.count.max(1) as f64;
         println!(

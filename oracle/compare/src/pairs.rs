@@ -9,9 +9,11 @@ use crate::meshes::{long_room, mixed, renumber, rooms};
 use crate::room::Room;
 use crate::sheets::{long_sheet, sheet_fields, sheet_mesh};
 use crate::vectors::P3;
+use crate::zone_rooms::zones_of_bytes;
+use crate::zones::zones_pair;
 use reference::refair::gen::{self, Mesh, Rng};
-use reference::refair::{read_case, Lens};
-use reference::{among_all, by_bins};
+use reference::refair::Lens;
+use reference::{among_all, by_bins, read_case};
 
 #[derive(Clone)]
 pub struct Pair {
@@ -41,6 +43,7 @@ pub enum Mode {
     Sheets,
     Border,
     Edges,
+    Zones,
     All,
     Mixed,
 }
@@ -48,39 +51,49 @@ pub enum Mode {
 impl Mode {
     /// The option that asks for it.
     pub fn name(self) -> &'static str {
-        [" --lines", " --planes", " --sheets", " --border", " --edges", " --all", ""][self as usize]
+        [" --lines", " --planes", " --sheets", " --border", " --edges", " --zones", " --all", ""][self as usize]
     }
 }
 
 /// The words, floats and marks that a readable case needs.
 pub fn need(case: &[u8]) -> Option<(u64, u64, u64)> {
-    let c = read_case(case).ok()?;
+    let c = read_case(case).ok()?.case;
     let (f, n) = (c.faces, c.defs.len() as u64);
     Some((16 * f + 96 * n, 12 * f + 64 * n, n))
 }
 
 pub fn made(seed: u64, mode: Mode) -> Pair {
     let r = &mut Rng::new(seed ^ (mode as u64 + 1) << 56);
+    let mut pair = of_mode(seed, mode, r);
+    if mode != Mode::Zones && r.one_in(8) {
+        zones_of_bytes(&mut pair, r);
+    }
+    pair
+}
+
+fn of_mode(seed: u64, mode: Mode, r: &mut Rng) -> Pair {
     match mode {
         Mode::Lines => lines_pair(r),
         Mode::Planes => planes_pair(r),
         Mode::Sheets => sheets_pair(r),
         Mode::Border => border_pair(r),
         Mode::Edges => edges_pair(r),
+        Mode::Zones => zones_pair(r),
         Mode::All => any_pair(seed, r),
         Mode::Mixed if r.one_in(300) => large(r),
         Mode::Mixed => match r.below(16) {
-            0..=3 => lines_pair(r),
-            4..=7 => planes_pair(r),
-            8 | 9 => sheets_pair(r),
-            10 | 11 => border_pair(r),
-            12 => edges_pair(r),
+            0..=2 => lines_pair(r),
+            3..=5 => planes_pair(r),
+            6 | 7 => sheets_pair(r),
+            8 | 9 => border_pair(r),
+            10 => edges_pair(r),
+            11 | 12 => zones_pair(r),
             _ => any_pair(seed, r),
         },
     }
 }
 
-fn finished(m: &Mesh, vel: &[P3], pre: &[f64], requests: &[Vec<u64>], sort: String) -> Pair {
+pub fn finished(m: &Mesh, vel: &[P3], pre: &[f64], requests: &[Vec<u64>], sort: String) -> Pair {
     let case = gen::case_bytes(m.dim, &m.pts, &gen::mesh_words(m), vel, pre);
     let mut lens = Lens::default();
     if let Some((w, f, c)) = need(&case) {

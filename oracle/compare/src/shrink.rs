@@ -1,10 +1,11 @@
 //! Makes a pair that differs smaller, for as long as it differs: fewer requests, cells and points, zeros in place of
-//! arguments and fields, shorter buffers, and fewer bytes where the case cannot be read.
+//! arguments, fields and zones, edition 1, shorter buffers, and fewer bytes where the case cannot be read.
 use crate::pairs::Pair;
 use crate::vectors::P3;
 use reference::flursys::CellDefinition;
 use reference::refair::gen::{self, Cell, Mesh};
-use reference::refair::{read_case, Lens};
+use reference::refair::Lens;
+use reference::{first_edition, read_case, second_edition};
 use std::ops::Range;
 use std::time::{Duration, Instant};
 
@@ -27,6 +28,8 @@ pub fn shrink(p: &Pair, differs: &mut dyn FnMut(&Pair) -> bool) -> Pair {
         s.each(|p| split(p).map_or(0, |c| c.0.pts.len()), without_points);
         s.each(|p| p.requests.len() / 8, zero_arguments);
         s.each(|p| split(p).map_or(0, |c| 4 * c.2.len()), zero_fields);
+        s.each(|p| zones(p).map_or(0, |zones| zones.len()), zero_zones);
+        s.each(|p| zones(p).is_some() as usize, |p, _| in_first_edition(p));
         s.each(|p| if read_case(&p.case).is_err() { p.case.len() } else { 0 }, without_case_bytes);
         s.each(|p| if p.requests.len() % 128 != 0 { p.requests.len() } else { 0 }, without_request_bytes);
         for length in LENGTHS {
@@ -119,11 +122,12 @@ pub fn zero_arguments(p: &Pair, part: Range<usize>) -> Option<Pair> {
     any.then_some(p)
 }
 
-/// Mesh, velocities and pressures of a readable case.
-type Parts = (Mesh, Vec<P3>, Vec<f64>);
+/// Mesh, velocities and pressures of a readable case, and the zones of edition 2.
+type Parts = (Mesh, Vec<P3>, Vec<f64>, Option<Vec<u32>>);
 
 fn split(p: &Pair) -> Option<Parts> {
-    let c = read_case(&p.case).ok()?;
+    let read = read_case(&p.case).ok()?;
+    let (c, zones) = (read.case, (read.edition == 2).then_some(read.zones));
     let numbers = |list: &[usize]| list.iter().map(|&v| v as u32).collect::<Vec<_>>();
     let cell = |d: &CellDefinition| match d {
         CellDefinition::Polygon(v) => Cell::of(0, numbers(v)),
@@ -135,18 +139,25 @@ fn split(p: &Pair) -> Option<Parts> {
     };
     let pts = c.points.iter().map(|p| [p.x, p.y, p.z]).collect();
     let m = Mesh { dim: c.dimension, pts, cells: c.defs.iter().map(cell).collect() };
-    Some((m, c.velocity.iter().map(|v| [v.x, v.y, v.z]).collect(), c.pressure))
+    Some((m, c.velocity.iter().map(|v| [v.x, v.y, v.z]).collect(), c.pressure, zones))
 }
 
-fn joined(p: &Pair, (m, vel, pre): &Parts) -> Pair {
-    Pair { case: gen::case_bytes(m.dim, &m.pts, &gen::mesh_words(m), vel, pre), ..p.clone() }
+fn zones(p: &Pair) -> Option<Vec<u32>> {
+    split(p)?.3
+}
+
+fn joined(p: &Pair, (m, vel, pre, zones): &Parts) -> Pair {
+    let first = gen::case_bytes(m.dim, &m.pts, &gen::mesh_words(m), vel, pre);
+    let case = zones.as_ref().map_or_else(|| first.clone(), |zones| second_edition(&first, zones));
+    Pair { case, ..p.clone() }
 }
 
 pub fn without_cells(p: &Pair, part: Range<usize>) -> Option<Pair> {
     let mut parts = split(p)?;
     parts.0.cells.drain(part.clone());
     parts.1.drain(part.clone());
-    parts.2.drain(part);
+    parts.2.drain(part.clone());
+    parts.3.iter_mut().for_each(|zones| drop(zones.drain(part.clone())));
     Some(joined(p, &parts))
 }
 
@@ -176,4 +187,18 @@ pub fn zero_fields(p: &Pair, part: Range<usize>) -> Option<Pair> {
         *x = 0.0;
     }
     any.then(|| joined(p, &parts))
+}
+
+/// Zeros for the zones of edition 2.
+pub fn zero_zones(p: &Pair, part: Range<usize>) -> Option<Pair> {
+    let mut parts = split(p)?;
+    let zones = &mut parts.3.as_mut()?[part];
+    let any = zones.iter().any(|zone| *zone != 0);
+    zones.fill(0);
+    any.then(|| joined(p, &parts))
+}
+
+/// The same contents without the zones.
+pub fn in_first_edition(p: &Pair) -> Option<Pair> {
+    Some(Pair { case: first_edition(&p.case)?, ..p.clone() })
 }

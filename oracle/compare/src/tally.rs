@@ -5,15 +5,20 @@ use crate::lines::{POINTS, POINTS_MADE};
 use crate::pairs::Pair;
 use crate::planes::{PLANES, PLANES_MADE};
 use crate::sheets::{SEEDS, SEEDS_MADE};
-use reference::refair::{read_case, Answer, Case, JobOut};
-use reference::{by_bins, codes, used_words};
+use crate::zone_faults::{FAULTS, FAULTS_MADE};
+use crate::zone_rooms::{CUTTINGS, CUTTINGS_MADE};
+use crate::zones;
+use reference::refair::{Answer, Case, JobOut};
+use reference::{by_bins, codes, read_case, used_words};
 use std::collections::BTreeMap;
 use std::fmt::Write;
 use std::sync::atomic::{AtomicU64, Ordering::Relaxed};
 
 const NAN: u64 = 0x7ff8_0000_0000_0000;
 /// The refusals of a job; 18 has no case (docs/DIFFERENCES.md).
-const JOB_REFUSALS: std::ops::RangeInclusive<u32> = 1..=19;
+fn job_refusals() -> impl Iterator<Item = u32> {
+    (1..=19).chain([45])
+}
 const REFUSALS: std::ops::RangeInclusive<u32> = 30..=44;
 /// By the second word of codes 1 and 9.
 const POSITIONS: [&str; 3] = ["nowhere", "edge", "inside"];
@@ -80,7 +85,7 @@ impl Tally {
         *self.sorts.entry(sort).or_default() += 1;
         *self.jobs.entry(refusal).or_default() += 1;
         let JobOut::Done { answers, marks } = out else { return };
-        let case = read_case(&p.case).expect("a served case is readable");
+        let case = read_case(&p.case).ok().expect("a served case is readable").case;
         let (mut held, mut read) = ([false; 4], false);
         for cell in 0..marks.len() {
             for x in fields_of(&case, cell) {
@@ -145,6 +150,7 @@ impl Tally {
         format!(
             "cases: {}\nlimits: {}\npoints made here: {}\nplanes made here: {}\nseeds of sheets made here: {}\n\
              points by the border made here: {}\nrooms by the border: {}\npoints by edges made here: {}\n\
+             rooms cut into zones here: {}\nseeds by zones made here: {}\nfaults of edition 2 made here: {}\n\
              {} served jobs with a request among all cells\n{} served jobs with a sheet; {}\nanswers: {}; {} words are NaN\n",
             self.sorts.iter().map(|(s, n)| format!("{s} {n}")).collect::<Vec<_>>().join(", "),
             limits.join(", "),
@@ -154,6 +160,9 @@ impl Tally {
             pairs(&PLACES, &PLACES_MADE),
             pairs(&INDEXES, &INDEXES_MADE),
             pairs(&EDGES, &EDGES_MADE),
+            pairs(&CUTTINGS, &CUTTINGS_MADE),
+            pairs(&zones::SEEDS, &zones::SEEDS_MADE),
+            pairs(&FAULTS, &FAULTS_MADE),
             self.among_all,
             self.with_sheet,
             self.sheets.iter().map(|(s, n)| format!("{s} {n}")).collect::<Vec<_>>().join(", "),
@@ -173,7 +182,7 @@ impl Tally {
     /// How often each code and each refusal came.
     pub fn table(&self) -> String {
         let mut s = String::from("jobs by refusal (0: served)\n");
-        for k in std::iter::once(0).chain(JOB_REFUSALS) {
+        for k in std::iter::once(0).chain(job_refusals()) {
             write!(s, "  {k}: {}", self.jobs.get(&k).copied().unwrap_or(0)).expect("a string takes it");
         }
         s += "\nrequests of served jobs, by code and refusal (0: answered)\n code       0";
@@ -206,7 +215,7 @@ impl Tally {
 
     fn missing(&self) -> String {
         let list = |it: Vec<String>| if it.is_empty() { "none".to_string() } else { it.join(" ") };
-        let jobs = JOB_REFUSALS.filter(|k| !self.jobs.contains_key(k)).map(|k| k.to_string()).collect();
+        let jobs = job_refusals().filter(|k| !self.jobs.contains_key(k)).map(|k| k.to_string()).collect();
         let codes = codes().into_iter().filter(|&c| self.of(c, 0) == 0).map(|c| c.to_string()).collect();
         let requests = REFUSALS.filter(|&k| self.refused(k) == 0).map(|k| k.to_string()).collect();
         let positions = [1, 9].into_iter().flat_map(|code| POSITIONS.map(|s| (code, s)));

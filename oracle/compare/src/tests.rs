@@ -3,9 +3,9 @@ use crate::buffers::{Area, Library};
 use crate::judge::{judge, Verdict};
 use crate::pairs::{made, Mode, Pair};
 use crate::report::{smaller, Report};
-use crate::shrink::{without_cells, without_requests, zero_arguments, zero_fields, LENGTHS};
+use crate::shrink::{in_first_edition, without_cells, without_requests, zero_arguments, zero_fields, zero_zones, LENGTHS};
 use hookyellow::raw::hookyellow_job;
-use reference::refair::read_case;
+use reference::read_case;
 use std::slice::{from_raw_parts, from_raw_parts_mut};
 
 /// What the right library gave.
@@ -29,7 +29,7 @@ unsafe extern "C" fn wrong<F: Fault>(
     d: *mut f64, dn: usize, e: *mut u8, en: usize, g: *mut u64, gn: usize,
 ) -> u64 {
     let result = hookyellow_job(a, an, b, bn, c, cn, d, dn, e, en, g, gn);
-    let cells = read_case(from_raw_parts(a, an)).map_or(0, |c| c.defs.len());
+    let cells = read_case(from_raw_parts(a, an)).map_or(0, |c| c.zones.len());
     let (marks, answers) = (from_raw_parts_mut(e, en), from_raw_parts_mut(g, gn + F::BEYOND));
     F::change(Given { result, cells, requests: from_raw_parts(b, bn), marks, answers })
 }
@@ -164,7 +164,7 @@ pub fn first_difference_in(mode: Mode, library: Library) -> (u64, Pair, String) 
 
 /// Nothing that shrinking takes away can be taken from the pair.
 fn least(p: &Pair, differs: &mut dyn FnMut(&Pair) -> bool) {
-    let cells = read_case(&p.case).map_or(0, |c| c.defs.len());
+    let cells = read_case(&p.case).map_or(0, |c| c.zones.len());
     for i in 0..p.requests.len() / 128 {
         assert!(!without_requests(p, i..i + 1).is_some_and(|q| differs(&q)), "without request {i} it differs too");
     }
@@ -177,6 +177,10 @@ fn least(p: &Pair, differs: &mut dyn FnMut(&Pair) -> bool) {
     for i in 0..4 * cells {
         assert!(!zero_fields(p, i..i + 1).is_some_and(|q| differs(&q)), "with a zero for field {i} it differs too");
     }
+    for i in 0..cells {
+        assert!(!zero_zones(p, i..i + 1).is_some_and(|q| differs(&q)), "with zone 0 for cell {i} it differs too");
+    }
+    assert!(!in_first_edition(p).is_some_and(|q| differs(&q)), "in edition 1 it differs too");
     for (i, length) in LENGTHS.iter().enumerate() {
         let mut q = p.clone();
         if *length(&mut q.lens) > 0 {
