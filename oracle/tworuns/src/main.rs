@@ -1,6 +1,6 @@
 //! tworuns FIRST COUNT: the two-run test of the built code. Each generated pair (of the reference's generators) is run twice. The
 //! second run finds other values at cells which the first did not mark, after a refused job at any cells, and other garbage in the work
-//! area; result, answers and marks must be alike, word for word. As a measure, one marked cell at a time is changed too: how often that shows.
+//! area, but the same mesh and zones; result, answers and marks must be alike, word for word. As a measure, one marked cell at a time is changed too: how often that shows.
 //! The last line is 'N alike, M differ'; the exit status is 1 where M > 0.
 //!
 //! tworuns --self-test FIRST COUNT: a read cell counts as not marked; passes if that is found in most pairs that have one.
@@ -23,6 +23,7 @@ struct Tally {
     refused: u64,
     sheets: u64,
     among_all: u64,
+    edition_2: u64,
     changed: u64,
     shown: u64,
     tried: u64,
@@ -80,6 +81,7 @@ fn two_runs(seed: u64, t: &mut Tally) {
     t.refused += u64::from(first.result != 0);
     t.sheets += u64::from(first.result == 0 && job.asks(|code| by_bins(code) == 13));
     t.among_all += u64::from(first.result == 0 && job.asks(|code| by_bins(code) != code));
+    t.edition_2 += u64::from(first.result == 0 && fields.as_ref().is_some_and(|f| f.edition == 2));
     let free = fields.as_ref().map_or(Vec::new(), |f| some(free_cells(&first, f), r));
     t.changed += u64::from(!free.is_empty());
     hold(seed, &first, &again(&job, fields.as_ref(), &free, r), t);
@@ -130,7 +132,10 @@ fn main() -> ExitCode {
     }
     if !self_test {
         println!("{} pairs with other values in the second run; {} refused jobs", t.changed, t.refused);
-        println!("{} served jobs with a sheet, {} with a request among all cells", t.sheets, t.among_all);
+        println!(
+            "{} served jobs with a sheet, {} with a request among all cells, {} on a case of edition 2",
+            t.sheets, t.among_all, t.edition_2
+        );
         println!("{} of {} changes at one marked cell show in the answers or marks", t.shown, t.tried);
     }
     println!("{} alike, {} differ", t.alike, t.differ);
