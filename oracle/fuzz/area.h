@@ -41,10 +41,10 @@ static inline uint64_t by_bins(uint64_t code) {
     return code >= 9 && code <= 12 ? code - 8 : code == 14 ? 13 : code;
 }
 
-/* The counts of a case: refusal 1, 2 or 3, or 0 and the rest. */
+/* The counts of a case: refusal 1, 2, 3 or 45, or 0 and the rest. */
 typedef struct survey {
     unsigned refusal;
-    uint64_t dimension, points, words, cells, faces;
+    uint64_t dimension, edition, points, words, cells, faces;
 } survey;
 
 survey survey_case(const uint8_t *bytes, size_t length);

@@ -1,5 +1,5 @@
-/* What docs/01-scope.md and docs/FORMAT.md say of a case and of answers, written without the library: refusals 1 to 10 and the shape
- * of each answer. */
+/* What docs/01-scope.md and docs/FORMAT.md say of a case and of answers, written without the library: refusals 1 to 10 and 45 and
+ * the shape of each answer. */
 #include "area.h"
 #include <math.h>
 
@@ -31,16 +31,21 @@ static int64_t record(const uint8_t *words, uint64_t count, uint64_t *at) {
 }
 
 survey survey_case(const uint8_t *bytes, size_t length) {
-    survey s = {1, 0, 0, 0, 0, 0};
+    survey s = {1, 0, 1, 0, 0, 0, 0};
     if (length < 32) return s;
     const uint8_t *t = bytes + length - 32;
     s.dimension = word_at(t);
+    if (s.dimension == 102 || s.dimension == 103) {
+        s.dimension -= 100;
+        s.edition = 2;
+    }
     s.points = word_at(t + 4);
     s.words = word_at(t + 8);
     s.cells = word_at(t + 12);
     uint64_t a = 24 * s.points, b = a + 4 * s.words, c = b + 24 * s.cells, end = c + 8 * s.cells;
     if (s.dimension != 2 && s.dimension != 3) return s;
-    if (word_at(t + 16) != 0 || word_at(t + 20) != a || word_at(t + 24) != b || word_at(t + 28) != c || end + 32 != length) return s;
+    if (word_at(t + 16) != 0 || word_at(t + 20) != a || word_at(t + 24) != b || word_at(t + 28) != c) return s;
+    if (end + (s.edition == 2 ? 4 * s.cells + 4 : 0) + 32 != length || (s.edition == 2 && word_at(t - 4) != end)) return s;
     s.refusal = 2;
     if (s.points > 65536 || s.cells > 16384 || s.words > 1048576) return s;
     s.refusal = 3;
@@ -50,7 +55,11 @@ survey survey_case(const uint8_t *bytes, size_t length) {
         if (faces < 0) return s;
         s.faces += (uint64_t)faces;
     }
-    if (at == s.words) s.refusal = 0;
+    if (at != s.words) return s;
+    s.refusal = 45;
+    for (uint64_t i = 0; s.edition == 2 && i < s.cells; i++)
+        if (word_at(bytes + end + 4 * i) > 255) return s;
+    s.refusal = 0;
     return s;
 }
 
@@ -60,7 +69,7 @@ static double float_at(const uint8_t *p) {
     return x;
 }
 
-/* Refusal 1 to 10 of a job, or 0 where none of them is due. Lengths are in elements, of the requests in bytes. */
+/* Refusal 1 to 10 or 45 of a job, or 0 where none of them is due. Lengths are in elements, of the requests in bytes. */
 unsigned early_refusal(const survey *s, const uint8_t *bytes, size_t words, size_t floats, size_t marks, size_t requests, size_t answers) {
     if (s->refusal) return s->refusal;
     if (words < 16 * s->faces + 96 * s->cells || floats < 12 * s->faces + 64 * s->cells) return 4;

@@ -9,8 +9,9 @@
 
 uint64_t __real_hookyellow_job(GIVEN);
 
-/* The request of the last job that had one alone. */
+/* The request of the last job that had one alone, and whether its case was of edition 2. */
 static uint8_t last[128];
+static int second;
 
 /* Is the first answer one of code 1 or 9, with its words? */
 static int locates(uint64_t result, const uint8_t *requests, size_t requests_length, const uint64_t *answers) {
@@ -21,6 +22,13 @@ static int locates(uint64_t result, const uint8_t *requests, size_t requests_len
 static int again(uint64_t result, const uint8_t *requests, size_t requests_length) {
     if (result || requests_length != 128) return 0;
     return requests[0] == 9 && last[0] == 1 && !memcmp(requests + 8, last + 8, 120);
+}
+
+/* Is the job one on edition 1 after the same request on edition 2? */
+static int first_after_second(uint64_t result, const uint8_t *case_bytes, size_t case_length, const uint8_t *requests,
+                              size_t requests_length) {
+    if (result || !second || requests_length != 128 || memcmp(requests, last, 128)) return 0;
+    return case_bytes[case_length - 32] < 100;
 }
 
 uint64_t __wrap_hookyellow_job(GIVEN) {
@@ -52,7 +60,14 @@ uint64_t __wrap_hookyellow_job(GIVEN) {
     case 18:                                                                       /* inside where code 1 has an edge */
         if (again(result, requests, requests_length) && answers[3] == 1) answers[3] = 2;
         break;
+    case 19: if (result == 45) result = 3; break;                                  /* another refusal for a zone */
+    case 20:                                                                       /* a line that begins otherwise in edition 1 */
+        if (first_after_second(result, case_bytes, case_length, requests, requests_length) && answers[1] > 3) answers[3] ^= 1;
+        break;
     }
-    if (requests_length == 128) memcpy(last, requests, 128);
+    if (requests_length == 128) {
+        memcpy(last, requests, 128);
+        second = case_length >= 32 && case_bytes[case_length - 32] > 100;
+    }
     return result;
 }

@@ -3,7 +3,8 @@
  *
  * Input: 32 bytes of header, then the case and the requests.
  *   0 function, modulo 32: 1 to 14 the single requests, 15 hookyellow_needs, else hookyellow_job
- *   1 form: bit 0 the case bytes are taken as they are; else P, W, C below give the trailer, and bit 1 the dimension.
+ *   1 form: bit 0 the case bytes are taken as they are; else P, W, C below give the trailer, bit 1 the dimension and bit 4
+ *           edition 2, whose zones stand behind the pressures.
  *           bit 2 request bytes that are no multiple of 128 stay. bit 3 buffers start at a guard page; else they end near one
  *   2 lengths of words, floats, marks, answers, a byte each (see length_of)
  *   6 canary bytes behind case and requests, 7 canary elements behind words, floats, marks and answers
@@ -42,14 +43,21 @@ static size_t cut_case(const uint8_t *header, const uint8_t *body, size_t size) 
         return case_length;
     }
     uint64_t p = word_at(header + 8), w = word_at(header + 12), c = word_at(header + 16);
-    uint64_t parts = 24 * p + 4 * w + 32 * c;
-    if (parts + 32 > MOST_CASE) return SIZE_MAX;
+    uint32_t second = header[1] >> 4 & 1;
+    uint64_t fields = 24 * p + 4 * w + 32 * c, parts = fields + (second ? 4 * c : 0);
+    if (parts + 36 > MOST_CASE) return SIZE_MAX;
     size_t taken = parts < size ? parts : size;
     memcpy(case_bytes, body, taken);
     memset(case_bytes + taken, 0, parts - taken);
-    uint32_t trailer[8] = {2 + (header[1] >> 1 & 1), p, w, c, 0, 24 * p, 24 * p + 4 * w, 24 * p + 4 * w + 24 * c};
-    memcpy(case_bytes + parts, trailer, 32);
-    case_length = parts + 32;
+    uint32_t word = 2 + (header[1] >> 1 & 1) + 100 * second, offset = (uint32_t)fields;
+    uint32_t trailer[8] = {word, p, w, c, 0, 24 * p, 24 * p + 4 * w, 24 * p + 4 * w + 24 * c};
+    case_length = parts;
+    if (second) {
+        memcpy(case_bytes + case_length, &offset, 4);
+        case_length += 4;
+    }
+    memcpy(case_bytes + case_length, trailer, 32);
+    case_length += 32;
     return taken;
 }
 
@@ -198,6 +206,34 @@ static void try_all_cells(const uint8_t *header, lengths n, uint32_t seed) {
     if (all == bin && ((uint64_t *)answer_area.start)[3] != position) violated("another position among all cells");
 }
 
+/* Takes the zones out of an edition 2 case; true where they were all equal. */
+static int without_zones(const survey *s) {
+    uint8_t *zones = case_bytes + case_length - 36 - 4 * s->cells, *trailer = case_bytes + case_length - 32;
+    int one = s->cells == 0 || !memcmp(zones, zones + 4, 4 * (s->cells - 1));
+    memmove(zones, trailer, 32);
+    zones[0] -= 100;
+    case_length -= 4 * s->cells + 4;
+    return one;
+}
+
+/* The answer of a request on an edition 2 case is at hand: in edition 1 it is the same where all zones are equal and where it is
+ * no line, and else its line begins so. */
+static void try_first_edition(const uint8_t *header, const survey *s, lengths n, uint32_t seed) {
+    static uint64_t second[MOST_ANSWERS];
+    const uint64_t *first = (const uint64_t *)answer_area.start;
+    uint64_t code = by_bins(long_at(request_bytes));
+    memcpy(second, first, 8 * n.answers);
+    int one = without_zones(s);
+    lay_all(header, n, seed);
+    if (run_job(n)) violated("edition 1 of a served case is refused");
+    if (!one && (second[0] == 44 || first[0] == 44)) return;
+    uint64_t words = second[1] ? second[1] - 1 : 0;
+    int begins = first[0] == second[0] && (!words || (first[2] >= second[2] && !memcmp(first + 3, second + 3, 8 * words)));
+    int line = !one && (code == 3 || code == 13);
+    if (!one && code == 4) return;
+    if (line ? !begins : memcmp(first, second, 8 * n.answers)) violated("edition 1 has another answer, or a line that begins otherwise");
+}
+
 /* A single request, then the job of that request over other garbage: result, marks and answers are alike. */
 static void try_single(const uint8_t *header, const survey *s, lengths n, uint32_t seed) {
     static uint8_t marks[MOST_MARKS], answers[8 * MOST_ANSWERS];
@@ -216,6 +252,7 @@ static void try_single(const uint8_t *header, const survey *s, lengths n, uint32
     if (result) return;
     if (memcmp(marks, mark_area.start, s->cells)) violated("a request alone has other marks than its job");
     if (memcmp(answers, answer_area.start, 8 * n.answers)) violated("a request alone has other answers than its job");
+    if (s->edition == 2) try_first_edition(header, s, n, seed + 13);
     if (w[0] == 1 && n.answers >= 4) try_all_cells(header, n, seed + 11);
 }
 

@@ -1,5 +1,5 @@
 /* Changes of an input that keep its layout: half of them go to one header byte, one word of the
- * definitions, one float, one request or the point of one. */
+ * definitions, one float, one zone, one request or the point of one. */
 #include "area.h"
 
 size_t LLVMFuzzerMutate(uint8_t *data, size_t size, size_t most);
@@ -49,6 +49,12 @@ static void change_request(uint8_t *run, size_t count) {
     }
 }
 
+static void change_zone(uint8_t *place, const uint8_t *run, size_t cells) {
+    static const uint32_t odd[] = {0, 1, 2, 254, 255, 256, 0x80000000, 0xffffffff};
+    uint32_t zone = below(2) ? odd[below(8)] : word_at(run + 4 * below(cells));
+    memcpy(place, &zone, 4);
+}
+
 /* Puts the point of a request at a point of the case, in the middle between two of them, or beside
  * one of these: at a vertex, on a side. */
 static void change_point(uint8_t *request, const uint8_t *points, uint64_t count) {
@@ -66,14 +72,16 @@ static void change_point(uint8_t *request, const uint8_t *points, uint64_t count
 /* Only for a case of stated parts, all of which the input holds. */
 static int change_part(uint8_t *data, size_t size) {
     uint64_t p = word_at(data + 8), w = word_at(data + 12), c = word_at(data + 16);
-    uint64_t words = HEADER + 24 * p, fields = words + 4 * w, requests = fields + 32 * c;
+    uint64_t words = HEADER + 24 * p, fields = words + 4 * w, zones = fields + 32 * c;
+    uint64_t requests = zones + (data[1] & 16 ? 4 * c : 0);
     if (data[1] & 1 || requests > size) return 0;
     size_t count = (size - requests) / REQUEST;
-    switch (below(9)) {
+    switch (below(10)) {
     case 0: data[below(8)] = (uint8_t)below(256); return 1;
     case 1: if (p) change_float(data + HEADER + 8 * below(3 * p), data + HEADER, 3 * p); return 1;
     case 2: case 3: if (w) change_word(data + words + 4 * below(w), data + words, w, p); return 1;
     case 4: if (c) change_float(data + fields + 8 * below(4 * c), data + fields, 4 * c); return 1;
+    case 9: if (c && requests > zones) change_zone(data + zones + 4 * below(c), data + zones, c); return 1;
     case 5: if (p && count) change_point(data + requests + REQUEST * below(count), data + HEADER, p); return 1;
     default: if (count) change_request(data + requests, count); return 1;
     }
