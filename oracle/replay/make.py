@@ -11,7 +11,7 @@ words, the marks and the refusals are read off what refjob2 prints for each pair
 zeros after the last answer, the bytes that a buffer holds before the job, and the hashes.
 
 The pairs: the known rooms, each cause of each refusal, buffers at their least lengths and one below,
-then generated ones. Passed over are pairs with angles closer than 2^-40, with heights of a seed that
+then generated ones, then those of edition 2. Passed over are pairs with angles closer than 2^-40, with heights of a seed that
 are no number, and rooms in 2D with a field that is not finite: the reference is not held to those.
 The number of pairs that show each refusal and each code is printed.
 
@@ -39,7 +39,7 @@ MOST = 2**64 - 1
 AIRJOB = (16384, 8192, 16384, 8192)
 ROOM = (32768, 16384, 16384, 16384)
 ANSWER, MARK = 0x5555555555555555, 7
-WANTED = 687
+WANTED = 687  # before those of edition 2
 
 
 def u32(*numbers):
@@ -114,6 +114,28 @@ class Mesh:
 
     def with_fields(self, velocities, pressures):
         return Mesh(self.dimension, self.points, self.cells, velocities, pressures)
+
+
+class Zoned(Mesh):
+    """A mesh with a zone for each cell: a case of edition 2."""
+
+    def __init__(self, m, zones):
+        super().__init__(m.dimension, m.points, m.cells, m.velocities, m.pressures)
+        self.zones = list(zones)
+
+    def bytes(self, words=None, word=None, offset=None, counts=None):
+        """The file, or one with other definition words, another first word of the trailer, another zone offset or other counts."""
+        first = super().bytes(words)
+        body, (p, w, c) = first[:-32], struct.unpack("<3I", first[-28:-16])
+        p, w, c = counts or (p, w, c)
+        offset = 24 * p + 4 * w + 32 * c if offset is None else offset
+        word = self.dimension + 100 if word is None else word
+        return body + u32(*self.zones) + ending(word, p, w, c, offset)
+
+
+def ending(word, p, w, c, offset):
+    """The zone offset and the trailer of an edition 2 file, each number modulo 2^32."""
+    return u32(*(x % 2**32 for x in (offset, word, p, w, c, 0, 24 * p, 24 * p + 4 * w, 24 * p + 4 * w + 24 * c)))
 
 
 def quads(nx, ny, dx=1.0, dy=1.0):
@@ -664,10 +686,10 @@ def slanted(n, length, base):
     return quads(n, 1, base).moved(lambda p: (p[0] + (length - n * base) * p[1], p[1], p[2]))
 
 
-def spiral(k, n):
-    """Cells about a middle, k to a turn; from the k-th on they lie over the first ones."""
+def spiral(k, n, growth=0.0):
+    """Cells about a middle, k to a turn, each so much further out; from the k-th on they lie over the first ones."""
     at = lambda i, r: (r * math.cos(2 * math.pi * (i % k) / k), r * math.sin(2 * math.pi * (i % k) / k), 0.0)
-    points = [at(i, r) for i in range(n + 1) for r in (0.5, 1.0)]
+    points = [at(i, r + i * growth) for i in range(n + 1) for r in (0.5, 1.0)]
     return Mesh(2, points, [(0, [2 * i, 2 * i + 1, 2 * i + 3, 2 * i + 2]) for i in range(n)])
 
 
@@ -818,6 +840,128 @@ def arrows(nx, ny):
     return m.with_cells(*[(0, around(2 * j * n + i)) for j in range(ny) for i in range(nx)])
 
 
+def zone_files():
+    """Refusals 1 and 45 of edition 2, on both sides of every limit, and their order among the others."""
+    two = lambda *zones: Zoned(PAIR, zones)
+    right = two(0, 1).bytes()
+    for zones in ((0, 255), (255, 254), (128, 0)):
+        add(f"edition 2, zones {zones[0]} and {zones[1]}", two(*zones), both(*FLAT, sheet()))
+    for zone in (256, 257, 65536, 2**31, 2**32 - 1):
+        add(f"45: zone {zone}", two(0, zone), FLAT)
+    add("45: zone 256 in the first cell", two(256, 0), FLAT)
+    add("45: zone 256 in 3D", Zoned(CUBE, [256]), SOLID)
+    add("3: before 45, kind 6", two(256, 256).bytes([6] + PAIR.words()[1:]), FLAT)
+    add("3: before 45, a word over", two(0, 2**32 - 1).bytes(PAIR.words() + [0]), FLAT)
+    add("45: before 4 to 7", two(0, 256), b"\0", (0, 0, 0, 0))
+    add("4: zone 255, nothing lent", two(0, 255), b"\0", (0, 0, 0, 0))
+    words, floats, marks = PAIR.least()
+    add("4: edition 2, a word short", two(0, 1), FLAT, (words - 1, floats, marks, 100))
+    add("5: edition 2, a mark short", two(0, 1), FLAT, (words, floats, marks - 1, 100))
+    add("44: edition 2 in the least buffers", two(0, 1), FLAT, (words, floats, marks, 8))
+    add("45: before 9", Zoned(PAIR.with_point(4, (NAN, 0, 0)), (0, 256)), FLAT)
+    add("9: edition 2", Zoned(PAIR.with_point(4, (NAN, 0, 0)), (0, 255)), FLAT)
+    add("45: before 11", Zoned(PAIR.with_cells((0, [0, 1])), [256]), FLAT)
+    cells = lambda n, zone: [(b"\xdd" * 32, n), (u32(zone), n), (ending(103, 0, 0, n, 32 * n), 1)]
+    add("2: before 45, 16,385 cells", cells(16385, 256), SOLID)
+    add("3: before 45, 16,384 cells without words", cells(16384, 256), SOLID)
+    add("8: 65,536 points in edition 2", [(b"\xee" * 24, 65536), (ending(102, 65536, 0, 0, 24 * 65536), 1)], FLAT)
+    zone_trailers(right)
+
+
+def zone_trailers(right):
+    at = len(right) - 36 - 8  # where the zones of Pair stand
+    for by in (-4, -1, 1, 4, 8, -16, 2**31):
+        add(f"1: zone offset {by:+}", Zoned(PAIR, (0, 1)).bytes(offset=at + by), FLAT)
+    add("1: zone offset 0", Zoned(PAIR, (0, 1)).bytes(offset=0), FLAT)
+    for word in (2, 3, 0, 100, 101, 104, 202, 358, 102 * 256, 102 + 2**24):
+        add(f"1: word {word} with edition 2's parts", Zoned(PAIR, (0, 1)).bytes(word=word), FLAT)
+    add("11: word 103 with polygons", Zoned(PAIR, (0, 1)).bytes(word=103), FLAT)
+    for word in (102, 103):
+        add(f"1: word {word} with edition 1's parts", PAIR.bytes()[:-32] + u32(word) + PAIR.bytes()[-28:], FLAT)
+    add("1: a zone short", right[:-40] + right[-36:], FLAT)
+    add("1: a zone over", right[:-36] + u32(0) + right[-36:], FLAT)
+    add("1: zones without their offset", right[:-36] + right[-32:], FLAT)
+    add("1: a zone offset without zones", right[:at] + right[-36:], FLAT)
+    add("1: four bytes before an edition 2 file", u32(0) + right, FLAT)
+    add("1: a byte short in edition 2", right[1:], FLAT)
+    empty = ending(102, 0, 0, 0, 0)
+    add("8: 36 bytes of edition 2", empty, FLAT)
+    add("8: no cells in edition 2", Zoned(Mesh(2, PAIR.points, []), []), FLAT)
+    for n in (35, 33, 32, 31):
+        add(f"1: {n} bytes of edition 2", empty[-n:], FLAT)
+    add("1: 37 bytes of edition 2", b"\0" + empty, FLAT)
+    for p, w, c in ((2**29, 0, 0), (0, 2**30, 0), (0, 0, 2**30), (0, 0, 2**29), (0, 0, 2**27)):
+        assert (24 * p + 4 * w + 32 * c) % 2**32 == 0
+        add(f"1: sums of edition 2 wrap to nothing: {p} points, {w} words, {c} cells", ending(102, p, w, c, 0), FLAT)
+    for k, by in ((0, 2**29), (1, 2**30), (2, 2**30)):
+        n = [6, 12, 2]
+        n[k] += by
+        add(f"1: sums of edition 2 wrap to those of Pair, count {k}", Zoned(PAIR, (0, 1)).bytes(counts=n), FLAT)
+
+
+def zone_lines():
+    """Lines that end at the border of a zone, on it and beside it, by both locators."""
+    lines = (line, sheet)
+    along = SHEET.with_fields([(1.0, 0.0, 0.0)] * 6, [0.0] * 6)
+    columns = [i % 3 for i in range(6)]
+    across = [r((x, 0.5, 0.0), d, 0.25, 20, 9.0) for x in (0.25, 1.5, 2.75) for d in (0, 1) for r in lines]
+    add("lines that end at borders", Zoned(along, columns), both(*across), answers=900)
+    add("the same lines in one zone", Zoned(along, [9] * 6), both(*across), answers=1500)
+    up = SHEET.with_fields([(0.0, 1.0, 0.0)] * 6, [0.0] * 6)
+    tiny = (0.0, 5e-13, -5e-13, 2e-12, -2e-12)
+    beside = [r((1.0 + d, 0.25, 0.0), 0, 0.25, 20, 9.0) for d in tiny for r in lines]
+    add("lines along a border and beside it", Zoned(up, columns), both(*beside), answers=900)
+    turned = Zoned(Mesh(2, up.points, up.cells[::-1], up.velocities, up.pressures), [2, 1, 0, 0, 1, 2])
+    add("lines along a border whose lower cell changes", turned, both(*beside), answers=900)
+    seeds = [r((1.0 + d, 0.5, 0.0), w, 0.25, 20, 9.0) for d in tiny for w in (0, 1) for r in lines]
+    add("seeds on a border and beside it", Zoned(PAIR, (0, 1)), both(*seeds), answers=900)
+    add("seeds on a border, cell 1 first", Zoned(Mesh(2, PAIR.points, PAIR.cells[::-1], PAIR.velocities, PAIR.pressures), (1, 0)),
+        both(*seeds), answers=900)
+    strips = quads(8, 1, 0.25, 1.0).with_fields([(1.0, 0.0, 0.0)] * 8, [0.0] * 8)
+    steps = [r((0.125, 0.5, 0.0), 0, s, 20, 9.0) for s in (0.0625, 0.25, 0.5, 1.0, 0.75) for r in lines]
+    add("stage points in another zone", Zoned(strips, [i % 2 for i in range(8)]), both(*steps), answers=600)
+    add("a zone that is stepped over", Zoned(strips, [0, 7, 0, 7, 7, 0, 0, 0]), both(*steps), answers=600)
+    limits = [r((0.25, 0.5, 0.0), 0, 0.25, n, x) for n in (3, 4, 20) for x in (0.5, 0.75, 0.74, 9.0) for r in lines]
+    add("ends by steps, length and zone", Zoned(along, columns), both(*limits), answers=1200)
+    still = SHEET.with_fields([(1.0, 0.0, 0.0), (0.0, 0.0, 0.0), (1.0, 0.0, 0.0)] * 2, [0.0] * 6)
+    add("still air behind a border", Zoned(still, columns), both(*across), answers=900)
+    add("44: a line that runs on, and one that ends", Zoned(along, columns), among(*(line((x, 0.5, 0.0), 0, 0.25, 20, 9.0) for x in (2.0, 0.25))), answers=20)
+    add("a line in the fewest words that its zone leaves", Zoned(along, columns), among(line((0.25, 0.5, 0.0), 0, 0.25, 20, 9.0)), answers=15)
+    add("44: a line, a word short of what its zone leaves", Zoned(along, columns), among(line((0.25, 0.5, 0.0), 0, 0.25, 20, 9.0)), answers=14)
+
+
+def zone_rooms():
+    rakes = [rake((0.25, 0.25, 0.0), (2.75, 1.75, 0.0), n, d, 0.25, 12, 9.0) for n in (2, 3, 6) for d in (0, 1)]
+    along = SHEET.with_fields([(1.0, 0.25 * (i % 2), 0.0) for i in range(6)], [0.0] * 6)
+    add("rakes over zones", Zoned(along, [3, 1, 2, 0, 1, 255]), both(*rakes), answers=2400)
+    add("64 seeds over zones", Zoned(along, [0, 1, 0, 1, 0, 1]), among(rake((0.0, 0.5, 0.0), (2.9, 1.5, 0.0), 64, 0, 0.25, 4, 9.0)), answers=1100)
+    coil = whirl(spiral(6, 14, 0.03)).shifted(1.5, 1.0, 0.0)
+    by_turn = [i // 6 for i in range(14)]
+    reverse = Mesh(2, coil.points, coil.cells[::-1], coil.velocities[::-1], coil.pressures)
+    rooms = [("squares", SHEET, [i % 2 for i in range(6)]), ("one zone", SHEET, [200] * 6), ("each its own", SHEET, range(6)),
+             ("whirl", whirl(quads(6, 4, 0.5, 0.5)), [(i % 6 // 2 + i // 12) % 2 for i in range(24)]),
+             ("whirl in one zone", whirl(quads(6, 4, 0.5, 0.5)), [255] * 24),
+             ("cells over each other", coil, by_turn), ("cells over each other, the outer ones first", reverse, by_turn[::-1]),
+             ("two long cells without an index", quads(2, 1, 500.0, 0.05), [4, 5]), ("gap", ring_gap(), [i % 3 for i in range(8)]),
+             ("ring", ring(6), [1] + [0] * 6), ("fan", fan(5), [0, 0, 1, 1, 1]), ("one cell", SQUARE, [77]),
+             ("heights", SHEET.moved(lambda p: (p[0], p[1], p[0] * 0.5 - p[1])), [0, 0, 1, 0, 0, 1])]
+    for name, m, zones in rooms:
+        add(f"with zones, {name}", Zoned(m, zones), both(*shown(m)), answers=2400)
+    add("the fourteen codes in 2D, edition 2", Zoned(PAIR, (0, 1)), FLAT + SOLID + [sheet()] + among(*FLAT, sheet()))
+    add("the fourteen codes in 3D, edition 2", Zoned(CUBE, [255]), FLAT + SOLID + [sheet()] + among(*FLAT, sheet()))
+    for name, m in (("stack", STACK), ("block", BLOCK), ("tetrahedra", split(BLOCK, 1))):
+        add(f"sections over zones, {name}", Zoned(m, [i % 3 for i in range(len(m.cells))]), shown(m), answers=1500)
+    bad = [altered(FLAT[2], 9, 1), line(direction=2), rake(count=1), rake(count=65), line(steps=65537), line(step=NAN), line((9.0, 9.0, 0.0)), cut(5)]
+    between("30: in edition 2, and 31 to 35", Zoned(PAIR, (0, 1)), *bad, *among(*bad[:-1]))
+
+
+def zones():
+    """Edition 2: its refusals, and lines that go by the zones of their cells."""
+    zone_files()
+    zone_lines()
+    zone_rooms()
+
+
 # ---- what the reference says
 
 def printed(refjob, folder, pair):
@@ -965,7 +1109,7 @@ class Files:
         with open(os.path.join(CRATE, "stdout"), "w") as f:
             f.write(self.due)
         print(f"{self.pairs} pairs, {len(self.data) + 4} bytes, {len(self.due)} bytes due", file=sys.stderr)
-        for x in [f"refusal {k}" for k in (*range(1, 20), *range(30, 45))] + [f"code {k}" for k in range(1, 15)]:
+        for x in [f"refusal {k}" for k in (*range(1, 20), *range(30, 46))] + [f"code {k}" for k in range(1, 15)]:
             print(f"{x}: {self.shows[x]} pairs", file=sys.stderr)
 
 
@@ -975,11 +1119,13 @@ def main(programs):
     for part in (lists, trailers, records, lengths, values, definitions, volumes, codes, options, planes, samples,
                  rooms_for_answers, accepted, sheets, all_cells, edges):
         part()
+    first = len(PAIRS)
+    zones()
     names = collections.Counter(p[0] for p in PAIRS)
     assert len(names) == len(PAIRS), names.most_common(3)
     with tempfile.TemporaryDirectory() as folder:
         files = Files(refjob, folder)
-        for pair in PAIRS:
+        for pair in PAIRS[:first]:
             files.add(pair)
         for seed in TELLING:
             files.add(generated(gen, os.path.join(folder, "gen"), seed, 6000))
@@ -988,6 +1134,8 @@ def main(programs):
             pair = generated(gen, os.path.join(folder, "gen"), next(seeds), 3000)
             if pair:
                 files.add(pair, 20)
+        for pair in PAIRS[first:]:
+            files.add(pair)
         files.write()
 
 
