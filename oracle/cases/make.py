@@ -1,19 +1,21 @@
 #!/usr/bin/env python3
 """Makes what the program crate test_case_refusals runs on, and what it is held to.
 
-    make.py REFJOB
+    make.py REFJOB2
 
 writes crates/test_case_refusals/data/cases, the case files in pieces (src/main.rt says how), and
 crates/test_case_refusals/stdout, the line that each is due. No number of a line is computed here: each
-comes from REFJOB, the reference job that runs FLURSYS's own Rust inside the records of the case
-file. A refusal of 1, 2 or 3 is what it prints. For a case that it reads, F is found from the
+comes from REFJOB2, the reference job that runs FLURSYS's own Rust inside the records of the case
+file, with the requests of document 02 that oracle/reference names. A refusal of 1, 2 or 3 is what it prints. For a case that it reads, F is found from the
 smallest work area that it accepts: 16F+96C words, C being the trailer's, and 12F+64C floats must
 lead to the same F. Marks of length 0 and one request byte have it stop (5, 6) before the mesh.
 
-The cases are listed below in the order of the refusals. Points and fields are filled with bytes
+The cases are listed below in the order of the refusals, then those of edition 2. The program opens and
+walks a case and looks at no zone, so none of them is above 255 (45). Points and fields are filled with bytes
 that are no kind word, so that a reader that starts at the wrong byte is seen.
 """
 import os
+import re
 import struct
 import subprocess
 import sys
@@ -21,6 +23,8 @@ import tempfile
 
 HERE = os.path.dirname(os.path.abspath(__file__))
 CRATE = os.path.join(HERE, "..", "..", "crates", "test_case_refusals")
+with open(os.path.join(HERE, "..", "reference", "src", "lib.rs")) as f:
+    LANDED = re.search(r"^pub const LANDED: u32 = (\d+);$", f.read(), re.M)[1]
 MOST_POINTS, MOST_CELLS, MOST_WORDS = 65536, 16384, 1048576
 TOP = 2**32 - 1
 
@@ -331,6 +335,128 @@ def words_and_cells():
     add("3 cells, records of 4", case(once(TRIANGLE, PRISM, HEXAHEDRON, CUT_CUBE), 3))
 
 
+# ---- edition 2
+
+def ending(word, p, w, c, offset=None, at=None):
+    """The zone offset and the trailer; offset and at override what the counts say."""
+    right = 24 * p + 4 * w + 32 * c
+    return u32((right if offset is None else offset) % 2**32) + trailer(word, p, w, c, at)
+
+
+def zones(cells):
+    """A zone for each cell: none of their bytes is a kind word."""
+    return [(u32(0xcc), cells)]
+
+
+def case2(words, cells, word=103, p=2, end=None, zone_words=None):
+    """A case of edition 2 whose ending says what it has, or another ending; with as many zones as cells, or others."""
+    w = size(words) // 4
+    end = ending(word, p, w, cells) if end is None else end
+    return [*points(p), *words, *fields(cells), *(zones(cells) if zone_words is None else zone_words), (end, 1)]
+
+
+def second_accepted():
+    for word in (102, 103):
+        for name, record in KINDS:
+            add(f"{name}, word {word}", case2(once(record), 1, word))
+        every = [record for _, record in KINDS]
+        add(f"every kind, word {word}", case2(once(*every, *reversed(every)), 12, word, 8))
+        add(f"nothing but 36 bytes, word {word}", case2([], 0, word, 0))
+        add(f"points alone, word {word}", case2([], 0, word, 5))
+    for low, high in ((0, 0), (255, 0), (255, 255)):
+        add(f"zones {low} and {high}", case2(once(TRIANGLE, PRISM), 2, zone_words=once(u32(low, high))))
+    add("zones that look like records", case2(once(TRIANGLE, PRISM), 2, zone_words=once(u32(0, 3))))
+
+
+def second_short():
+    empty = ending(102, 0, 0, 0)
+    for n in (31, 32, 33, 34, 35):
+        add(f"the last {n} of 36 bytes, word 102", once(empty[-n:]))
+        add(f"{n} bytes, word 102, of another case", once(ending(102, 0, 0, 1)[-n:]))
+    add("37 bytes, word 102", once(b"\0", empty))
+    add("40 bytes, word 102: a zone and no cell", once(u32(0), empty))
+
+
+def second_words():
+    """Words and parts of both editions in each other's place."""
+    right, first = case2(BASE, C, 102, P), whole(told(BASE, C, trailer(2, P, W, C)))
+    add("ending right", right)
+    for word in (0, 1, 2, 3, 4, 100, 101, 104, 105, 202, 203, 358, 359, 102 * 256, 2**24 + 102, 2**31 + 103, TOP):
+        add(f"word {word} with the parts of edition 2", case2(BASE, C, word, P))
+    for word in (102, 103):
+        add(f"word {word} with the parts of edition 1", once(first[:-32], trailer(word, P, W, C)))
+        add(f"word {word}, zones without their offset", once(first[:-32], u32(*[0] * C), trailer(word, P, W, C)))
+        add(f"word {word}, the offset without zones", once(first[:-32], ending(word, P, W, C)))
+    body = whole(right)[:-36]
+    add("offset of the zones behind the trailer", once(body, trailer(102, P, W, C), u32(24 * P + 4 * W + 32 * C)))
+    add("offset of the zones before the zones", once(body[:-4 * C], u32(24 * P + 4 * W + 32 * C), body[-4 * C:], trailer(102, P, W, C)))
+
+
+def second_offsets():
+    at = 24 * P + 4 * W + 32 * C
+    for by in (-32 * C, -8 * C, -24, -4, -1, 1, 4, 4 * C, 4 * C + 4, 256, 65536, 2**24, 2**31):
+        add(f"offset of the zones {by:+}", case2(BASE, C, 102, P, ending(102, P, W, C, at + by)))
+    for offset in (0, TOP):
+        add(f"offset of the zones {offset}", case2(BASE, C, 102, P, ending(102, P, W, C, offset)))
+    for k, part in enumerate(("points", "words", "velocities", "pressures")):
+        for by in (-4, 4, 4 * C + 4):
+            ends = list(ENDS)
+            ends[k] += by
+            add(f"offset of the {part} {by:+}, word 102", case2(BASE, C, 102, P, ending(102, P, W, C, at=ends)))
+    for by in (-4, 4):
+        add(f"every offset {by:+}, word 102", case2(BASE, C, 102, P, ending(102, P, W, C, at + by, [x + by for x in ENDS])))
+
+
+def second_length():
+    right = whole(case2(BASE, C, 102, P))
+    at = len(right) - 36
+    for n in (1, 4, 8, 36):
+        count = f"{n} byte{'s' * (n > 1)}"
+        add(f"{count} short at the start, word 102", once(right[n:]))
+        add(f"{count} over at the start, word 102", once(b"\xdd" * n, right))
+        add(f"{count} over at the end, word 102", once(right, b"\xdd" * n))
+    add("a zone short", once(right[:at - 4], right[at:]))
+    add("a zone over", once(right[:at], u32(0), right[at:]))
+    add("a zone short, the offset too", case2(BASE, C, 102, P, ending(102, P, W, C, 24 * P + 4 * W + 32 * C + 4), once(u32(0, 0))))
+    for k, part in enumerate(("points", "words", "cells")):
+        for by in (-1, 1):
+            n = [P, W, C]
+            n[k] += by
+            add(f"{part} {by:+}, offsets as it says, word 102", case2(BASE, C, 102, P, ending(102, *n)))
+    add("9 words fewer for a cell more", case2(BASE, C, 102, P, ending(102, P, W - 9, C + 1)))
+    add("9 words more for a cell fewer", case2(BASE, C, 102, P, ending(102, P, W + 9, C - 1)))
+    add("cells +1, length too, word 102", case2(BASE, C + 1, 102))
+    add("cells -1, length too, word 102", case2(BASE, C - 1, 102))
+
+
+def second_wrapped():
+    """Right in sums of 32 bits, and refused since the sums are exact."""
+    for p, w, c in ((2**29, 0, 0), (0, 2**30, 0), (0, 0, 2**30), (0, 0, 2**29), (0, 0, 2**27), (2**29, 2**30, 2**30),
+                    (TOP, 6, 0), (0, TOP, 0), (0, 0, TOP)):
+        add(f"sums of edition 2 wrap: {p} points, {w} words, {c} cells", once(ending(102, p, w, c)))
+    for k, (part, by) in enumerate((("points", 2**29), ("words", 2**30), ("cells", 2**30))):
+        n = [P, W, C]
+        n[k] += by
+        add(f"sums of edition 2 wrap to those of the case: {part} +{by}", case2(BASE, C, 102, P, ending(102, *n)))
+
+
+def second_limits():
+    none = u32(0, 0)
+    add("65536 points, word 102", case2([], 0, 102, MOST_POINTS))
+    add("65537 points, word 102", case2([], 0, 102, MOST_POINTS + 1))
+    add("16384 cells, word 103", case2([(none, MOST_CELLS)], MOST_CELLS))
+    add("16385 cells, word 103", case2([(none, MOST_CELLS + 1)], MOST_CELLS + 1))
+    add("16384 cells, the last unknown, word 103", case2([(none, MOST_CELLS - 1), (u32(6, 0), 1)], MOST_CELLS))
+    add("1048576 words, 1 cell, word 103", case2([(u32(0), MOST_WORDS)], 1))
+    add("1048577 words, 1 cell, word 103", case2([(u32(0), MOST_WORDS + 1)], 1))
+    add("1048576 words in 16384 cells, word 103", case2([(SIXTY_FOUR, MOST_CELLS)], MOST_CELLS))
+    add("65537 points, a zone over", case2([], 0, 102, MOST_POINTS + 1, zone_words=once(u32(0))))
+    add("kind 6, word 102", case2(once(TRIANGLE, u32(6)), 2, 102))
+    for name, record in KINDS:
+        add(f"{name}: 1 word short, word 103", case2(once(record[:-4]), 1))
+        add(f"{name}: 1 word left over, word 103", case2(once(record, u32(0)), 1))
+
+
 # ---- the file of pieces, and the lines
 
 def piece(data, end):
@@ -358,7 +484,7 @@ class Reference:
             f.write(b"\0")
 
     def refusal(self, words, floats):
-        command = [self.refjob, self.case, self.requests, "--nolimit", "--marks", "0",
+        command = [self.refjob, self.case, self.requests, "--until", LANDED, "--nolimit", "--marks", "0",
                    "--words", str(words), "--floats", str(floats)]
         text = subprocess.run(command, check=True, capture_output=True, text=True).stdout.split()
         assert len(text) == 2 and text[0] == "refused", text
@@ -394,7 +520,8 @@ class Reference:
 
 def main():
     for part in (accepted, trailer_short, trailer_words, trailer_counts, trailer_length, trailer_wrapped,
-                 limits, kinds, inner_counts, words_and_cells):
+                 limits, kinds, inner_counts, words_and_cells, second_accepted, second_short, second_words,
+                 second_offsets, second_length, second_wrapped, second_limits):
         part()
     os.makedirs(os.path.join(CRATE, "data"), exist_ok=True)
     with open(os.path.join(CRATE, "data", "cases"), "wb") as f:
