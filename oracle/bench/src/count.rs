@@ -11,7 +11,7 @@ pub const MOST: usize = 2;
 
 /// Builds run in `n` jobs; a list of requests stands `n` times in one job, so that its mesh build falls out.
 pub fn count_ours(row: &Row, n: usize) {
-    let mut ours = Ours::new(row.shape.case());
+    let mut ours = Ours::new(row.case());
     let Work::Requests { list, counted, .. } = row.work else {
         (0..n).for_each(|_| ours.job(&[]));
         return;

@@ -17,6 +17,8 @@ pub struct Measured {
     pub theirs: f64,
     /// Ours by the bins, of a row among all cells.
     pub bins: Option<f64>,
+    /// Ours on the edition 1 case of the same contents, of a row with zones.
+    pub first: Option<f64>,
     /// Fewer units were run than the row says, and the times multiplied.
     pub scaled: bool,
     /// Half of our rounds lie more than a quarter of the median apart.
@@ -98,13 +100,13 @@ fn same_answers(ours: &mut Ours, theirs: &Theirs, list: &[Request]) -> Result<()
 }
 
 pub fn measure(row: &Row) -> Result<Measured, String> {
-    let case = row.shape.case();
-    let theirs = Theirs::new(&case);
-    let mut ours = Ours::new(case);
+    let theirs = Theirs::new(&row.shape.case());
+    let mut ours = Ours::new(row.case());
+    let mut first = row.has_zones().then(|| Ours::new(row.shape.case()));
     let result = match row.work {
-        Work::Build => measure_build(row, &mut ours, &theirs, false),
-        Work::BuildField => measure_build(row, &mut ours, &theirs, true),
-        Work::Requests { list, whole, .. } => measure_requests(&mut ours, &theirs, list, whole),
+        Work::Build => measure_build(row, &mut ours, &mut first, &theirs, false),
+        Work::BuildField => measure_build(row, &mut ours, &mut first, &theirs, true),
+        Work::Requests { list, whole, .. } => measure_requests(&mut ours, &mut first, &theirs, list, whole),
     };
     result.map_err(|why| format!("{}: {why}", row.key()))
 }
@@ -121,16 +123,24 @@ fn time_build(ready: &Ready, with_field: bool) -> f64 {
     .0
 }
 
-fn measure_build(row: &Row, ours: &mut Ours, theirs: &Theirs, with_field: bool) -> Result<Measured, String> {
+fn measure_build(
+    row: &Row,
+    ours: &mut Ours,
+    first: &mut Option<Ours>,
+    theirs: &Theirs,
+    with_field: bool,
+) -> Result<Measured, String> {
     same_answers(ours, theirs, &witnesses(row.shape))?;
     let once = clock(|| ours.job(&[])).0 + time_build(&theirs.ready, with_field);
-    let (mut a, mut b) = (Vec::new(), Vec::new());
+    let (mut a, mut b, mut c) = (Vec::new(), Vec::new(), Vec::new());
     for _ in 0..rounds(once) {
         a.push(clock(|| ours.job(&[])).0);
         b.push(time_build(&theirs.ready, with_field));
+        c.extend(first.as_mut().map(|first| clock(|| first.job(&[])).0));
     }
     let ours = median(&mut a);
-    Ok(Measured { ours, theirs: median(&mut b), bins: None, scaled: false, uneven: uneven(&a) })
+    let first = first.is_some().then(|| median(&mut c));
+    Ok(Measured { ours, theirs: median(&mut b), bins: None, first, scaled: false, uneven: uneven(&a) })
 }
 
 fn plan(ours: &mut Ours, list: fn(usize) -> Vec<Request>, whole: usize) -> Plan {
@@ -150,6 +160,12 @@ fn plan(ours: &mut Ours, list: fn(usize) -> Vec<Request>, whole: usize) -> Plan 
     }
 }
 
+/// A job less one without requests.
+fn time_less_build(ours: &mut Ours, requests: &[u8]) -> f64 {
+    let empty = clock(|| ours.job(&[])).0;
+    clock(|| ours.job(requests)).0 - empty
+}
+
 fn time_calls(theirs: &Theirs, calls: &[Call], repeats: usize) -> f64 {
     let mut kept: Vec<Output> = Vec::with_capacity(calls.len() * repeats);
     clock(|| {
@@ -162,6 +178,7 @@ fn time_calls(theirs: &Theirs, calls: &[Call], repeats: usize) -> f64 {
 
 fn measure_requests(
     ours: &mut Ours,
+    first: &mut Option<Ours>,
     theirs: &Theirs,
     list: fn(usize) -> Vec<Request>,
     whole: usize,
@@ -172,18 +189,21 @@ fn measure_requests(
     let calls: Vec<Call> = request.iter().map(Call::of).collect();
     let repeated = request.repeat(repeats);
     ours.fit(&repeated);
+    first.iter_mut().for_each(|first| first.fit(&repeated));
     let requests = bytes(&repeated);
     let beside = by_the_bins(&repeated).map(|list| bytes(&list));
     let once = build + clock(|| ours.job(&requests)).0 + time_calls(theirs, &calls, repeats);
-    let (mut a, mut b, mut c) = (Vec::new(), Vec::new(), Vec::new());
+    let (mut a, mut b, mut c, mut d) = (Vec::new(), Vec::new(), Vec::new(), Vec::new());
     for _ in 0..rounds(once) {
         let empty = clock(|| ours.job(&[])).0;
         a.push(clock(|| ours.job(&requests)).0 - empty);
         b.push(time_calls(theirs, &calls, repeats));
         c.extend(beside.as_ref().map(|requests| clock(|| ours.job(requests)).0 - empty));
+        d.extend(first.as_mut().map(|first| time_less_build(first, &requests)));
     }
     let factor = whole as f64 / units as f64 / repeats as f64;
     let bins = beside.map(|_| median(&mut c) * factor);
+    let first = first.is_some().then(|| median(&mut d) * factor);
     let (ours, theirs) = (median(&mut a) * factor, median(&mut b) * factor);
-    Ok(Measured { ours, theirs, bins, scaled: units < whole, uneven: uneven(&a) })
+    Ok(Measured { ours, theirs, bins, first, scaled: units < whole, uneven: uneven(&a) })
 }

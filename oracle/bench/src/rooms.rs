@@ -1,5 +1,6 @@
 //! The rooms of the rows: unit squares of quads and unit cubes of hexahedra, as case bytes.
 use reference::refair::gen::{case_bytes, grid2, grid3, mesh_words, Mesh};
+use reference::second_edition;
 
 #[derive(Clone, Copy, PartialEq)]
 pub enum Shape {
@@ -28,6 +29,10 @@ impl Shape {
                 bytes(&grid3(a, b, c, d), slanted)
             }
         }
+    }
+    /// The same room as a case of edition 2, all cells in one zone, so that lines are as long.
+    pub fn zoned_case(self) -> Vec<u8> {
+        second_edition(&self.case(), &vec![7; self.cells()])
     }
 }
 

@@ -20,7 +20,17 @@ pub struct Row {
     pub work: Work,
 }
 
+/// What the name of a row has whose case is of edition 2 for us; the Rust has none of these.
+const ZONES: &str = "-zones";
+
 impl Row {
+    pub fn has_zones(&self) -> bool {
+        self.name.ends_with(ZONES)
+    }
+    /// The case that we get.
+    pub fn case(&self) -> Vec<u8> {
+        if self.has_zones() { self.shape.zoned_case() } else { self.shape.case() }
+    }
     pub fn key(&self) -> String {
         format!("{}-{}", self.name, self.shape.cells())
     }
@@ -57,6 +67,11 @@ pub fn all() -> Vec<Row> {
     add("line-all", &quads, request(|n| all_cells(line(n)), 65_536, 64));
     add("rake-all", &quads, request(|n| all_cells(rake(n)), 1024, 1));
     add("sheet-all", &quads, request(|n| all_cells(sheet(n)), 65_536, 64));
+    add("build-quads-field-zones", &quads, Work::BuildField);
+    add("line-zones", &quads, request(line, 65_536, 64));
+    add("rake-zones", &quads, request(rake, 1024, 1));
+    add("line-all-zones", &quads, request(|n| all_cells(line(n)), 65_536, 64));
+    add("rake-all-zones", &quads, request(|n| all_cells(rake(n)), 1024, 1));
     add("section-few", &hexahedra, request(|_| vec![section(FEW)], 1, 1));
     add("section-many", &hexahedra, request(|_| vec![section(MANY)], 1, 1));
     add("statistics-few", &hexahedra, request(|_| vec![statistics(FEW)], 1, 1));

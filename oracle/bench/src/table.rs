@@ -16,6 +16,8 @@ and both times multiplied. ~: half of our rounds lie more than a quarter apart.
 locate-all, velocity-all, line-all, rake-all, sheet-all: the same points, among all cells (codes 9 to 12 and 14). The
 Rust has no such locator, and its time is that by the bins. To bins: the time over ours by the bins, in the same rounds;
 at most 1.30 is due.
+*-zones: ours is on the case of edition 2 with the same contents, all cells in one zone; the Rust has no zones and is on edition 1.
+To first: the time over ours on the case of edition 1, in the same rounds.
 Growth: the time over that of the same row on its smallest mesh.";
 
 /// What a row among all cells may take of its row by the bins.
@@ -24,8 +26,8 @@ const TO_BINS: f64 = 1.3;
 pub fn print_header() {
     println!("{HEADER}\n");
     println!(
-        "{:<18} {:>7} {:>14} {:>12} {:>10}   {:>11} {:>11} {:>8}",
-        "row", "cells", "ours (us)", "Rust (us)", "ratio", "growth ours", "growth Rust", "to bins"
+        "{:<23} {:>7} {:>14} {:>12} {:>10}   {:>11} {:>11} {:>8} {:>8}",
+        "row", "cells", "ours (us)", "Rust (us)", "ratio", "growth ours", "growth Rust", "to bins", "to first"
     );
 }
 
@@ -39,12 +41,17 @@ fn to_bins(m: &Measured) -> Option<f64> {
     m.bins.filter(|bins| *bins > 0.0).map(|bins| m.ours / bins)
 }
 
+/// A row with zones over ours on the edition 1 case.
+fn to_first(m: &Measured) -> Option<f64> {
+    m.first.filter(|first| *first > 0.0).map(|first| m.ours / first)
+}
+
 pub fn print_row(row: &Row, m: &Measured, smallest: &Measured) {
     let marks = format!("{}{}", if m.scaled { "*" } else { "" }, if m.uneven { "~" } else { "" });
     let ratio = ratio(m).map_or("noise".into(), |r| format!("{r:.2}"));
-    let bins = to_bins(m).map_or(String::new(), |r| format!("{r:>9.2}"));
+    let beside = |r: Option<f64>| r.map_or(String::new(), |r| format!("{r:.2}"));
     println!(
-        "{:<18} {:>7} {:>14.1} {:>12.1} {:>10}{:<2} {:>11.2} {:>11.2}{bins}",
+        "{:<23} {:>7} {:>14.1} {:>12.1} {:>10}{:<2} {:>11.2} {:>11.2} {:>8} {:>8}",
         row.name,
         row.shape.cells(),
         m.ours,
@@ -52,7 +59,9 @@ pub fn print_row(row: &Row, m: &Measured, smallest: &Measured) {
         ratio,
         marks,
         m.ours / smallest.ours,
-        m.theirs / smallest.theirs
+        m.theirs / smallest.theirs,
+        beside(to_bins(m)),
+        beside(to_first(m))
     );
 }
 
@@ -64,6 +73,9 @@ pub fn print_worst(rows: &[(Row, Measured)]) {
     if let Some((ratio, key)) = worst(rows, to_bins) {
         let verdict = if ratio <= TO_BINS { "at most" } else { "MORE THAN" };
         println!("among all cells {ratio:.2} of the time by the bins in {key}: {verdict} {TO_BINS:.2}");
+    }
+    if let Some((ratio, key)) = worst(rows, to_first) {
+        println!("with zones {ratio:.2} of the time on edition 1 in {key}");
     }
     if let Some((ratio, key)) = worst(rows, ratio) {
         println!("worst ratio {ratio:.2} in {key}");
