@@ -26,6 +26,23 @@ fn pair_is_the_dump() {
     assert_eq!(Case::from_bytes(bytes.clone()).into_bytes(), bytes);
 }
 
+/// The file of edition 2, and the line that ends at the border of its zones.
+#[test]
+fn pair_with_zones_is_the_dump() {
+    let bytes: Vec<u8> = block("### Pair with zones").lines().flat_map(dumped).collect();
+    assert_eq!(bytes.len(), 300);
+    assert_eq!(zoned_pair([0, 1]).as_bytes(), bytes);
+    let options = LineOptions { all_cells: true, ..quarters(9.0) };
+    let request = Request::Streamline { seed: at(0.25, 0.5, 0.0), direction: Direction::Forward, options };
+    let mut workspace = Workspace::new();
+    let outcome = job(&Case::from_bytes(bytes), &[request], &mut workspace).unwrap();
+    assert_eq!(outcome.cells_read(), [0, 1]);
+    let words = block("### Zones").split_whitespace().map(|word| u64::from_str_radix(word, 16).unwrap());
+    let words: Vec<u64> = words.collect();
+    assert_eq!(workspace.answers()[..2], [0, words.len() as u64 - 2]);
+    assert_eq!(workspace.answers()[2..words.len()], words[2..]);
+}
+
 #[test]
 fn velocity_request_is_the_dump() {
     let mut bytes: Vec<u8> = block("The second request of").lines().next().map(dumped).unwrap();
