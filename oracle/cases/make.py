@@ -6,9 +6,10 @@
 writes crates/test_case_refusals/data/cases, the case files in pieces (src/main.rt says how), and
 crates/test_case_refusals/stdout, the line that each is due. No number of a line is computed here: each
 comes from REFJOB2, the reference job that runs FLURSYS's own Rust inside the records of the case
-file, with the requests of document 02 that oracle/reference names. A refusal of 1, 2 or 3 is what it prints. For a case that it reads, F is found from the
-smallest work area that it accepts: 16F+96C words, C being the trailer's, and 12F+64C floats must
-lead to the same F. Marks of length 0 and one request byte have it stop (5, 6) before the mesh.
+file, with the requests of document 02 that oracle/reference names. A refusal of 1, 2 or 3 is what it
+prints. For a case that it reads, F is found from the smallest work area that it accepts: 16F+96C
+words, C being the trailer's, and 12F+64C floats must lead to the same F. Marks of length 0 and one
+request byte have it stop (5, 6) before the mesh.
 
 The cases are listed below in the order of the refusals, then those of edition 2. The program opens and
 walks a case and looks at no zone, so none of them is above 255 (45). Points and fields are filled with bytes
