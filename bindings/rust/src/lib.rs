@@ -1,8 +1,9 @@
 //! Streamlines and plane sections of the air flow in a room, and with each the cells that it was made from.
 //!
-//! A [`Case`] holds a mesh with a velocity and a pressure in each cell, and in edition 2 a zone; a [`Request`] asks for a cell, a velocity, streamlines or a
-//! plane section, and [`job`] answers a list of requests. Each request can also be called alone: [`locate`], [`velocity`],
-//! [`streamline`], [`rake`] and [`sheet`] on a 2D case, [`section`], [`statistics`], [`integrals`] and [`probe`] on a 3D one.
+//! A [`Case`] holds a mesh with a velocity and a pressure in each cell, and in edition 2 a zone; a [`Request`] asks for a cell,
+//! a velocity, streamlines or a plane section, and [`job`] answers a list of requests. Each request can also be called alone:
+//! [`locate`], [`velocity`], [`streamline`], [`rake`] and [`sheet`] on a 2D case, [`section`], [`statistics`], [`integrals`] and
+//! [`probe`] on a 3D one.
 //!
 //! With the answers come the cells whose values were read ([`Outcome::cells_read`]). A value of any other cell had no part in
 //! them: with another value there, every answer would be the same, bit for bit.
