@@ -37,7 +37,7 @@ sign Backward = -1·0
 unfoldable pub signedStep : StreamlineSettings → Float
 signedStep s = s .options .«step_size» ⊗ sign (s .direction)
 
--- the zone of the cell that was found
+-- the zone of the cell that was found; for none, which is refused with 35, it is 0
 unfoldable pub zoneFound : StreamlineField → Found → ℕ
 zoneFound f Nothing = 0
 zoneFound f (At i) = zoneAt f i
