@@ -19,7 +19,7 @@ use Rattle.arith.specs.F64.{0·0}
 use Rattle.arith.specs.Vec.{origin}
 use Rattle.case_file.specs.declared.Counts.{Counts}
 use Rattle.case_file.specs.declared.Opened.the-variants.{Case}
-use Rattle.case_file.specs.Field.{blank, outside, cellsOf, zeroValues, valuesIn, valuesOf, zoneIn, zoneOf, zonesOf, isZone, zonesWithin}
+use Rattle.case_file.specs.Field.{blank, outside, cellsOf, zeroValues, valuesIn, valuesOf, zoneIn, zoneOf, zonesOf, isAtMost, zonesWithin}
 
 module _ (at n : ℕ) (l : List ℕ) (fits : at + n ≤ length l) where
   pub length-blank : length (blank at n l) ≡ length l
@@ -173,7 +173,7 @@ module _ (file : List ℕ) where
 
   pub outside-zones-within : zonesWithin (outside file) ≡ zonesWithin file
   unfolding zonesWithin
-  outside-zones-within = ap (allOf isZone) outside-zones
+  outside-zones-within = ap (allOf (isAtMost 255)) outside-zones
 
   module _ (n : Counts) (e : opened file ≡ Case n) where
     o : Opens file n

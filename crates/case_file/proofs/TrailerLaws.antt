@@ -143,7 +143,7 @@ unfolding trailerRight hasParts
 ends file e =
     sym (eqb-true _ _ (and-right (hasOffsets file (countsOf file) && hasZones file (countsOf file)) _ (and-right (leb 32 (length file) && isDimension (countsOf file .dimension)) _ e)))
 
-within : (n : Counts) → overLimit n ≡ false → (n .points ≤ 65536) × (n .cells ≤ 16384) × (n .words ≤ 1048576)
+pub within : (n : Counts) → overLimit n ≡ false → (n .points ≤ 65536) × (n .cells ≤ 16384) × (n .words ≤ 1048576)
 unfolding overLimit
 within n e =
     let pc = or-left _ _ e in (

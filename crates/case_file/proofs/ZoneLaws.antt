@@ -1,21 +1,21 @@
--- The zones of a case that opened: where they stand, and the walk that looks for one above 255. Assumes nothing.
+-- The zones of a case that opened: where they stand, and the walk for the largest of them. Assumes nothing.
 use Prim.Native.Nat.{ℕ, _+_, _*_, _≤_, _<_}
 use native.Mathlib.Omega.{arith}
 use mathlib.Core.Path.{_≡_, refl, ap, sym, _∙_}
 use mathlib.Core.Bool.{Bool, true, false, cond, _&&_}
-use mathlib.Core.List.{List}
-use lib.Dec.{ltb, eqb}
+use mathlib.Core.List.{List, [], _∷_}
+use lib.Dec.{leb, ltb, eqb}
 use lib.ListN.{length, getD, drop, drop-of-length-le, List·getD-eq-default}
 use mathlib.Core.Logic.{⊎-elim}
-use borrow.Author.Tests.{lt-ltb, le-ltb, le-leb, lt-leb, eq-eqb, ne-eqb}
+use borrow.Author.Tests.{lt-ltb, le-ltb, ltb-true, ltb-false, le-leb, lt-leb, leb-true, leb-false, eq-eqb, ne-eqb}
 use Rattle.arith.specs.Bytes.{le32}
-use Rattle.arith.specs.Lists.{allOf}
-use Rattle.arith.proofs.ListLaws.{all-here, all-next}
+use Rattle.arith.specs.Lists.{fold, allOf}
+use Rattle.arith.proofs.ListLaws.{foldl-next}
 use Rattle.arith.proofs.RecordLaws.{length-tab, getD-tab, lt-or-ge}
 use Rattle.case_file.specs.declared.Counts.{Counts}
 use Rattle.case_file.specs.declared.Opened.the-variants.{Case}
 use Rattle.case_file.specs.Trailer.{countsOf, zonesFrom, opened}
-use Rattle.case_file.specs.Field.{cellsOf, zoneIn, zoneOf, zonesOf, isZone}
+use Rattle.case_file.specs.Field.{cellsOf, zoneIn, zoneOf, zonesOf, isAtMost, larger}
 use Rattle.case_file.proofs.TrailerLaws.{zones-some, Opens, opens}
 
 module _ (file : List ℕ) (n : Counts) (e : opened file ≡ Case n) where
@@ -45,7 +45,7 @@ module _ (file : List ℕ) (n : Counts) (e : opened file ≡ Case n) where
 -- ---- the list of them
 
 module _ (file : List ℕ) where
-  length-zones : length (zonesOf file) ≡ cellsOf file
+  pub length-zones : length (zonesOf file) ≡ cellsOf file
   unfolding zonesOf
   length-zones = length-tab (zoneOf file) (cellsOf file)
 
@@ -73,13 +73,53 @@ module _ (file : List ℕ) where
     unfolding cellsOf
     cells = ap (λ (m : Counts). m .cells) (opens file n e .same) ∙ sym length-zones
 
-    module _ (r : ℕ) (less : i < n .cells) (er : r ≡ zoneOf file i) where
-      pub zones-next : r ≤ 255 → allOf isZone (drop i (zonesOf file)) ≡ allOf isZone (drop (i + 1) (zonesOf file))
-      zones-next h = all-next (zonesOf file) i 0 (rw (← cells) less) isZone (ap isZone (getD-zones i ∙ sym er) ∙ (unfold isZone in le-leb r 255 h))
+    -- one turn of the walk for the largest, and its end
+    pub largest-next : (most r : ℕ) → i < n .cells → r ≡ zoneOf file i → fold larger most (drop i (zonesOf file)) ≡ fold larger (larger most r) (drop (i + 1) (zonesOf file))
+    largest-next most r less er =
+        foldl-next (zonesOf file) i 0 (rw (← cells) less) larger most ∙ ap (λ (z : ℕ). fold larger (larger most z) (drop (i + 1) (zonesOf file))) (getD-zones i ∙ sym er)
 
-      pub zones-bad : 255 < r → allOf isZone (drop i (zonesOf file)) ≡ false
-      zones-bad h = all-here (zonesOf file) i 0 (rw (← cells) less) isZone (ap isZone (getD-zones i ∙ sym er) ∙ (unfold isZone in lt-leb r 255 h))
+    pub largest-end : (most : ℕ) → n .cells ≤ i → fold larger most (drop i (zonesOf file)) ≡ most
+    unfolding fold
+    largest-end most h = rw (drop-of-length-le (zonesOf file) {i = i} (rw (← cells) h))
 
-    pub zones-end : n .cells ≤ i → allOf isZone (drop i (zonesOf file)) ≡ true
-    unfolding allOf
-    zones-end h = rw (drop-of-length-le (zonesOf file) {i = i} (rw (← cells) h))
+-- ---- none is above a bound where the largest is not
+
+larger-within : (most a z : ℕ) → a ≤ most → z ≤ most → larger a z ≤ most
+unfolding larger
+larger-within most a z h k = by (ltb a z)
+  where
+    by : (x : Bool) → cond x z a ≤ most
+    by true = k
+    by false = h
+
+larger-first : (a z : ℕ) → a ≤ larger a z
+unfolding larger
+larger-first a z = by (ltb a z) refl
+  where
+    by : (x : Bool) → ltb a z ≡ x → a ≤ cond x z a
+    by true f = omega (arith, ltb-true a z f)
+    by false f = omega arith
+
+larger-second : (a z : ℕ) → z ≤ larger a z
+unfolding larger
+larger-second a z = by (ltb a z) refl
+  where
+    by : (x : Bool) → ltb a z ≡ x → z ≤ cond x z a
+    by true f = omega arith
+    by false f = omega (arith, ltb-false a z f)
+
+grows : (a : ℕ) (zones : List ℕ) → a ≤ fold larger a zones
+unfolding fold
+grows a [] = omega arith
+grows a (z ∷ zones) = omega (arith, larger-first a z, grows (larger a z) zones)
+
+pub at-most : (most a : ℕ) (zones : List ℕ) → a ≤ most → leb (fold larger a zones) most ≡ allOf (isAtMost most) zones
+unfolding fold allOf isAtMost
+at-most most a [] h = le-leb a most h
+at-most most a (z ∷ zones) h = by (leb z most) refl (λ k. at-most most (larger a z) zones k)
+  where
+    by : (x : Bool) → leb z most ≡ x → (larger a z ≤ most → leb (fold larger (larger a z) zones) most ≡ allOf (isAtMost most) zones) →
+        leb (fold larger (larger a z) zones) most ≡ allOf (isAtMost most) (z ∷ zones)
+    by true f ih = rw (f, allOf) (ih (larger-within most a z h (leb-true z most f)))
+    by false f ih =
+        rw (f, allOf) (lt-leb (fold larger (larger a z) zones) most (omega (arith, leb-false z most f, larger-second a z, grows (larger a z) zones)))

@@ -1,7 +1,8 @@
 -- The field of a case, the case without it, and its zones: "Reading follows from the case bytes and the requests".
 -- `blank`, `outside`: the case without its field. `cellsOf`: how many cells it has.
 -- `zeroValues`, `valuesIn`, `valuesOf`: the values of a cell.
--- `zoneIn`, `zoneOf`, `zonesOf`: the zones of the cells. `isZone`, `zonesWithin`: refusal 45.
+-- `zoneIn`, `zoneOf`, `zonesOf`: the zones of the cells. `isAtMost`, `zonesWithin`: refusal 45.
+-- `larger`, `largest`: how it is found.
 use Prim.Native.Nat.{ℕ, _+_, _*_}
 use mathlib.Core.Bool.{Bool, true, false, cond, _&&_}
 use mathlib.Core.List.{List, _++_}
@@ -10,7 +11,7 @@ use lib.ListN.{take, drop, replicate}
 use Rattle.arith.specs.F64.{0·0}
 use Rattle.arith.specs.Vec.{origin}
 use Rattle.arith.specs.Bytes.{le32, floatAt, vecAt}
-use Rattle.arith.specs.Lists.{allOf}
+use Rattle.arith.specs.Lists.{fold, allOf}
 use Rattle.arith.specs.Records.{tab}
 use Rattle.reading.specs.declared.Values.{Values}
 use Rattle.case_file.specs.declared.Counts.{Counts}
@@ -56,10 +57,17 @@ zoneOf file i = zoneIn file (countsOf file) i
 unfoldable pub zonesOf : List ℕ → List ℕ
 zonesOf file = tab (zoneOf file) (cellsOf file)
 
--- no "zone above 255"
-unfoldable pub isZone : ℕ → Bool
-isZone z = leb z 255
+-- a zone is not above a bound
+unfoldable pub isAtMost : ℕ → ℕ → Bool
+isAtMost most z = leb z most
 
--- refusal 45 is not due
+-- the larger of two numbers, and the largest of some, 0 for none
+unfoldable pub larger : ℕ → ℕ → ℕ
+larger a b = cond (ltb a b) b a
+
+unfoldable pub largest : List ℕ → ℕ
+largest zones = fold larger 0 zones
+
+-- refusal 45 is not due: no "zone above 255"
 unfoldable pub zonesWithin : List ℕ → Bool
-zonesWithin file = allOf isZone (zonesOf file)
+zonesWithin file = allOf (isAtMost 255) (zonesOf file)

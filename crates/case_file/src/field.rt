@@ -10,7 +10,9 @@ ghost use lib.ListN.{set};
 ghost use Rattle.reading.specs.Asks.{ask, give};
 ghost use Rattle.reading.specs.Served.{Served};
 ghost use Rattle.case_file.specs.Trailer.{opened};
-ghost use Rattle.case_file.specs.Field.{valuesOf, zoneOf, zonesWithin};
+ghost use Rattle.arith.specs.Lists.{allOf};
+ghost use Rattle.case_file.specs.Field as Field;
+ghost use Rattle.case_file.specs.Field.{valuesOf, zoneOf, zonesOf, isAtMost, zonesWithin};
 
 // The velocity and the pressure of cell i; zeros where there is none.
 fn values(case: &[u8], n: Counts, i: usize) -> Values
@@ -68,17 +70,42 @@ pub fn zone(case: &[u8], n: Counts, i: usize) -> u32
     bytes::word_at(case, zones + 4 * i)
 }
 
+// The larger of two numbers.
+pub fn larger(a: u32, b: u32) -> u32
+    ensures { λ r. ⌜ r ≡ Field.larger a b ⌝ }
+{
+    if a < b {
+        return b;
+    }
+    a
+}
+
+// The largest zone; 0 where there is no cell.
+fn largest_zone(case: &[u8], n: Counts) -> u32
+    requires { ⌜ opened (now case) ≡ Opened.Case n ⌝ }
+    ensures { λ r. ⌜ r ≡ Field.largest (zonesOf (now (case .entry))) ⌝ }
+{
+    let mut most = 0;
+    let mut i = 0;
+    while i < n.cells {
+        most = larger(most, zone(case, n, i));
+        i += 1;
+    }
+    most
+}
+
+// No zone is above `most`.
+pub fn zones_at_most(case: &[u8], n: Counts, most: u32) -> bool
+    requires { ⌜ opened (now case) ≡ Opened.Case n ⌝ }
+    ensures { λ r. ⌜ r ≡ allOf (isAtMost most) (zonesOf (now (case .entry))) ⌝ }
+{
+    largest_zone(case, n) <= most
+}
+
 // No zone is above 255.
 pub fn zones_within(case: &[u8], n: Counts) -> bool
     requires { ⌜ opened (now case) ≡ Opened.Case n ⌝ }
     ensures { λ r. ⌜ r ≡ zonesWithin (now (case .entry)) ⌝ }
 {
-    let mut i = 0;
-    while i < n.cells {
-        if zone(case, n, i) > 255 {
-            return false;
-        }
-        i += 1;
-    }
-    true
+    zones_at_most(case, n, 255)
 }

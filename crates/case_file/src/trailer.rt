@@ -43,6 +43,14 @@ fn dimension(w: usize) -> usize
     w
 }
 
+// The edition of a file that has a trailer.
+pub fn edition_of(case: &[u8]) -> usize
+    requires { ⌜ 32 ≤ length (now case) ⌝ }
+    ensures { λ r. ⌜ r ≡ Trailer.countsOf (now (case .entry)) .edition ⌝ }
+{
+    edition(trailer_word(case, 0))
+}
+
 fn counts(case: &[u8]) -> Counts
     requires { ⌜ 32 ≤ length (now case) ⌝ }
     ensures { λ r. ⌜ Contracts.CountsExit (now (case .entry)) r ⌝ }
@@ -57,7 +65,8 @@ fn counts(case: &[u8]) -> Counts
     }
 }
 
-fn is_dimension(d: usize) -> bool
+// A dimension is 2 or 3.
+pub fn is_dimension(d: usize) -> bool
     ensures { λ r. ⌜ r ≡ Trailer.isDimension d ⌝ }
 {
     if d == 2 {
@@ -67,7 +76,7 @@ fn is_dimension(d: usize) -> bool
 }
 
 // What edition 2 has between the pressures and the trailer: the zones and their offset.
-fn zone_bytes(n: Counts) -> usize
+pub fn zone_bytes(n: Counts) -> usize
     requires { ⌜ n .cells < 2^32 ⌝ }
     ensures { λ r. ⌜ (r ≡ Trailer.zoneBytes n) × (r ≤ 17179869184) ⌝ }
 {
@@ -120,7 +129,8 @@ fn has_parts(case: &[u8], n: Counts) -> bool
     case.len() == end
 }
 
-fn is_over(n: Counts) -> bool
+// A count is over its limit.
+pub fn is_over(n: Counts) -> bool
     ensures { λ r. ⌜ r ≡ Trailer.overLimit n ⌝ }
 {
     if n.points > 65536 {
