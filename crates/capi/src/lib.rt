@@ -4,7 +4,7 @@ mod alone;
 use job_promise::number_of;
 ghost use mathlib.Core.Path.{_≡_};
 ghost use lib.ListN.{length};
-ghost use Rattle.mesh.specs.Case.{surveyOf};
+ghost use Rattle.case_survey.specs.Survey.{surveyOf};
 ghost use Rattle.job_promise.specs.Promise.{JobPromise};
 ghost use Rattle.job_needs.specs.Needs.{needsNumber, needsOf};
 

@@ -10,8 +10,9 @@ use borrow.Author.Tests.{lt-ltb, le-ltb}
 use Rattle.reading.specs.Result.{refused, fine}
 use Rattle.case_file.specs.declared.Counts.{Counts}
 use Rattle.case_file.proofs.TrailerLaws.{opens}
-use Rattle.mesh.specs.Case.{CaseSurvey, surveyOf, areaShort}
-use Rattle.mesh.proofs.Laws.{Surveys, survey-right, faces-few}
+use Rattle.case_survey.specs.Survey.{CaseSurvey, surveyOf}
+use Rattle.case_survey.proofs.Laws.{Surveys, survey-right, faces-few}
+use Rattle.mesh.specs.Case.{areaShort}
 use Rattle.job_needs.specs.Needs.{wordsNeeded, floatsNeeded, needsNumber, needsOf}
 
 -- refusal 4 is due under these numbers, and no others

@@ -6,7 +6,7 @@ use lib.Dec.{ltb}
 use lib.ListN.{length, set}
 use Rattle.reading.specs.Result.{Result, refused, fine}
 use Rattle.case_definitions.specs.Faces.{facesCounted}
-use Rattle.mesh.specs.Case.{CaseSurvey}
+use Rattle.case_survey.specs.Survey.{CaseSurvey}
 
 -- "16F+96C words"
 unfoldable pub wordsNeeded : CaseSurvey → ℕ

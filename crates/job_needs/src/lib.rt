@@ -1,8 +1,8 @@
 // How much a case needs.
-use mesh::Surveyed;
+use case_survey::Surveyed;
 ghost use mathlib.Core.Path.{_≡_};
 ghost use lib.ListN.{length};
-ghost use Rattle.mesh.specs.Case.{surveyOf};
+ghost use Rattle.case_survey.specs.Survey.{surveyOf};
 ghost use Rattle.job_needs.specs.Needs.{needsNumber, needsOf};
 
 // What `needs` answers where it has no place for what it found; no other function answers it.
@@ -15,7 +15,7 @@ pub fn needs(case: &[u8], needs: &mut [usize]) -> u64
     ensures { λ r. ⌜ r ≡ needsNumber (surveyOf (now (case .entry))) (length (now (needs .entry))) ⌝ }
     ensures { λ _. ⌜ now (needs .exit) ≡ needsOf (surveyOf (now (case .entry))) (now (needs .entry)) ⌝ }
 {
-    match mesh::survey(case) {
+    match case_survey::survey(case) {
         Surveyed::Refused(k) => k,
         Surveyed::Case(n, faces) => {
             if needs.len() < 3 {

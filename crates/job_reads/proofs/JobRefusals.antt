@@ -26,7 +26,8 @@ use Rattle.mesh_cells.specs.Cells.{PartialCell, PartialMesh, addCell, partialMe
 use Rattle.mesh_centres.specs.Finish.{finished}
 use Rattle.mesh_coordinates.specs.Coordinates.{acceptable}
 use Rattle.mesh.specs.Mesh.{joined, completed, filled, fromCells}
-use Rattle.mesh.specs.Case.{CaseSurvey, surveyOf, meshOf}
+use Rattle.case_survey.specs.Survey.{CaseSurvey, surveyOf}
+use Rattle.mesh.specs.Case.{meshOf}
 use Rattle.lines_locate.specs.Field.{zoned}
 use Rattle.lines_field.specs.Field.{gridFor, gridOf, fieldOf}
 use Rattle.job_room.specs.Room.{Room, Lent, roomFrom, roomOf, shortage, prepared}

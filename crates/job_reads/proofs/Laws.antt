@@ -20,7 +20,8 @@ use Rattle.case_definitions.proofs.Walking.{length-definitions}
 use Rattle.lines_locate.specs.declared.Search.{Search}
 use Rattle.lines_locate.specs.Field.{StreamlineField, searching, zoned}
 use Rattle.lines_field.specs.Field.{fieldOf}
-use Rattle.mesh.specs.Case.{CaseSurvey, surveyOf, meshOf}
+use Rattle.case_survey.specs.Survey.{CaseSurvey, surveyOf}
+use Rattle.mesh.specs.Case.{meshOf}
 use Rattle.job_requests.specs.declared.Request.{Request}
 use Rattle.job_requests.specs.declared.Request.the-variants as requests
 use Rattle.job_room.specs.Room.{Room, flat, solid, Lent, roomFrom, roomOf, prepared}

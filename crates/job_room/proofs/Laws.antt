@@ -16,8 +16,10 @@ use Rattle.case_file.specs.Trailer.{countsOf, trailerRight, overLimit, opened, 
 use Rattle.case_file.specs.declared.Counts.{Counts}
 use Rattle.case_file.specs.declared.Opened.{Opened}
 use Rattle.case_file.proofs.OutsideLaws.{outside-opened, outside-words, outside-zones, outside-zones-within}
-use Rattle.mesh.specs.Case.{CaseSurvey, surveyOf, meshOf}
-use Rattle.mesh.proofs.Laws.{survey-shut, survey-wrong, survey-zoned, survey-right, outside-points}
+use Rattle.case_survey.specs.Survey.{CaseSurvey, surveyOf}
+use Rattle.case_survey.proofs.Laws.{survey-shut, survey-wrong, survey-zoned, survey-right}
+use Rattle.mesh.specs.Case.{meshOf}
+use Rattle.mesh.proofs.Laws.{outside-points}
 use Rattle.job_room.specs.Room.{Room, Lent, roomOf, requestsWrong, shortage, prepared}
 use Rattle.job_room.specs.Contracts.{roomIn, RoomStands, PrepareExit, standing, barred}
 use Rattle.job_room.specs.declared.Place.{Place}

@@ -24,12 +24,14 @@ use Rattle.mesh_area.specs.Tables.{Mesh}
 use Rattle.mesh_area.specs.Layout.{pointsIn, meshIn}
 use Rattle.mesh_area.proofs.LayoutLaws.{length-cellsIn}
 use Rattle.mesh.specs.Mesh.{fromCells}
-use Rattle.mesh.specs.Case.{CaseSurvey, surveyOf, areaShort, meshOf}
+use Rattle.case_survey.specs.Survey.{CaseSurvey, surveyOf}
+use Rattle.case_survey.proofs.Laws.{Surveys, survey-right}
+use Rattle.mesh.specs.Case.{areaShort, meshOf}
 use Rattle.mesh.specs.Contracts.{BuildExit, BuildEntry}
 use Rattle.mesh_coordinates.specs.Coordinates.{acceptedAs}
 use Rattle.mesh.specs.declared.Built.{Built}
 use Rattle.mesh.specs.declared.Built.the-variants as Built
-use Rattle.mesh.proofs.Laws.{Surveys, survey-right, area-long, building-refused, building-mesh}
+use Rattle.mesh.proofs.Laws.{area-long, building-refused, building-mesh}
 use Rattle.lines_locate.specs.declared.Search.the-variants.{Bins}
 use Rattle.lines_locate.specs.declared.Grid.{Grid}
 use Rattle.lines_field.specs.declared.Built as polygons

@@ -7,8 +7,9 @@ use mathlib.Core.List.{List}
 use lib.Dec.{ltb, eqb}
 use Rattle.reading.specs.Result.{Result, fine, _>>=_, refuse}
 use Rattle.case_file.specs.Field.{zonesOf}
+use Rattle.case_survey.specs.Survey.{CaseSurvey, surveyOf}
 use Rattle.mesh_area.specs.Tables.{Mesh}
-use Rattle.mesh.specs.Case.{CaseSurvey, surveyOf, areaShort, meshOf}
+use Rattle.mesh.specs.Case.{areaShort, meshOf}
 use Rattle.lines_locate.specs.Field.{StreamlineField, zoned}
 use Rattle.lines_field.specs.Field.{fieldOf}
 

@@ -1,9 +1,9 @@
 // The room of a case: its mesh in the work area and, in 2D, its field. Refusals 1 to 19, and 45.
 use case_file::Counts;
+use case_survey::Surveyed;
 use lines_build::build;
 use lines_locate::Search;
 use lines_velocity::Tracer;
-use mesh::Surveyed;
 use mesh_area::Sizes;
 ghost use Prim.Native.Nat.{_≤_};
 ghost use mathlib.Core.Path.{_≡_};
@@ -133,7 +133,7 @@ pub fn prepare(
               answers;
         })) (now (case .entry)) (now (words .exit)) (now (floats .exit)) r ⌝ }
 {
-    match mesh::survey(case) {
+    match case_survey::survey(case) {
         Surveyed::Refused(k) => Prepared::Refused(k),
         Surveyed::Case(n, faces) => {
             let k = shortage(

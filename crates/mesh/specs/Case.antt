@@ -1,32 +1,15 @@
--- What a case says outside its fields: its counts and its cells' definitions, and the mesh of them.
--- `CaseSurvey`, `surveyOf`: refusals 1, 2, 3 and 45. `areaShort`: 4. `meshOf`: 8 to 17.
--- `caseFaces`: F. `meshFrom`: a case alone.
+-- The mesh of a case that was surveyed, and of a case alone.
+-- `areaShort`: refusal 4. `meshOf`: 8 to 17. `caseFaces`: F. `meshFrom`: a case alone.
 use Prim.Native.Nat.{ℕ, _+_, _*_}
-use mathlib.Core.Bool.{Bool, not, _||_}
+use mathlib.Core.Bool.{Bool, _||_}
 use mathlib.Core.List.{List}
 use lib.Dec.{ltb}
 use Rattle.reading.specs.Result.{Result, refused, fine, _>>=_, refuse}
-use Rattle.case_definitions.specs.Faces.{Definition, facesCounted}
-use Rattle.case_definitions.specs.Definitions.{definitions}
-use Rattle.case_file.specs.Trailer.{opened, openedCase, wordsOf}
-use Rattle.case_file.specs.Field.{zonesWithin}
-use Rattle.case_file.specs.declared.Counts.{Counts}
+use Rattle.case_definitions.specs.Faces.{facesCounted}
+use Rattle.case_survey.specs.Survey.{CaseSurvey, surveyOf}
 use Rattle.mesh_area.specs.Tables.{Mesh}
 use Rattle.mesh_area.specs.Layout.{pointsIn}
 use Rattle.mesh.specs.Mesh.{fromCells}
-
--- the counts and the definitions of a case
-pub record CaseSurvey : Type 0 where
-  pub counts : Counts
-  pub definitions : List Definition
-
--- refusals 1, 2 and 3, and 45 "a zone above 255, after 3"
-unfoldable pub surveyOf : List ℕ → Result CaseSurvey
-surveyOf file =
-    openedCase (opened file) >>= λ n.
-    definitions (n .cells) (wordsOf file n) >>= λ ds.
-    refuse 45 (not (zonesWithin file)) >>= λ _.
-    fine (record { counts = n; definitions = ds })
 
 -- refusal 4: "work area under 16F+96C words or 12F+64C floats"
 unfoldable pub areaShort : CaseSurvey → ℕ → ℕ → Bool

@@ -1,10 +1,9 @@
 -- The contracts of `from_cells` and its parts.
--- `survey`: `SurveyExit`. `builtAs`, `sizesFor`, `LaidOut`: what an answer stands for, the sizes of a mesh, and an area that fits them.
+-- `builtAs`, `sizesFor`, `LaidOut`: what an answer stands for, the sizes of a mesh, and an area that fits them.
 -- `join`, `complete`, `fill`, `build` and `from_cells`: `BuildExit`. `partialMeshIn`: the partial cells in the area.
 -- `join`: `JoinEntry`. `complete`: `CompleteEntry`. `build`: `BuildEntry`.
 use Prim.Native.Nat.{ℕ, _+_, _*_, _≤_, _<_}
 use mathlib.Core.Path.{_≡_}
-use mathlib.Core.Bool.{true}
 use mathlib.Core.List.{List}
 use lib.ListN.{length, getD}
 use lib.Ieee.{Float}
@@ -13,26 +12,17 @@ use Rattle.reading.specs.Result.{Result, refused, fine}
 use Rattle.case_definitions.specs.Faces.{Definition, facesCounted}
 use Rattle.case_definitions.specs.Definitions.{definitions}
 use Rattle.case_file.specs.Trailer.{opened, wordsOf}
-use Rattle.case_file.specs.Field.{zonesWithin}
 use Rattle.case_file.specs.declared.Counts.{Counts}
 use Rattle.case_file.specs.declared.Opened.the-variants.{Case}
 use Rattle.mesh_area.specs.Tables.{Mesh}
 use Rattle.mesh_area.specs.Layout.{meshIn, LentWords, LentFloats, facesIn}
 use Rattle.mesh_area.specs.declared.Sizes.{Sizes}
-use Rattle.mesh.specs.declared.Surveyed.{Surveyed}
 use Rattle.mesh.specs.declared.Built.{Built}
 use Rattle.mesh_neighbours.specs.Contracts.{CellLists}
 use Rattle.mesh_cells.specs.Cells.{PartialMesh}
 use Rattle.mesh_cells.specs.Partial.{partialCellsIn}
 use Rattle.mesh_centres.specs.Contracts.{FinishCellsEntry}
-use Rattle.mesh.specs.Case.{surveyOf}
-use Rattle.mesh.specs.declared.Surveyed.the-variants as Surveyed
 use Rattle.mesh.specs.declared.Built.the-variants as Built
-
--- a case with its counts and the number of faces of all its definitions, or the refusal
-pub data SurveyExit (file : List ℕ) : Surveyed → Type 0 where
-  surveyed : {n : Counts} {ds : List Definition} {f : ℕ} → opened file ≡ Case n → definitions (n .cells) (wordsOf file n) ≡ fine ds → zonesWithin file ≡ true → f ≡ facesCounted ds → SurveyExit file (Surveyed.Case n f)
-  refusing : {k : ℕ} → surveyOf file ≡ refused k → SurveyExit file (Surveyed.Refused k)
 
 -- what each answer of the builder stands for: the mesh that the area holds, or the refusal
 unfoldable pub builtAs : List Vec3 → List ℕ → List Float → Built → Result Mesh

@@ -1,10 +1,7 @@
 // UnstructuredMesh::from_cells: the mesh of a case, into the lent work area.
-use case_definitions::Walked;
 use case_definitions::walker;
 use case_file::Counts;
-use case_file::Opened;
-use case_file::field;
-use case_file::trailer;
+use case_survey::Surveyed;
 use mesh_area::Sizes;
 use mesh_cells::CellsAdded;
 use mesh_centres::Finished;
@@ -20,39 +17,16 @@ ghost use Rattle.mesh_area.specs.Layout.{facesIn, cellsIn};
 ghost use Rattle.reading.specs.Result.{fine};
 ghost use Rattle.case_definitions.specs.Faces.{Definition, facesCounted};
 ghost use Rattle.case_definitions.specs.Definitions.{definitions};
+ghost use Rattle.case_survey.specs.Survey.{surveyOf};
 ghost use Rattle.mesh_cells.specs.Contracts.{AddCellsEntry};
 ghost use Rattle.mesh.specs.Mesh.{joined, completed, filled, fromCells};
-ghost use Rattle.mesh.specs.Contracts.{SurveyExit, BuildExit, JoinEntry, CompleteEntry, BuildEntry, partialMeshIn};
-ghost use Rattle.mesh.specs.Case.{surveyOf, areaShort, caseFaces, meshFrom};
-
-// The counts of a case and the number of faces of all its definitions, or refusal 1, 2, 3 or 45.
-pub enum Surveyed {
-    Case(Counts, usize),
-    Refused(u64),
-}
+ghost use Rattle.mesh.specs.Contracts.{BuildExit, JoinEntry, CompleteEntry, BuildEntry, partialMeshIn};
+ghost use Rattle.mesh.specs.Case.{areaShort, caseFaces, meshFrom};
 
 // The mesh in the area, or the refusal.
 pub enum Built {
     Mesh(Sizes),
     Refused(u64),
-}
-
-// Opens a case, walks its definitions and looks at its zones.
-pub fn survey(case: &[u8]) -> Surveyed
-    ensures { λ r. ⌜ SurveyExit (now (case .entry)) r ⌝ }
-{
-    match trailer::open(case) {
-        Opened::Refused(k) => Surveyed::Refused(k),
-        Opened::Case(n) => match walker::walk(walker::words(case, n), n.cells) {
-            Walked::Refused(k) => Surveyed::Refused(k),
-            Walked::Faces(f) => {
-                if !field::zones_within(case, n) {
-                    return Surveyed::Refused(45);
-                }
-                Surveyed::Case(n, f)
-            }
-        },
-    }
 }
 
 // Refusal 4: a work area of these lengths is too short for a case with so many faces.
@@ -163,7 +137,7 @@ pub fn from_cells(case: &[u8], words: &mut [u32], floats: &mut [f64]) -> Built
         (pointsIn (now (case .entry)) (countsOf (now (case .entry)) .points)) (now (words .exit)) (now (floats .exit))
         r ⌝ }
 {
-    match survey(case) {
+    match case_survey::survey(case) {
         Surveyed::Refused(k) => Built::Refused(k),
         Surveyed::Case(n, faces) => {
             if is_short(n, faces, words.len(), floats.len()) {

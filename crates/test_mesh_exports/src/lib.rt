@@ -3,7 +3,8 @@ use mesh::Built;
 ghost use lib.ListN.{length};
 ghost use Rattle.case_file.specs.Trailer.{countsOf};
 ghost use Rattle.mesh_area.specs.Layout.{pointsIn};
-ghost use Rattle.mesh.specs.Case.{surveyOf, caseFaces, meshFrom};
+ghost use Rattle.case_survey.specs.Survey.{surveyOf};
+ghost use Rattle.mesh.specs.Case.{caseFaces, meshFrom};
 ghost use Rattle.test_mesh_exports.specs.Exported.{FromCellsExit};
 
 // Builds the mesh of a case in the lent area and answers 0, or the refusal. The sizes are the

@@ -1,7 +1,7 @@
 -- `needs`: the number of the survey, and its needs. Assumes nothing.
 use native.Mathlib.Omega.{arith}
 use lib.ListN.{length-set}
-use Rattle.mesh.proofs.Laws.{survey-case, survey-refused}
+use Rattle.case_survey.proofs.Laws.{survey-case, survey-refused}
 use Rattle.job_needs.proofs.Laws.{refused-told, few, no-place, stored}
 use borrow.Author.Needs.{needs}
 use Rattle.job_needs.proofs.needs.Statement.{statement}

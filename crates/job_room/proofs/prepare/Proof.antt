@@ -1,7 +1,7 @@
 use mathlib.Core.Path.{refl}
 use native.Mathlib.Omega.{arith}
 use Rattle.case_file.proofs.TrailerLaws.{opens}
-use Rattle.mesh.proofs.Laws.{survey-refused, survey-case, faces-few}
+use Rattle.case_survey.proofs.Laws.{survey-refused, survey-case, faces-few}
 use Rattle.job_room.specs.Contracts.{barred}
 use Rattle.job_room.proofs.Laws.{prepared-shut}
 use Rattle.job_room.proofs.StepLaws.{prepare-short, prepare-ready, buildable}

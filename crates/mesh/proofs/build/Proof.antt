@@ -3,7 +3,8 @@ use native.Mathlib.Omega.{arith}
 use Rattle.case_file.specs.Trailer.{wordsFrom}
 use Rattle.case_file.proofs.TrailerLaws.{opens}
 use Rattle.case_definitions.proofs.Walking.{length-definitions}
-use Rattle.mesh.proofs.Laws.{from-refused, from-filled, faces-few, length-wordsOf, words-same, built-as, barred}
+use Rattle.case_survey.proofs.Laws.{faces-few, length-wordsOf, words-same}
+use Rattle.mesh.proofs.Laws.{from-refused, from-filled, built-as, barred}
 use borrow.Author.Needs.{needs}
 use Rattle.mesh.proofs.build.Statement.{statement}
 use Rattle.mesh.proofs.build.Tie as tie

@@ -1,6 +1,7 @@
 use mathlib.Core.Path.{sym, _∙_}
 use Rattle.case_file.proofs.TrailerLaws.{opens}
-use Rattle.mesh.proofs.Laws.{survey-case, survey-refused, faces-few, area-long, short-area, long-area, faces-all, mesh-shut, built-as, barred}
+use Rattle.case_survey.proofs.Laws.{survey-case, survey-refused, faces-few}
+use Rattle.mesh.proofs.Laws.{area-long, short-area, long-area, faces-all, mesh-shut, built-as, barred}
 use native.Mathlib.Omega.{arith}
 use borrow.Author.Needs.{needs}
 use Rattle.mesh.proofs.from_cells.Statement.{statement}

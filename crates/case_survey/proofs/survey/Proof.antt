@@ -3,13 +3,12 @@ use native.Mathlib.Omega.{arith}
 use Rattle.case_file.specs.Trailer.{wordsFrom}
 use Rattle.case_file.proofs.TrailerLaws.{opens}
 use Rattle.case_definitions.proofs.Walking.{walks}
-use Rattle.mesh.specs.Contracts.{surveyed, refusing}
-use Rattle.mesh.proofs.Laws.{survey-shut, survey-wrong, survey-zoned, walked-wrong, words-same}
-use native.Mathlib.Omega.{arith}
+use Rattle.case_survey.specs.Contracts.{surveyed, refusing}
+use Rattle.case_survey.proofs.Laws.{survey-shut, survey-wrong, survey-zoned, walked-wrong, words-same}
 use borrow.Author.Needs.{needs}
 use borrow.Author.Tests.{not-true, not-false}
-use Rattle.mesh.proofs.survey.Statement.{statement}
-use Rattle.mesh.proofs.survey.Tie as tie
+use Rattle.case_survey.proofs.survey.Statement.{statement}
+use Rattle.case_survey.proofs.survey.Tie as tie
 
 words-requires : tie.Need-words-requires
 unfolding wordsFrom
