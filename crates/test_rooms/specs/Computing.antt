@@ -12,6 +12,7 @@ use Rattle.arith.specs.Vec.{plus, minus, times, over, dot, normSquared, norm, c
 use Rattle.arith_angles.specs.Angle.{leftward, quarter, slope, angleOf, precedes, turnsBefore}
 use Rattle.arith_angles.specs.Sort.{angleAt, earlier, sortedPlaces, comparable}
 use Rattle.arith_angles.specs.Stable.{those, tie, InOrder}
+use Rattle.arith_bytes.specs.Stored.{leBytes, allBytes, stored}
 use Rattle.lines_millimetres.specs.Nearest.{Picked, numerator, denominator, halfOf, settled, whole, millimetres, under2^53, word64, sameNumber}
 use Rattle.reading.specs.After.{done, Named}
 use Rattle.reading.specs.Asks.{_>>=_}
@@ -97,7 +98,7 @@ use Rattle.lines.specs.Line.{sign, signedStep, zoneFound, homeOf, onward as onw
 use Rattle.lines.specs.Rake.{seedAt, seeds, linesWords, integrateRake}
 use Rattle.job_requests.specs.Bounds.{Allowed}
 use Rattle.job_requests.specs.Codes.{row, unknown, codes, codeOf, isUnknown}
-use Rattle.job_requests.specs.Encode.{bytesFrom, wordBytes, bytesOf}
+use Rattle.job_requests.specs.Encode.{bytesOf}
 use Rattle.job_requests.specs.Requests.{wordsAt, requestsIn, number, real, point, refuseIf, unusedSet, badDirection, illFormed, wrongDimension, direction, options, settings, streamline, rakeOf, rake, overField, planeOf, statistics as statistics-2, overPlane, planar, searchOf, plainCode, isPlanar, byCode, requestOf}
 use Rattle.job_room.specs.Contracts.{roomIn, countsIn, Servable, Shortage}
 use Rattle.job_room.specs.Room.{roomFrom, roomOf, requestsWrong, shortage, prepared}
@@ -108,5 +109,5 @@ use Rattle.job_promise.specs.Job.{jobOf, outcome, numberOf, outcomeOf}
 use Rattle.job_promise.specs.List.{isFlat, replyTo, serveAll}
 
 unfoldable pub computing : Unit {0}
-unfolding add sub mul div lt le eq ofBits toBits ofInt round toUnsigned isNan neg size odd unitsOf mag SquareRoot isqrt rounded root le32 le64 floatAt vecAt readAll finite abs signed fmin fmax clamp nearer within ceilℕ fold anyOf allOf countWhere firstFrom only flatten addNew insertBefore sort sidesWith windows sides same sorted crosses evenOdd tab upTo placeIn plus minus times over dot normSquared norm cross each3 leftward quarter slope angleOf precedes turnsBefore angleAt earlier sortedPlaces comparable those tie InOrder Picked numerator denominator halfOf settled whole millimetres under2^53 word64 sameNumber done Named _>>=_ _>>=_-2 refuse steps mapAll fitting answerWords headerOf answerOf lengthOf wordsOf decided replied vecWords pointWords valuesWords width nextWord isRepeated oneMore sheetPenAfter sheetWordsOf styledPen penAfter styledWords addedWords wordsAlong penAlong sheetPoint isSame listedAfter listed sheetPointWords sheetWords lineWords pointsIn meshWords meshFloats listAt vecFrom found faceIn cellIn facesIn cellsIn meshIn pointAt faceAt cellAt blank outside cellsOf zeroValues valuesIn valuesOf zoneIn zoneOf zonesOf isAtMost zonesWithin trailerWord editionOf dimensionOf countsOf wordsFrom fieldFrom pressuresFrom zonesFrom zoneBytes trailerFrom isDimension hasOffsets hasZones hasParts trailerRight overLimit opened openedCase wordsIn wordsOf-2 listed-2 listAt-2 skipped firstOf headOf cursorAt stepped stepAt walked walkedFaces readOf definitionAt faceAt-2 numbers counted faceLists made kinds definition definitions tetrahedron hexahedron prism pyramid ends picked facesOf faceCount addFaceCount facesCounted faceFrom nextFace tableOf placesOf surveyOf total insertNew rising insertBelow numbersIn addPoint average vectorOf faceOf turnedEdge addCross vectorIn areaVector enough longEnough faceAreaVector faceWith measured inward turnedIf orientedFace leftOrder noWeight addPart twiceArea addTriangle centre2D tetrahedronVolume addVolume addTetrahedron addTetrahedra tetrahedraOf addFace3D centre3D geometryIn cellGeometry cellOf last faceWordsOf faceWordsIn measuredOf measuredIn faceOf-2 tableIn headIn newFaceAt wordsAfter floatsAfter hasKey faceWithKey newFace withNeighbour joining settled-2 useFace numberedFace addFace otherCell beyond addFound addNeighbour neighboursOf linkedAt linked behind neighbourBehind misplaced acceptable acceptedAs someBelow everyBelow oneRound rounds connectedBy sidesAre joins share connected areNeighbours connectedCells countBelow bare faceVertex signWith noSigns addSign faceSigns signsOf mayMeet widest farthest epsOf tolerance cutOf height near below above finiteAxes notUnit notOrthogonal invalid originBeyond planeRefusal normalOf along reaches inBin poolIn passed between onLine onEdge position positionWord isWithin contains limitsFrom misses endWithin run isLevel crossingWithin sideWithin reach leftReach sideless widened spared narrowest unlimited limitsOf pairFrom pairsFrom sideFrom xyWithin binAlong binFor noPolygon cellPolygonAt isListed firstHolding nowhere zoneAt searching zoned staying countIn polygonIn binFrom cellPolygonIn cellPolygonsIn fieldIn isFound xyOf isSearched holds locateWhere locate positionIn withPosition located FoundWithin AtOrBelow indexAt indexAlong indexBin firstBin lastBin pointIn slicePoints sideAt crossingOf close rises parted between-2 addEnd addBetween addCrossing shared onPlane foreign addSide addFace-2 crossings pieceIn verticesOf arrangedAbout arrangedOf angleOn earlierOn addArea areaOf sectionCentre wide pieceAbout pieceOf piecesFrom intersect noIntegral weighing isValid addIntegral finiteIntegral noIntegrals integralWords integralsFrom integrals sumsOf integralOf sampleSumsOf summingOf weighingOf addProbed addTo written usedOf sizeOf project covers firstOver offPlane probe hasFiniteValues addVector vectorOf-2 measureOf scalarOf noSums including counted-2 summing addSample finiteSums empty fractionWords statisticsWords statisticsFrom statistics sampleWords accumulatedOf writtenAll stream before onward taken complete sample sectionWords probeWords sampled sectionOf statisticsOf integralsOf probeOf leftBy statisticsEnd integralsEnd ended lastWords missing facesAt weightOf wrongKind missing-2 referenceOf checked referenceCase measuredFrom addFaceOf addCell partialMesh read partialCellIn partialCellsIn geometryAt finished finishedAs areaShort meshOf caseFaces meshFrom builtAs sizesFor LaidOut partialMeshIn joined completed filled fromCells listedIn aspect binCounts areFlat areMany boundless widened-2 boundsOf polygonsIn verticesIn binWord listedSpan polygonsOf gridFor gridOf fieldOf builtGrid alike addVertex addVertices cellVertices about turnsAbout polygonOf tracerField tracerSearching tracerStaying verticesWithin locatedIn locateIn centreOf neighboursOf-2 distanceSquared nearerOf nearestOf blended apart besideIf beside besideNearest toward velocityIn velocityWhere velocityAt from unit directionAt weighed fourth third second rungeKutta hereIf rk4Step withinLength step sign signedStep zoneFound homeOf onward-2 lineFrom pointsAfter line isLength isSpeed areAccepted isNowhere nowhere-2 lineAnswer integrate seedAt seeds linesWords integrateRake Allowed row unknown codes codeOf isUnknown bytesFrom wordBytes bytesOf wordsAt requestsIn number real point refuseIf unusedSet badDirection illFormed wrongDimension direction options settings streamline rakeOf rake overField planeOf statistics-2 overPlane planar searchOf plainCode isPlanar byCode requestOf roomIn countsIn Servable Shortage roomFrom roomOf requestsWrong shortage prepared leftUnder cellWord locatedWords velocityWords serveFlat serveSolid serve answerTo jobOf outcome numberOf outcomeOf isFlat replyTo serveAll
+unfolding add sub mul div lt le eq ofBits toBits ofInt round toUnsigned isNan neg size odd unitsOf mag SquareRoot isqrt rounded root le32 le64 floatAt vecAt readAll finite abs signed fmin fmax clamp nearer within ceilℕ fold anyOf allOf countWhere firstFrom only flatten addNew insertBefore sort sidesWith windows sides same sorted crosses evenOdd tab upTo placeIn plus minus times over dot normSquared norm cross each3 leftward quarter slope angleOf precedes turnsBefore angleAt earlier sortedPlaces comparable those tie InOrder leBytes allBytes stored Picked numerator denominator halfOf settled whole millimetres under2^53 word64 sameNumber done Named _>>=_ _>>=_-2 refuse steps mapAll fitting answerWords headerOf answerOf lengthOf wordsOf decided replied vecWords pointWords valuesWords width nextWord isRepeated oneMore sheetPenAfter sheetWordsOf styledPen penAfter styledWords addedWords wordsAlong penAlong sheetPoint isSame listedAfter listed sheetPointWords sheetWords lineWords pointsIn meshWords meshFloats listAt vecFrom found faceIn cellIn facesIn cellsIn meshIn pointAt faceAt cellAt blank outside cellsOf zeroValues valuesIn valuesOf zoneIn zoneOf zonesOf isAtMost zonesWithin trailerWord editionOf dimensionOf countsOf wordsFrom fieldFrom pressuresFrom zonesFrom zoneBytes trailerFrom isDimension hasOffsets hasZones hasParts trailerRight overLimit opened openedCase wordsIn wordsOf-2 listed-2 listAt-2 skipped firstOf headOf cursorAt stepped stepAt walked walkedFaces readOf definitionAt faceAt-2 numbers counted faceLists made kinds definition definitions tetrahedron hexahedron prism pyramid ends picked facesOf faceCount addFaceCount facesCounted faceFrom nextFace tableOf placesOf surveyOf total insertNew rising insertBelow numbersIn addPoint average vectorOf faceOf turnedEdge addCross vectorIn areaVector enough longEnough faceAreaVector faceWith measured inward turnedIf orientedFace leftOrder noWeight addPart twiceArea addTriangle centre2D tetrahedronVolume addVolume addTetrahedron addTetrahedra tetrahedraOf addFace3D centre3D geometryIn cellGeometry cellOf last faceWordsOf faceWordsIn measuredOf measuredIn faceOf-2 tableIn headIn newFaceAt wordsAfter floatsAfter hasKey faceWithKey newFace withNeighbour joining settled-2 useFace numberedFace addFace otherCell beyond addFound addNeighbour neighboursOf linkedAt linked behind neighbourBehind misplaced acceptable acceptedAs someBelow everyBelow oneRound rounds connectedBy sidesAre joins share connected areNeighbours connectedCells countBelow bare faceVertex signWith noSigns addSign faceSigns signsOf mayMeet widest farthest epsOf tolerance cutOf height near below above finiteAxes notUnit notOrthogonal invalid originBeyond planeRefusal normalOf along reaches inBin poolIn passed between onLine onEdge position positionWord isWithin contains limitsFrom misses endWithin run isLevel crossingWithin sideWithin reach leftReach sideless widened spared narrowest unlimited limitsOf pairFrom pairsFrom sideFrom xyWithin binAlong binFor noPolygon cellPolygonAt isListed firstHolding nowhere zoneAt searching zoned staying countIn polygonIn binFrom cellPolygonIn cellPolygonsIn fieldIn isFound xyOf isSearched holds locateWhere locate positionIn withPosition located FoundWithin AtOrBelow indexAt indexAlong indexBin firstBin lastBin pointIn slicePoints sideAt crossingOf close rises parted between-2 addEnd addBetween addCrossing shared onPlane foreign addSide addFace-2 crossings pieceIn verticesOf arrangedAbout arrangedOf angleOn earlierOn addArea areaOf sectionCentre wide pieceAbout pieceOf piecesFrom intersect noIntegral weighing isValid addIntegral finiteIntegral noIntegrals integralWords integralsFrom integrals sumsOf integralOf sampleSumsOf summingOf weighingOf addProbed addTo written usedOf sizeOf project covers firstOver offPlane probe hasFiniteValues addVector vectorOf-2 measureOf scalarOf noSums including counted-2 summing addSample finiteSums empty fractionWords statisticsWords statisticsFrom statistics sampleWords accumulatedOf writtenAll stream before onward taken complete sample sectionWords probeWords sampled sectionOf statisticsOf integralsOf probeOf leftBy statisticsEnd integralsEnd ended lastWords missing facesAt weightOf wrongKind missing-2 referenceOf checked referenceCase measuredFrom addFaceOf addCell partialMesh read partialCellIn partialCellsIn geometryAt finished finishedAs areaShort meshOf caseFaces meshFrom builtAs sizesFor LaidOut partialMeshIn joined completed filled fromCells listedIn aspect binCounts areFlat areMany boundless widened-2 boundsOf polygonsIn verticesIn binWord listedSpan polygonsOf gridFor gridOf fieldOf builtGrid alike addVertex addVertices cellVertices about turnsAbout polygonOf tracerField tracerSearching tracerStaying verticesWithin locatedIn locateIn centreOf neighboursOf-2 distanceSquared nearerOf nearestOf blended apart besideIf beside besideNearest toward velocityIn velocityWhere velocityAt from unit directionAt weighed fourth third second rungeKutta hereIf rk4Step withinLength step sign signedStep zoneFound homeOf onward-2 lineFrom pointsAfter line isLength isSpeed areAccepted isNowhere nowhere-2 lineAnswer integrate seedAt seeds linesWords integrateRake Allowed row unknown codes codeOf isUnknown bytesOf wordsAt requestsIn number real point refuseIf unusedSet badDirection illFormed wrongDimension direction options settings streamline rakeOf rake overField planeOf statistics-2 overPlane planar searchOf plainCode isPlanar byCode requestOf roomIn countsIn Servable Shortage roomFrom roomOf requestsWrong shortage prepared leftUnder cellWord locatedWords velocityWords serveFlat serveSolid serve answerTo jobOf outcome numberOf outcomeOf isFlat replyTo serveAll
 computing = tt
