@@ -187,7 +187,7 @@ module _ (ws : List ℕ) (at : ℕ) where
   -- ---- polygon
 
   module _ (k : KindAt ws at 0) where
-    polygon-reads : definition (drop at ws) ≡ made polygon (counted 24 numbers (drop (at + 1) ws))
+    pub polygon-reads : definition (drop at ws) ≡ made polygon (counted 24 numbers (drop (at + 1) ws))
     unfolding kinds
     polygon-reads = kind-at 0 (k .there) (k .same)
 
@@ -207,7 +207,7 @@ module _ (ws : List ℕ) (at : ℕ) where
 -- ---- the faces of a polyhedron
 
 module _ (ws : List ℕ) where
-  skipped-more : (f : List ℕ) (r : Result (Taken (List (List ℕ)))) →
+  pub skipped-more : (f : List ℕ) (r : Result (Taken (List (List ℕ)))) →
       skipped ws (r >>= λ fs. fine (record { read = f ∷ fs .read; left = fs .left })) ≡ skipped ws r
   unfolding _>>=_ skipped
   skipped-more f (refused n) = refl
@@ -233,7 +233,7 @@ module _ (ws : List ℕ) where
         rw (z, e)
 
   -- what the answer tells
-  skipped-short : {A : Type 0} (t : Result (Taken A)) (r : ℕ) → Short r ≡ skipped ws t → t ≡ refused r
+  pub skipped-short : {A : Type 0} (t : Result (Taken A)) (r : ℕ) → Short r ≡ skipped ws t → t ≡ refused r
   unfolding skipped
   skipped-short (refused n) r e = let w : r ≡ n = cc in rw w
   skipped-short (fine t) r e = absurd (let z : _≡_ {A = ℕ} 0 1 = cc in omega arith)
@@ -293,7 +293,7 @@ faces-read ws (suc n) p w h e =
 -- ---- polyhedron
 
 module _ (ws : List ℕ) (at : ℕ) (k : KindAt ws at 5) where
-  polyhedron-reads : definition (drop at ws) ≡ made polyhedron (counted 24 faceLists (drop (at + 1) ws))
+  pub polyhedron-reads : definition (drop at ws) ≡ made polyhedron (counted 24 faceLists (drop (at + 1) ws))
   unfolding kinds
   polyhedron-reads = kind-at ws at 5 (k .there) (k .same)
 

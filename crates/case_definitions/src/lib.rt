@@ -35,7 +35,7 @@ enum Listed {
 }
 
 // The position after some faces of a polyhedron; or the refusal.
-enum Skipped {
+pub enum Skipped {
     To(usize),
     Short(u64),
 }
