@@ -1,0 +1,4 @@
+pub mod LayoutLaws
+pub mod RoundTrip
+pub mod RefusalLaws
+pub mod PromiseLaws

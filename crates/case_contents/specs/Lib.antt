@@ -1,0 +1,4 @@
+pub mod Contents
+pub mod Refusals
+pub mod Accepted
+pub mod Promise
