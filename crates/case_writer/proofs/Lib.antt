@@ -1,0 +1,3 @@
+pub mod CheckLaws
+pub mod PartLaws
+pub mod FileLaws
