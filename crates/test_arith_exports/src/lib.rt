@@ -1,5 +1,6 @@
 // The root, the leaves of arith and the millimetres for programs in other languages. Each function
-// calls one of those crates and promises the same definition.
+// calls one of those crates and promises the same definition. Beside them a plain copy of bytes.
+mod copy;
 mod directions;
 
 use arith::Vec2;
