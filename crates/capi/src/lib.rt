@@ -1,5 +1,7 @@
-// The job, each request alone and how much a case needs, for programs in other languages.
+// The job, each request alone, how much a case needs, and case files written and converted, for
+// programs in other languages.
 mod alone;
+mod files;
 
 use job_promise::number_of;
 ghost use mathlib.Core.Path.{_≡_};

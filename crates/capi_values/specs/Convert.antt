@@ -1,9 +1,11 @@
 -- The values of the exported functions as those of the crates below.
 -- `vectorOf`, `planeOf`: a vector, a plane. `directionOf`, `optionsOf`, `settingsOf`: the settings of a line. `rakeOf`: a rake.
--- `searchOf`: which cells a point is looked for in.
+-- `searchOf`: which cells a point is looked for in. `countsFrom`, `fileTold`: the counts of a case file, and what is told of one that was written.
 use Prim.Native.Nat.{ℕ}
 use mathlib.Core.Bool.{Bool, true, false}
 use Rattle.arith.specs.declared.Vec3.{Vec3}
+use Rattle.reading.specs.Result.{Result, refused, fine}
+use Rattle.case_file.specs.declared.Counts.{Counts}
 use Rattle.lines_step.specs.declared.StreamlineOptions.{StreamlineOptions}
 use Rattle.lines.specs.declared.StreamlineDirection.{StreamlineDirection}
 use Rattle.lines.specs.declared.StreamlineDirection.the-variants.{Forward, Backward}
@@ -15,6 +17,8 @@ use Rattle.planes_cut.specs.declared.Plane.{Plane}
 use Rattle.capi_values.specs.declared.Vector.{Vector}
 use Rattle.capi_values.specs.declared.SectionPlane.{SectionPlane}
 use Rattle.capi_values.specs.declared.LineOptions.{LineOptions}
+use Rattle.capi_values.specs.declared.CaseCounts.{CaseCounts}
+use Rattle.capi_values.specs.declared.WrittenFile.{WrittenFile}
 
 -- a vector
 unfoldable pub vectorOf : Vector → Vec3
@@ -51,3 +55,12 @@ rakeOf start end count = record { start = vectorOf start; end = vectorOf end; co
 unfoldable pub searchOf : Bool → Search
 searchOf true = All
 searchOf false = Bins
+
+-- the counts of a case file
+unfoldable pub countsFrom : CaseCounts → Counts
+countsFrom n = record { dimension = n .dimension; points = n .points; words = n .words; cells = n .cells; edition = n .edition }
+
+-- 0 and the file's length, or the refusal and 0
+unfoldable pub fileTold : Result ℕ → WrittenFile
+fileTold (fine n) = record { refusal = 0; length = n }
+fileTold (refused k) = record { refusal = k; length = 0 }

@@ -1,8 +1,12 @@
 // The values of this crate as those of the crates below.
+use crate::CaseCounts;
 use crate::LineOptions;
 use crate::SectionPlane;
 use crate::Vector;
+use crate::WrittenFile;
 use arith::Vec3;
+use case_file::Counts;
+use case_writer::Written;
 use lines::Rake;
 use lines::StreamlineDirection;
 use lines::StreamlineSettings;
@@ -10,7 +14,8 @@ use lines_locate::Search;
 use lines_step::StreamlineOptions;
 use planes_cut::Plane;
 ghost use mathlib.Core.Path.{_≡_};
-ghost use Rattle.capi_values.specs.Convert.{vectorOf, planeOf, directionOf, optionsOf, settingsOf, rakeOf, searchOf};
+ghost use Rattle.capi_values.specs.Convert.{vectorOf, planeOf, directionOf, optionsOf, settingsOf, rakeOf, searchOf, countsFrom, fileTold};
+ghost use Rattle.case_writer.specs.Contracts.{lengthOf};
 
 pub fn vector(p: Vector) -> Vec3
     ensures { λ r. ⌜ r ≡ vectorOf p ⌝ }
@@ -76,4 +81,31 @@ pub fn search(all_cells: bool) -> Search
     ensures { λ r. ⌜ r ≡ searchOf «all_cells» ⌝ }
 {
     if all_cells { Search::All } else { Search::Bins }
+}
+
+pub fn counts(n: CaseCounts) -> Counts
+    ensures { λ r. ⌜ r ≡ countsFrom n ⌝ }
+{
+    Counts {
+        dimension: n.dimension,
+        points: n.points,
+        words: n.words,
+        cells: n.cells,
+        edition: n.edition,
+    }
+}
+
+pub fn file(w: Written) -> WrittenFile
+    ensures { λ r. ⌜ r ≡ fileTold (lengthOf w) ⌝ }
+{
+    match w {
+        Written::Length(n) => WrittenFile {
+            refusal: 0,
+            length: n,
+        },
+        Written::Refused(k) => WrittenFile {
+            refusal: k,
+            length: 0,
+        },
+    }
 }

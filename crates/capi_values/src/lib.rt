@@ -1,4 +1,4 @@
-// The values that the exported functions take.
+// The values that the exported functions take and give.
 pub mod convert;
 
 // A point or a vector.
@@ -26,4 +26,21 @@ pub struct LineOptions {
     pub max_length: f64,
     pub stagnation_speed: f64,
     pub all_cells: bool,
+}
+
+// What a case file says of itself.
+#[repr(C)]
+pub struct CaseCounts {
+    pub edition: usize,
+    pub dimension: usize,
+    pub points: usize,
+    pub words: usize,
+    pub cells: usize,
+}
+
+// 0 and a file's length; or the refusal and 0.
+#[repr(C)]
+pub struct WrittenFile {
+    pub refusal: u64,
+    pub length: usize,
 }
