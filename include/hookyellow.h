@@ -1,4 +1,5 @@
-/* Hookyellow: lines and plane sections of the air flow in a room, and the cells that each was made from.
+/* Hookyellow: lines and plane sections of the air flow in a room, and the cells that each was made
+ * from; a writer of case files and a converter between their editions.
  *
  * `rt staticlib capi` writes target/staticlib/libcapi.a. docs/FORMAT.md has the case, request and answer formats. A case is of
  * edition 1, or of edition 2, which has a zone for each cell: in it a line ends before its first point in another zone than its
@@ -8,7 +9,8 @@
  * - Where the length is 0 nothing is read or written there, and the pointer may be NULL.
  * - Else it points to so many elements and is aligned for one: uint8_t at any address, uint32_t at a multiple of 4, double,
  *   uint64_t and size_t at a multiple of 8.
- * - What is written (words, floats, marks, answers, needs) overlaps nothing else that is given; case and requests may overlap.
+ * - What is written (the words and floats of a work area, marks, answers, needs, out) overlaps
+ *   nothing else that is given; what is only read, behind a pointer to const, may overlap.
  * No function keeps a pointer, allocates, waits or holds anything between two calls: calls in several threads do not meet as
  * long as what they write is each thread's own. No call takes more than HOOKYELLOW_STACK bytes of stack, however large the
  * case (docs/PERFORMANCE.md, "Stack"). */
@@ -45,6 +47,17 @@ typedef struct hookyellow_line_options {
     double stagnation_speed;
     bool all_cells;
 } hookyellow_line_options;
+
+/* What a case file says of itself: its edition (1 or 2), its dimension (2 or 3) and its counts. */
+typedef struct hookyellow_counts {
+    size_t edition, dimension, points, words, cells;
+} hookyellow_counts;
+
+/* refusal 0 and the file's length; or the refusal, with length 0. */
+typedef struct hookyellow_written {
+    uint64_t refusal;
+    size_t length;
+} hookyellow_written;
 
 /* The least lengths of the buffers of a job on a case: needs[0] words, needs[1] floats and needs[2] marks.
  *
@@ -146,6 +159,41 @@ uint64_t hookyellow_sheet(const uint8_t *case_bytes, size_t case_length,
                           double *floats, size_t floats_length,
                           uint8_t *marks, size_t marks_length,
                           uint64_t *answers, size_t answers_length);
+
+/* Writes a case file to the front of out, from what it says of itself and its parts. A float is given
+ * by its 64 bits, so that every NaN comes back by them. points has 3 for each point, velocities 3 and
+ * pressures 1 for each cell; words are the definition words, one record for each cell; zones has 1
+ * for each cell in either edition, in edition 1 all 0.
+ *
+ * Answers 0 and the length in bytes, 24P+4W+32C+32, in edition 2 24P+4W+36C+36; bytes of out after
+ * the file are as they were. Or, with all of out as it was, the first of these that is due:
+ *    1  an edition not 1 or 2, a dimension not 2 or 3, or a part not as long as its count says
+ *    2  more than 65,536 points, 16,384 cells or 1,048,576 words
+ *    3  words that are not exactly as many records as cells
+ *   45  a zone above 255, in either edition
+ *   46  edition 1 with a zone that is not 0
+ *   47  out is shorter than the file
+ * The mesh is not looked at: a case that a job refuses with 8 to 19 can be written, one without cells
+ * too. */
+hookyellow_written hookyellow_write_case(hookyellow_counts counts,
+                                         const uint64_t *points, size_t points_length,
+                                         const uint32_t *words, size_t words_length,
+                                         const uint64_t *velocities, size_t velocities_length,
+                                         const uint64_t *pressures, size_t pressures_length,
+                                         const uint32_t *zones, size_t zones_length,
+                                         uint8_t *out, size_t out_length);
+
+/* Writes a case file of the other edition as one of this edition to the front of out: to edition 2
+ * with zones 0, to edition 1 without its zones; all else is kept.
+ *
+ * Answers 0 and the length in bytes, as hookyellow_write_case does; bytes of out after the file are as
+ * they were. Or, with all of out as it was, the first of these that is due:
+ *    1  an edition not 1 or 2, a file of that edition already, or what a job refuses with 1
+ *    2, 3, 45  as of a job
+ *   46  to edition 1 with a zone that is not 0
+ *   47  out is shorter than the file that is to be written */
+hookyellow_written hookyellow_convert(const uint8_t *case_bytes, size_t case_length, size_t edition,
+                                      uint8_t *out, size_t out_length);
 
 #ifdef __cplusplus
 }

@@ -7,7 +7,9 @@
  * 01's 0.5 line in millimetres (docs/FORMAT.md). Among all cells the points of the right square are
  * found too: it is the lowest cell whose polygon contains them (docs/02-change-requests.md, Q-2).
  * Behind the cell stands whether the point is on an edge of it or inside (Q-3). With a zone for each
- * square a line ends at the border of its seed's zone (Q-5). Ends with 1 where a check fails. */
+ * square a line ends at the border of its seed's zone (Q-5). The bytes that are run are those that
+ * the writer makes, and the converter takes them from edition to edition (Q-6). Ends with 1 where a
+ * check fails. */
 #include "hookyellow.h"
 #include <stdio.h>
 #include <string.h>
@@ -17,8 +19,10 @@
 #define INSIDE 2
 #define CASE case_bytes, case_length
 #define BUFFERS words, 320, floats, 224, marks, 3, answers, 24
+#define OUT 400
+#define FILL 0xa5
 
-static uint8_t case_bytes[1024], requests[3 * 128];
+static uint8_t case_bytes[1024], requests[3 * 128], out[OUT];
 static size_t case_length, requests_length;
 static uint32_t words[320];
 static double floats[224];
@@ -67,11 +71,12 @@ static void build(uint32_t dimension, const double *points, uint32_t p, const ui
 
 /* "Pair: points (0,0) (1,0) (2,0) (0,1) (1,1) (2,1), heights 0; polygons 0 1 4 3 and 1 2 5 4; velocities (1,0,0), (3,0,0),
  * pressures 0." */
+static const double pair_points[18] = {0, 0, 0, 1, 0, 0, 2, 0, 0, 0, 1, 0, 1, 1, 0, 2, 1, 0};
+static const uint32_t pair_polygons[12] = {0, 4, 0, 1, 4, 3, 0, 4, 1, 2, 5, 4};
+static const double pair_velocities[6] = {1, 0, 0, 3, 0, 0}, pair_pressures[2] = {0, 0};
+
 static void build_pair(const uint32_t *zones) {
-    const double points[18] = {0, 0, 0, 1, 0, 0, 2, 0, 0, 0, 1, 0, 1, 1, 0, 2, 1, 0};
-    const uint32_t polygons[12] = {0, 4, 0, 1, 4, 3, 0, 4, 1, 2, 5, 4};
-    const double velocities[6] = {1, 0, 0, 3, 0, 0}, pressures[2] = {0, 0};
-    build(2, points, 6, polygons, 12, velocities, pressures, zones, 2);
+    build(2, pair_points, 6, pair_polygons, 12, pair_velocities, pair_pressures, zones, 2);
 }
 
 /* "Unit cube, velocity (0,0,2), pressure 3" */
@@ -215,6 +220,52 @@ static void check_zones(void) {
     check(hookyellow_needs(CASE, needs, 3) == 45 && needs[0] == 9, "the needs of a zone above 255");
 }
 
+/* Pair by the writer into so many bytes of out, which is filled before */
+static hookyellow_written write_pair(size_t edition, const uint32_t *zones, size_t room) {
+    const hookyellow_counts counts = {edition, 2, 6, 12, 2};
+    uint64_t points[18], velocities[6], pressures[2];
+    for (int i = 0; i < 18; i++) points[i] = bits(pair_points[i]);
+    for (int i = 0; i < 6; i++) velocities[i] = bits(pair_velocities[i]);
+    for (int i = 0; i < 2; i++) pressures[i] = bits(pair_pressures[i]);
+    memset(out, FILL, OUT);
+    return hookyellow_write_case(counts, points, 18, pair_polygons, 12, velocities, 6, pressures, 2, zones, 2, out, room);
+}
+
+/* The case by the converter in the same way */
+static hookyellow_written convert(size_t edition, size_t room) {
+    memset(out, FILL, OUT);
+    return hookyellow_convert(CASE, edition, out, room);
+}
+
+/* out holds the case and "output bytes after the file keep theirs"; or "a refusal changes nothing in
+ * the output buffer" */
+static int gives(hookyellow_written written, uint64_t refusal) {
+    size_t length = refusal ? 0 : case_length;
+    for (size_t i = length; i < OUT; i++)
+        if (out[i] != FILL) return 0;
+    return written.refusal == refusal && written.length == length && memcmp(out, case_bytes, length) == 0;
+}
+
+/* Pair written in both editions, taken to edition 2 and back, and refusals 1, 45, 46 and 47 */
+static void check_writing(void) {
+    const uint32_t none[2] = {0, 0}, two[2] = {0, 1}, above[2] = {1, 256};
+    hookyellow_written written;
+    build_pair(two);
+    check(gives(write_pair(2, two, OUT), 0) && gives(write_pair(2, two, 300), 0), "Pair with zones by the writer");
+    check(gives(write_pair(1, two, 0), 46) && gives(convert(1, 0), 46), "46 before 47");
+    check(gives(write_pair(1, above, OUT), 45) && gives(write_pair(2, above, OUT), 45), "a zone above 255: 45");
+    build_pair(NULL);
+    check(gives(write_pair(1, none, OUT), 0) && gives(write_pair(1, none, 288), 0), "Pair by the writer");
+    check(gives(write_pair(1, none, 287), 47) && gives(convert(2, 299), 47), "one byte too few: 47");
+    check(gives(write_pair(3, none, OUT), 1) && gives(convert(1, OUT), 1), "no such edition, and edition 1 already: 1");
+    written = convert(2, OUT);
+    build_pair(none);
+    check(gives(written, 0), "Pair taken to edition 2");
+    written = convert(1, OUT);
+    build_pair(NULL);
+    check(gives(written, 0), "Pair taken back to edition 1");
+}
+
 /* "plane z = 0.5, u along X, v along Y: area 1, flux 2" */
 static void check_cube(void) {
     const hookyellow_plane plane = {{0, 0, 0.5}, {1, 0, 0}, {0, 1, 0}};
@@ -231,6 +282,7 @@ int main(void) {
     check_all_cells();
     check_limits();
     check_zones();
+    check_writing();
     build_cube();
     check_cube();
     printf("pair: %d checks, %d failed\n", checks, failed);
