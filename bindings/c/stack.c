@@ -1,5 +1,6 @@
-/* How much stack a job takes: jobs of every code on meshes of up to 16,384 cells, each in a thread whose stack was painted
- * before. Prints the deepest place that was written, and ends with 1 where it is beyond what include/hookyellow.h says.
+/* How much stack a call takes: jobs of every code on meshes of up to 16,384 cells, and their files
+ * written and converted, each in a thread whose stack was painted before. Prints the deepest place
+ * that was written, and ends with 1 where it is beyond what include/hookyellow.h says.
  *
  *     rt staticlib capi
  *     cc -std=c11 -O2 -Wall -Wextra -Werror -I include bindings/c/stack.c target/staticlib/libcapi.a -lpthread -o stack && ./stack
@@ -12,7 +13,7 @@
 #include <string.h>
 #include <sys/mman.h>
 
-enum { STACK = 1 << 20, PAINT = 0xa5, MOST = 1 << 22, ANSWERS = 1 << 20 };
+enum { STACK = 1 << 20, PAINT = 0xa5, MOST = 1 << 22, ANSWERS = 1 << 20, BYTES = 8 << 20 };
 
 typedef struct task {
     uint8_t *bytes;
@@ -23,6 +24,8 @@ typedef struct task {
     uint8_t *marks;
     uint64_t *answers;
     uint64_t result;
+    uint32_t edition, dimension, points, definitions, cells;
+    uint8_t *out;
 } task;
 
 static void put(uint8_t *bytes, size_t *at, uint64_t number, int width) {
@@ -40,6 +43,7 @@ static uint64_t bits(double x) {
 static void build(task *t, int dimension, uint32_t n, uint32_t edition) {
     uint32_t layers = dimension == 3 ? n : 0, row = n + 1, p = row * row * (layers + 1);
     uint32_t c = dimension == 3 ? n * n * n : n * n, w = c * (dimension == 3 ? 9 : 6);
+    t->edition = edition, t->dimension = (uint32_t)dimension, t->points = p, t->definitions = w, t->cells = c;
     t->length = 0;
     for (uint32_t i = 0; i < p; i++) {
         put(t->bytes, &t->length, bits(i % row), 8);
@@ -92,6 +96,28 @@ static void *run(void *data) {
     return NULL;
 }
 
+/* The file to the other edition. Edition 2 has zones that are not 0, which are refused after all else
+ * was read. */
+static void *take_over(void *data) {
+    task *t = (task *)data;
+    hookyellow_written written = hookyellow_convert(t->bytes, t->length, 3 - t->edition, t->out, BYTES);
+    t->result = written.refusal != (t->edition == 1 ? 0 : 46);
+    return NULL;
+}
+
+/* A file of as many points and cells, with any values */
+static void *write_file(void *data) {
+    static const uint32_t zones[16384];
+    task *t = (task *)data;
+    size_t p = t->points, w = t->definitions, c = t->cells;
+    hookyellow_counts counts = {t->edition, t->dimension, p, w, c};
+    hookyellow_written written =
+        hookyellow_write_case(counts, t->answers, 3 * p, (const uint32_t *)(t->bytes + 24 * p), w, t->answers, 3 * c,
+                              t->answers, c, zones, c, t->out, BYTES);
+    t->result = written.refusal;
+    return NULL;
+}
+
 static void *nothing(void *data) {
     return data;
 }
@@ -111,10 +137,21 @@ static size_t used(void *(*work)(void *), task *t) {
     return STACK - low;
 }
 
+/* A case's file taken to the other edition, and written */
+static size_t files(task *t, size_t thread) {
+    size_t converted = used(take_over, t) - thread;
+    if (t->result) exit(2);
+    size_t written = used(write_file, t) - thread;
+    if (t->result) exit(2);
+    printf("%dD, edition %d, %6d cells: converter %zu bytes, writer %zu bytes\n", (int)t->dimension, (int)t->edition,
+           (int)t->cells, converted, written);
+    return converted > written ? converted : written;
+}
+
 int main(void) {
-    task t = {.bytes = malloc(8 << 20), .words = calloc(MOST, 4), .floats = calloc(MOST, 8), .marks = calloc(16384, 1),
-              .answers = calloc(ANSWERS, 8)};
-    if (!t.bytes || !t.words || !t.floats || !t.marks || !t.answers) return 2;
+    task t = {.bytes = malloc(BYTES), .words = calloc(MOST, 4), .floats = calloc(MOST, 8), .marks = calloc(16384, 1),
+              .answers = calloc(ANSWERS, 8), .out = malloc(BYTES)};
+    if (!t.bytes || !t.words || !t.floats || !t.marks || !t.answers || !t.out) return 2;
     size_t most = 0, thread = used(nothing, &t);
     for (uint64_t code = 1; code <= 14; code++) {
         int flat = code < 5 || code > 8;
@@ -127,6 +164,8 @@ int main(void) {
                 printf("code %d, edition %d, %6d cells, %7d answer words: %zu bytes\n", (int)code, (int)edition,
                        (int)(flat ? n * n : n * n * n), (int)t.answers[1], deep);
                 if (t.result || t.answers[0]) return 2;
+                most = deep > most ? deep : most;
+                deep = code == 1 || code == 5 ? files(&t, thread) : 0;
                 most = deep > most ? deep : most;
             }
         }
