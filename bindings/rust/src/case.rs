@@ -1,5 +1,5 @@
-//! The bytes of a case, and their writer.
-use crate::Vector;
+//! The bytes of a case, and a case from a mesh in memory.
+use crate::{convert, write_case, CaseParts, Counts, Refusal, Vector};
 use std::fmt;
 
 /// The bytes of a case: a mesh with a velocity and a pressure in each cell, and in edition 2 a zone
@@ -30,6 +30,28 @@ impl Case {
     /// The bytes, given back.
     pub fn into_bytes(self) -> Vec<u8> {
         self.bytes
+    }
+
+    /// The case in the other edition, which is given: in edition 2 with zones 0; in edition 1
+    /// without its zones, which have to be 0 (else 46). All else is kept, floats by their bits. 1
+    /// for a case of that edition already, and 1, 2, 3 or 45 for bytes that a job refuses with
+    /// these.
+    ///
+    /// ```
+    /// use hookyellow::{Case, Dimension, Refusal};
+    /// let case = Case::builder(Dimension::Two).points([[0.5, 1.0, f64::NAN]]).build()?;
+    /// let second = case.in_edition(2)?;
+    /// assert_eq!(second.as_bytes().len(), case.as_bytes().len() + 4);
+    /// assert_eq!(second.in_edition(1).as_ref(), Ok(&case));
+    /// assert_eq!(case.in_edition(1), Err(Refusal::Trailer));
+    /// # Ok::<(), Box<dyn std::error::Error>>(())
+    /// ```
+    pub fn in_edition(&self, edition: usize) -> Result<Self, Refusal> {
+        // in edition 2 a cell has 4 bytes more, and in edition 1 it has 32 at least
+        let mut bytes = vec![0; self.bytes.len() + self.bytes.len() / 8 + 4];
+        let length = convert(&self.bytes, edition, &mut bytes)?;
+        bytes.truncate(length);
+        Ok(Self { bytes })
     }
 }
 
@@ -68,18 +90,19 @@ pub enum BuildError {
     Pressures,
     /// Zones, and not one for each cell.
     Zones,
-    /// A count or an offset does not fit in the 32 bits that the format has for it.
-    TooLarge,
+    /// What a job would refuse too: more points, cells or words than the format's limits (2), a
+    /// count of a cell over its limit (3), a zone above 255 (45).
+    Refused(Refusal),
 }
 
 impl fmt::Display for BuildError {
     fn fmt(&self, f: &mut fmt::Formatter<'_>) -> fmt::Result {
-        f.write_str(match self {
-            Self::Velocities => "the case has not one velocity for each cell",
-            Self::Pressures => "the case has not one pressure for each cell",
-            Self::Zones => "the case has zones, and not one for each cell",
-            Self::TooLarge => "a count or an offset of the case does not fit in 32 bits",
-        })
+        match self {
+            Self::Velocities => f.write_str("the case has not one velocity for each cell"),
+            Self::Pressures => f.write_str("the case has not one pressure for each cell"),
+            Self::Zones => f.write_str("the case has zones, and not one for each cell"),
+            Self::Refused(refusal) => refusal.fmt(f),
+        }
     }
 }
 
@@ -87,7 +110,8 @@ impl std::error::Error for BuildError {}
 
 /// Writes a case from points, cells and values in memory: of edition 1, or with [`zones`](Self::zones) of edition 2.
 ///
-/// It refuses only what the format cannot hold. Whether the mesh is sound is for the job to say, and so are the format's limits.
+/// The bytes are those of [`write_case`](crate::write_case), by the proved code; what it refuses is
+/// not built. Whether the mesh is sound is for the job to say.
 ///
 /// ```
 /// use hookyellow::{Case, Cell, Dimension, Vector};
@@ -153,43 +177,45 @@ impl CaseBuilder {
 
     /// Writes the case.
     pub fn build(self) -> Result<Case, BuildError> {
-        if self.velocities.len() != self.cells.len() {
+        let cells = self.cells.len();
+        if self.velocities.len() != cells {
             return Err(BuildError::Velocities);
         }
-        if self.pressures.len() != self.cells.len() {
+        if self.pressures.len() != cells {
             return Err(BuildError::Pressures);
         }
-        if self.zones.as_ref().is_some_and(|zones| zones.len() != self.cells.len()) {
+        if self.zones.as_ref().is_some_and(|zones| zones.len() != cells) {
             return Err(BuildError::Zones);
         }
-        let words = definition_words(&self.cells)?;
-        let mut trailer = trailer(self.dimension, self.points.len(), words.len(), self.cells.len())?;
-        let mut bytes = Vec::new();
-        put_vectors(&mut bytes, &self.points);
-        put_words(&mut bytes, &words);
-        put_vectors(&mut bytes, &self.velocities);
-        bytes.extend(self.pressures.iter().flat_map(|pressure| pressure.to_bits().to_le_bytes()));
-        if let Some(zones) = &self.zones {
-            let offset = u32::try_from(bytes.len()).map_err(|_| BuildError::TooLarge)?;
-            put_words(&mut bytes, zones);
-            put_words(&mut bytes, &[offset]);
-            trailer[0] += SECOND_EDITION;
-        }
-        put_words(&mut bytes, &trailer);
+        let (edition, zones) = self.zones.map_or_else(|| (1, vec![0; cells]), |zones| (2, zones));
+        let words = definition_words(&self.cells);
+        let (dimension, points) = (self.dimension as usize, self.points.len());
+        let parts = CaseParts {
+            counts: Counts { edition, dimension, points, words: words.len(), cells },
+            points: &bits(&self.points),
+            words: &words,
+            velocities: &bits(&self.velocities),
+            pressures: &self.pressures.iter().map(|pressure| pressure.to_bits()).collect::<Vec<_>>(),
+            zones: &zones,
+        };
+        let mut bytes = vec![0; parts.counts.file_length()];
+        let length = write_case(&parts, &mut bytes).map_err(BuildError::Refused)?;
+        bytes.truncate(length);
         Ok(Case { bytes })
     }
 }
 
-/// What the dimension word of edition 2 has more than the dimension.
-const SECOND_EDITION: u32 = 100;
+fn bits(vectors: &[Vector]) -> Vec<u64> {
+    vectors.iter().flat_map(|vector| vector.to_bits()).collect()
+}
 
 /// One record for each cell.
-fn definition_words(cells: &[Cell]) -> Result<Vec<u32>, BuildError> {
+fn definition_words(cells: &[Cell]) -> Vec<u32> {
     let mut words = Vec::new();
     for cell in cells {
         match cell {
             Cell::Polygon(points) => {
-                words.extend([0, count(points)?]);
+                words.extend([0, count(points)]);
                 words.extend(points);
             }
             Cell::Tetrahedron(points) => solid(&mut words, 1, points),
@@ -197,15 +223,15 @@ fn definition_words(cells: &[Cell]) -> Result<Vec<u32>, BuildError> {
             Cell::Prism(points) => solid(&mut words, 3, points),
             Cell::Pyramid(points) => solid(&mut words, 4, points),
             Cell::Polyhedron(faces) => {
-                words.extend([5, count(faces)?]);
+                words.extend([5, count(faces)]);
                 for face in faces {
-                    words.push(count(face)?);
+                    words.push(count(face));
                     words.extend(face);
                 }
             }
         }
     }
-    Ok(words)
+    words
 }
 
 fn solid(words: &mut Vec<u32>, kind: u32, points: &[u32]) {
@@ -213,36 +239,7 @@ fn solid(words: &mut Vec<u32>, kind: u32, points: &[u32]) {
     words.extend(points);
 }
 
-fn count<T>(list: &[T]) -> Result<u32, BuildError> {
-    u32::try_from(list.len()).map_err(|_| BuildError::TooLarge)
-}
-
-/// The dimension, the counts, and where the four parts start.
-fn trailer(dimension: Dimension, points: usize, words: usize, cells: usize) -> Result<[u32; 8], BuildError> {
-    let fits = |n: u128| u32::try_from(n).map_err(|_| BuildError::TooLarge);
-    let (p, w, c) = (points as u128, words as u128, cells as u128);
-    Ok([dimension as u32, fits(p)?, fits(w)?, fits(c)?, 0, fits(24 * p)?, fits(24 * p + 4 * w)?, fits(24 * p + 4 * w + 24 * c)?])
-}
-
-fn put_vectors(bytes: &mut Vec<u8>, vectors: &[Vector]) {
-    bytes.extend(vectors.iter().flat_map(|v| v.to_bits()).flat_map(u64::to_le_bytes));
-}
-
-fn put_words(bytes: &mut Vec<u8>, words: &[u32]) {
-    bytes.extend(words.iter().flat_map(|word| word.to_le_bytes()));
-}
-
-#[cfg(test)]
-mod tests {
-    use super::*;
-
-    /// 24 times 178,956,970 points is 2^32 - 16, and one point more does not fit.
-    #[test]
-    fn offsets_fit_in_32_bits() {
-        let most = trailer(Dimension::Three, 178_956_970, 0, 0);
-        assert_eq!(most, Ok([3, 178_956_970, 0, 0, 0, 4_294_967_280, 4_294_967_280, 4_294_967_280]));
-        for (p, w, c) in [(178_956_971, 0, 0), (178_956_970, 4, 0), (178_956_970, 0, 1), (0, usize::MAX, 0)] {
-            assert_eq!(trailer(Dimension::Three, p, w, c), Err(BuildError::TooLarge), "{p} {w} {c}");
-        }
-    }
+/// A list beyond 32 bits has more words than the format's limit, whatever number stands before it.
+fn count<T>(list: &[T]) -> u32 {
+    u32::try_from(list.len()).unwrap_or(u32::MAX)
 }

@@ -86,10 +86,15 @@
 //! # Ok::<(), Box<dyn std::error::Error>>(())
 //! ```
 //!
+//! A program that has the parts of a case file at hand writes it with [`write_case`], and
+//! [`Case::in_edition`] takes a case from one edition to the other. A builder's bytes are the
+//! writer's: no other code of this crate lays out a file.
+//!
 //! The formats are those of docs/FORMAT.md; docs/01-scope.md says what each answer is, and
-//! docs/02-change-requests.md what a sheet is, what `all_cells` asks for, when a point is on an edge
-//! and what zones are for. The work is done by the proved code in the static library that `rt staticlib capi` writes;
-//! [`raw`] has its functions as they are.
+//! docs/02-change-requests.md what a sheet is, what `all_cells` asks for, when a point is on an
+//! edge, what zones are for and what the writer and the converter refuse. The work is done by the
+//! proved code in the static library that `rt staticlib capi` writes; [`raw`] has its functions as
+//! they are.
 #![warn(missing_docs)]
 
 #[macro_use]
@@ -102,6 +107,7 @@ mod refusal;
 mod request;
 mod run;
 mod workspace;
+mod write;
 
 pub use answer::{Answer, FluxWeighted, Integrals, Located, Position, Sample, SectionPolygon, Sheet, Statistics, Streamline};
 pub use case::{BuildError, Case, CaseBuilder, Cell, Dimension};
@@ -110,3 +116,4 @@ pub use refusal::{Refusal, RequestRefusal};
 pub use request::{Direction, Field, LineOptions, Request};
 pub use run::{integrals, job, locate, probe, rake, section, sheet, statistics, streamline, velocity, Outcome, Single};
 pub use workspace::{needs, Needs, Workspace};
+pub use write::{convert, write_case, CaseParts, Counts};

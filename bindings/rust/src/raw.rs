@@ -2,6 +2,17 @@
 
 pub use crate::geometry::{SectionPlane, Vector};
 pub use crate::request::LineOptions;
+pub use crate::write::Counts;
+
+/// What the writer and the converter give.
+#[repr(C)]
+#[derive(Clone, Copy, Debug, PartialEq, Eq)]
+pub struct Written {
+    /// 0, or the refusal.
+    pub refusal: u64,
+    /// The length of the file that was written, 0 under a refusal.
+    pub length: usize,
+}
 
 extern "C" {
     /// Stores the least lengths of the words, the floats and the marks of a job on a case; 0. Or the refusal of the case (1, 2, 3
@@ -163,4 +174,24 @@ extern "C" {
         answers: *mut u64,
         answers_length: usize,
     ) -> u64;
+    /// Writes a case file from its counts and parts, floats by their bits, to the front of `out`,
+    /// which may overlap nothing else.
+    pub fn hookyellow_write_case(
+        counts: Counts,
+        points: *const u64,
+        points_length: usize,
+        words: *const u32,
+        words_length: usize,
+        velocities: *const u64,
+        velocities_length: usize,
+        pressures: *const u64,
+        pressures_length: usize,
+        zones: *const u32,
+        zones_length: usize,
+        out: *mut u8,
+        out_length: usize,
+    ) -> Written;
+    /// Writes a case file as one of the other edition, which is given, to the front of `out`, which
+    /// may not overlap it.
+    pub fn hookyellow_convert(case: *const u8, case_length: usize, edition: usize, out: *mut u8, out_length: usize) -> Written;
 }

@@ -52,9 +52,10 @@ macro_rules! refusals {
 }
 
 refusals! {
-    /// Why a whole job is refused. It then changes neither answers nor marks.
+    /// Why a whole job is refused, or a case file that was to be written or converted. A job then
+    /// changes neither answers nor marks, and the others no byte of the output.
     Refusal {
-        1 Trailer "the trailer is wrong: under 32 bytes, in edition 2 under 36, a dimension word other than 2, 3, 102 or 103, or offsets or a length that do not agree",
+        1 Trailer "the trailer is wrong: under 32 bytes, in edition 2 under 36, a dimension word other than 2, 3, 102 or 103, or offsets or a length that do not agree; to be written, an edition other than 1 and 2, a dimension other than 2 and 3, or a part that is not as long as its count says; to be converted, an edition other than 1 and 2, or the file's own",
         2 Counts "more than 65,536 points, 16,384 cells or 1,048,576 definition words",
         3 Definitions "an unknown kind of cell, an inner count over its limit, or words that are not exactly one record for each cell",
         4 WorkArea "too few words or floats in the work area",
@@ -74,6 +75,8 @@ refusals! {
         18 FlatBounds "a 2D mesh whose bounds are flat",
         19 BinCount "a 2D mesh that needs more than 65,536 bins along an axis",
         45 Zone "a zone above 255; it comes after 3 and before 4",
+        46 NonzeroZone "a zone other than 0, and a file of edition 1 to be written",
+        47 Output "fewer output bytes than the file has",
     }
 }
 

@@ -6,8 +6,8 @@ use hookyellow::*;
 /// A room with some bytes changed, cut or added, or bytes in no order.
 fn case(random: &mut Random) -> Case {
     let cubes = [cubes, zoned_cubes][random.below(2)](&[(X, 1.0), (Y, 2.0)]);
-    let zones = [0, 1, 7, 255, 256].map(|zone| [zone, 1])[random.below(5)];
-    let room = [pair(), zoned_pair(zones), square(X), cubes][random.below(4)].clone();
+    let zoned = patched(zoned_pair([0, 1]), 256, [0, 1, 7, 255, 256][random.below(5)]);
+    let room = [pair(), zoned, square(X), cubes][random.below(4)].clone();
     let mut bytes = room.into_bytes();
     match random.below(4) {
         0 => bytes = (0..random.below(400)).map(|_| random.next() as u8).collect(),

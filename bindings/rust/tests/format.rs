@@ -1,7 +1,8 @@
 //! The formats against the listings of docs/FORMAT.md.
 mod common;
 use common::*;
-use hookyellow::{job, Answer, Case, Cell, Dimension, Direction, Field, LineOptions, Request, SectionPlane, Vector, Workspace};
+use hookyellow::{job, Answer, Case, Cell, Dimension, Direction, Field, LineOptions, Refusal, Request, SectionPlane};
+use hookyellow::{Vector, Workspace};
 
 const FORMAT: &str = include_str!("../../../docs/FORMAT.md");
 
@@ -41,6 +42,17 @@ fn pair_with_zones_is_the_dump() {
     let words: Vec<u64> = words.collect();
     assert_eq!(workspace.answers()[..2], [0, words.len() as u64 - 2]);
     assert_eq!(workspace.answers()[2..words.len()], words[2..]);
+}
+
+/// Pair in edition 2 is the second dump but for a zone of 0 at 104, and back it is the first.
+#[test]
+fn the_converter_gives_the_dumps() {
+    let dump = |after: &str| Case::from_bytes(block(after).lines().flat_map(dumped).collect());
+    let (first, zoned) = (dump("### 01's room Pair"), dump("### Pair with zones"));
+    let second = patched(zoned.clone(), 0x104, 0);
+    assert_eq!(first.in_edition(2).as_ref(), Ok(&second));
+    assert_eq!(second.in_edition(1).as_ref(), Ok(&first));
+    assert_eq!(zoned.in_edition(1), Err(Refusal::NonzeroZone));
 }
 
 #[test]

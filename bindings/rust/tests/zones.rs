@@ -99,7 +99,7 @@ fn what_is_no_line_is_as_in_edition_1() {
 fn a_zone_above_255_is_refused() {
     assert_eq!(needs(&zoned_pair([255, 0])), needs(&pair()));
     for zone in [256, 1 << 16, u32::MAX] {
-        let case = zoned_pair([0, zone]);
+        let case = patched(zoned_pair([0, 0]), 260, zone);
         assert_eq!(needs(&case), Err(Refusal::Zone));
         let mut nothing = Workspace::from_buffers(vec![], vec![], vec![], vec![]);
         assert_eq!(nothing.run(&case, &[]), Err(Refusal::Zone));

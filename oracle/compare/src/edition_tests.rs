@@ -8,7 +8,7 @@ use crate::zone_tests::{alone, words};
 use hookyellow::raw::hookyellow_job;
 use hookyellow::{Case, Cell, Dimension, Direction, LineOptions, Request, Vector};
 use reference::refair::{Answer, JobOut, Lens, Order, Stats};
-use reference::{by_bins, first_edition, job, read_case};
+use reference::{by_bins, first_edition, job, read_case, second_edition};
 use std::slice::{from_raw_parts, from_raw_parts_mut};
 
 /// The cells that a request reads, without the step that ends its line at a border.
@@ -64,13 +64,14 @@ fn zoned_pair(zones: [u32; 2]) -> Pair {
         .cells([Cell::Polygon(vec![0, 1, 4, 3]), Cell::Polygon(vec![1, 2, 5, 4])])
         .velocities([[1., 0., 0.], [3., 0., 0.]])
         .pressures([0., 0.])
-        .zones(zones);
+        .build()
+        .unwrap();
     let (seed, direction) = (Vector::new(0.25, 0.5, 0.0), Direction::Forward);
     let options =
         LineOptions { step_size: 0.25, max_steps: 10, max_length: 9.0, stagnation_speed: 0.0, all_cells: true };
     let list = [Request::Streamline { seed, direction, options }, Request::Locate { point: seed, all_cells: true }];
     let requests = list.iter().flat_map(Request::to_bytes).collect();
-    Pair { case: case.build().unwrap().into_bytes(), requests, lens: Lens::default(), sort: String::new() }
+    Pair { case: second_edition(case.as_bytes(), &zones), requests, lens: Lens::default(), sort: String::new() }
 }
 
 #[test]

@@ -1,6 +1,6 @@
 //! Rooms that the tests share.
 #![allow(dead_code)]
-use hookyellow::{Case, CaseBuilder, Cell, Dimension, LineOptions, SectionPlane, Vector};
+use hookyellow::{Case, CaseBuilder, CaseParts, Cell, Dimension, LineOptions, SectionPlane, Vector};
 
 /// The codes of the requests.
 pub const CODES: [u64; 14] = [1, 2, 3, 4, 5, 6, 7, 8, 9, 10, 11, 12, 13, 14];
@@ -28,6 +28,31 @@ pub fn pair() -> Case {
 /// Pair in edition 2, its squares in these zones.
 pub fn zoned_pair(zones: [u32; 2]) -> Case {
     pair_builder().zones(zones).build().unwrap()
+}
+
+/// The case with another word at a place of its bytes, whatever that makes of it.
+pub fn patched(case: Case, at: usize, word: u32) -> Case {
+    let mut bytes = case.into_bytes();
+    bytes[at..at + 4].copy_from_slice(&word.to_le_bytes());
+    Case::from_bytes(bytes)
+}
+
+/// The bytes of a case as docs/FORMAT.md lays them out, whatever is wrong with its parts: the words
+/// of the trailer are the lower 32 bits of what the counts say.
+pub fn laid_out(parts: &CaseParts) -> Vec<u8> {
+    let (counts, second) = (parts.counts, parts.counts.edition == 2);
+    let floats = |list: &[u64]| list.iter().flat_map(|float| float.to_le_bytes()).collect::<Vec<u8>>();
+    let words = |list: &[u32]| list.iter().flat_map(|word| word.to_le_bytes()).collect::<Vec<u8>>();
+    let (p, w, c) = (counts.points as u32, counts.words as u32, counts.cells as u32);
+    let starts = [0, 24 * p, 24 * p + 4 * w, 24 * p + 4 * w + 24 * c];
+    let mut bytes = [floats(parts.points), words(parts.words), floats(parts.velocities), floats(parts.pressures)].concat();
+    if second {
+        bytes.extend(words(parts.zones));
+        bytes.extend(words(&[24 * p + 4 * w + 32 * c]));
+    }
+    bytes.extend(words(&[counts.dimension as u32 + if second { 100 } else { 0 }, p, w, c]));
+    bytes.extend(words(&starts));
+    bytes
 }
 
 /// One unit square. It is all the mesh, so that there is one bin and the far border is not lost.
