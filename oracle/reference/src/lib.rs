@@ -7,11 +7,17 @@ mod editions;
 
 pub use editions::{first_edition, job_without_zones, read_case, second_edition};
 use refair::gen::{self, two::pair02, Pair};
+/// Inputs of the writer and the converter, by their seeds.
+pub use refair::gen::two::{convert_input, write_input};
 use refair::ref02::{self, Landed};
+/// The writer and the converter: the length of the file that they put to the front of the output,
+/// or the refusal.
+pub use refair::ref02::{convert, write_case, Parts};
+pub use refair::tools02::{Convert, Write};
 use refair::{JobOut, Lens, Order, Stats};
 
 /// Of the requests of document 02, Q-1 to this one are served. oracle/fuzz/run and oracle/replay/make.py read it here.
-pub const LANDED: u32 = 5;
+pub const LANDED: u32 = 6;
 
 /// The reference job.
 pub fn job(case: &[u8], requests: &[u8], lens: Lens, order: Order, stats: &mut Stats) -> JobOut {
