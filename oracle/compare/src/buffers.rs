@@ -17,8 +17,16 @@ const GUARD: usize = 256;
 /// How long a job may take, in seconds.
 const LONGEST: u32 = 120;
 
+/// Makes a call that is ended by a signal where it does not end.
+pub fn timed<T>(call: impl FnOnce() -> T) -> T {
+    unsafe { alarm(LONGEST) };
+    let result = call();
+    unsafe { alarm(0) };
+    result
+}
+
 /// What a lent buffer holds before a job.
-enum Held<'a, T> {
+pub enum Held<'a, T> {
     /// what the job before it left
     Left,
     All(T),
@@ -36,11 +44,11 @@ pub struct Lent<T> {
 }
 
 impl<T: Copy + PartialEq> Lent<T> {
-    fn new(name: &'static str, guard: T) -> Self {
+    pub fn new(name: &'static str, guard: T) -> Self {
         Self { name, all: Vec::new(), guard, from: 0, len: 0 }
     }
 
-    fn lend(&mut self, from: usize, len: usize, held: Held<T>) -> (*mut T, usize) {
+    pub fn lend(&mut self, from: usize, len: usize, held: Held<T>) -> (*mut T, usize) {
         (self.from, self.len) = (GUARD + from, len);
         let end = self.from + len;
         if self.all.len() < end + GUARD {
@@ -62,7 +70,7 @@ impl<T: Copy + PartialEq> Lent<T> {
         &self.all[self.from..self.from + self.len]
     }
 
-    fn intact(&self) -> Result<(), String> {
+    pub fn intact(&self) -> Result<(), String> {
         let end = self.from + self.len;
         if let Some(i) = self.all[..self.from].iter().position(|g| *g != self.guard) {
             return Err(format!("place {} before {} was written", self.from - i, self.name));
@@ -127,12 +135,7 @@ impl Area {
         let (d, dn) = self.floats.lend(at(r) % 8, l.floats as usize, f);
         let (e, en) = self.marks.lend(at(r) % 8, l.marks as usize, Held::List(&bytes_of(p)[self.marks_held..]));
         let (g, gn) = self.answers.lend(at(r) % 8, l.answers as usize, Held::List(&p[self.answers_held..]));
-        unsafe {
-            alarm(LONGEST);
-            let k = (self.library)(a, an, b, bn, c, cn, d.cast(), dn, e, en, g, gn);
-            alarm(0);
-            k
-        }
+        timed(|| unsafe { (self.library)(a, an, b, bn, c, cn, d.cast(), dn, e, en, g, gn) })
     }
 
     pub fn answers(&self) -> &[u64] {

@@ -9,9 +9,13 @@
 //! adds damaged files, lengths beside every limit and the pairs of the reference's own generators.
 //! Without them three sixteenths are lines, as many planes, an eighth each sheets, border and zones,
 //! a sixteenth edges and the rest all, and one in 300 has the greatest counts. In every mode but
-//! --zones an eighth of the files are put into edition 2. --dir DIR says where pairs that differ are written (target/compare.differ),
-//! each in a folder of its seed: made smaller, and whole/ as it was. --write writes every pair and
-//! runs neither side.
+//! --zones an eighth of the files are put into edition 2, with --files half. --dir DIR says where
+//! pairs that differ are written (target/compare.differ), each in a folder of its seed: made smaller,
+//! and whole/ as it was. --write writes every pair and runs neither side.
+//!
+//! --files runs the writer and the converter: two inputs of each for a seed, result and output of
+//! both sides compared byte by byte, and the case of a pair through the library alone
+//! (file_judge.rs). Without a mode each seed has one input of each beside its pair.
 //!
 //! An edition 2 file whose cells are all of one zone must be answered as the edition 1 file of the
 //! same contents is, by both sides; editions.rs has this and what holds of several zones.
@@ -29,6 +33,10 @@ mod damage;
 mod edges;
 mod editions;
 mod fields;
+mod file_buffers;
+mod file_judge;
+mod file_report;
+mod files;
 mod judge;
 mod limits;
 mod lines;
@@ -40,11 +48,14 @@ mod pairs;
 mod planes;
 mod report;
 mod room;
+mod run;
 mod sheets;
 mod shrink;
 mod tally;
 #[cfg(test)]
 mod border_tests;
+#[cfg(test)]
+mod converter_tests;
 #[cfg(test)]
 mod edge_tests;
 #[cfg(test)]
@@ -56,6 +67,8 @@ mod sheet_tests;
 #[cfg(test)]
 mod tests;
 #[cfg(test)]
+mod writer_tests;
+#[cfg(test)]
 mod zone_tests;
 mod vectors;
 mod zone_faults;
@@ -63,21 +76,21 @@ mod zone_rooms;
 mod zones;
 
 use buffers::Area;
-use judge::{judge, Counts, Outcome, Verdict};
-use located::Positions;
-use pairs::{made, Mode};
+use file_buffers::{Desk, Library};
+use file_judge::{judge_case, judge_input};
+use files::{one_each, two_each};
+use judge::judge;
+use pairs::{made, Mode, Pair};
 use report::{put_pair, watch, Report, SEED};
+use run::Run;
 use std::path::PathBuf;
 use std::process::ExitCode;
 use std::sync::atomic::Ordering::Relaxed;
-use std::time::{Duration, Instant};
-use tally::Tally;
 
 const USAGE: &str =
-    "usage: compare FIRST COUNT [--lines|--planes|--sheets|--border|--edges|--zones|--all] [--dir DIR] [--write]";
+    "usage: compare FIRST COUNT [--lines|--planes|--sheets|--border|--edges|--zones|--files|--all] [--dir DIR] [--write]";
 /// So many pairs that differ are written and made smaller; later ones are named only.
 const WRITTEN: u32 = 20;
-const PROGRESS: Duration = Duration::from_secs(5);
 
 struct Options {
     first: u64,
@@ -101,6 +114,7 @@ impl Options {
                 "--border" => o.mode = Mode::Border,
                 "--edges" => o.mode = Mode::Edges,
                 "--zones" => o.mode = Mode::Zones,
+                "--files" => o.mode = Mode::Files,
                 "--all" => o.mode = Mode::All,
                 "--write" => o.write = true,
                 "--dir" => o.dir = args.next()?.into(),
@@ -113,118 +127,75 @@ impl Options {
     }
 }
 
-/// What came of the run so far.
-struct Run {
-    tally: Tally,
-    counts: Counts,
-    same: u64,
-    differ: u64,
-    near: u64,
-    near_by_01: u64,
-    ours: Duration,
-    theirs: Duration,
-    /// ours, the reference, seed
-    slowest: (Duration, Duration, u64),
-    start: Instant,
-    told: Instant,
+/// Both sides, and what came of them.
+struct Both {
+    area: Area,
+    desk: Desk,
+    report: Report,
+    run: Run,
+    mode: Mode,
 }
 
-impl Run {
-    fn new() -> Self {
-        let (none, now) = (Duration::ZERO, Instant::now());
-        Self {
-            tally: Tally::default(),
-            counts: Counts::default(),
-            same: 0,
-            differ: 0,
-            near: 0,
-            near_by_01: 0,
-            ours: none,
-            theirs: none,
-            slowest: (none, none, 0),
-            start: now,
-            told: now,
+impl Both {
+    fn seed(&mut self, seed: u64) -> std::io::Result<()> {
+        SEED.store(seed, Relaxed);
+        let pair = made(seed, self.mode);
+        let files = self.files(&pair, seed)?;
+        if self.mode == Mode::Files {
+            self.run.same += files as u64;
+            self.run.differ += !files as u64;
+            return Ok(());
         }
+        let outcome = judge(&pair, seed, &mut self.area);
+        self.run.add(seed, &outcome, files);
+        if let Some(want) = &outcome.want {
+            self.run.tally.count(&pair, want);
+        }
+        self.report.differ(&pair, seed, &outcome, &mut self.area)
     }
 
-    fn add(&mut self, seed: u64, o: &Outcome) {
-        self.counts.words += o.counts.words;
-        self.counts.marks += o.counts.marks;
-        self.counts.signs += o.counts.signs;
-        self.counts.located.add(&o.counts.located);
-        self.counts.positions.add(&o.counts.positions);
-        self.counts.cells += o.counts.cells;
-        self.counts.editions.add(&o.counts.editions);
-        self.ours += o.ours;
-        self.theirs += o.theirs;
-        self.slowest = self.slowest.max((o.ours, o.theirs, seed));
-        match o.verdict {
-            Verdict::Same => self.same += 1,
-            Verdict::Near(as_rust) => {
-                self.near += 1;
-                self.near_by_01 += !as_rust as u64;
+    /// The inputs of the writer and the converter, and with --files the case; true where all are
+    /// the same.
+    fn files(&mut self, pair: &Pair, seed: u64) -> std::io::Result<bool> {
+        let mut same = true;
+        let inputs = match self.mode {
+            Mode::Files => two_each(&pair.case, seed),
+            Mode::Mixed => one_each(&pair.case, seed),
+            _ => return Ok(true),
+        };
+        for input in &inputs {
+            match judge_input(input, seed, &mut self.desk) {
+                Ok(files) => self.run.files.add(&files),
+                Err(why) => {
+                    same = false;
+                    self.report.input(input, seed, &why, &mut self.desk)?;
+                }
             }
-            Verdict::Differ(_) => self.differ += 1,
         }
-    }
-
-    fn line(&self) -> String {
-        format!("{} same, {} differ, {} near", self.same, self.differ, self.near)
-    }
-
-    fn rate(&self) -> f64 {
-        (self.same + self.differ + self.near) as f64 / self.start.elapsed().as_secs_f64()
-    }
-
-    fn progress(&mut self, done: u64, count: u64) {
-        if self.told.elapsed() >= PROGRESS {
-            self.told = Instant::now();
-            eprintln!("{done} of {count}: {}; {:.0} pairs a second", self.line(), self.rate());
+        if self.mode == Mode::Files {
+            match judge_case(pair, seed, &mut self.desk, &mut self.area) {
+                Ok(files) => self.run.files.add(&files),
+                Err(why) => {
+                    same = false;
+                    self.report.case(pair, seed, &why)?;
+                }
+            }
         }
-    }
-
-    fn summary(&self, o: &Options) {
-        print!("{}", self.tally.summary());
-        println!(
-            "{} answer words and {} marks compared, {} signs of zero minima or maxima passed over",
-            self.counts.words, self.counts.marks, self.counts.signs
-        );
-        println!("{}", self.counts.located.line());
-        let Positions { none, edge, inside } = self.counts.positions;
-        println!("positions of codes 1 and 9: {none} none, {edge} edge, {inside} inside");
-        println!("{} of these answers have the cell of FLURSYS's own locator", self.counts.cells);
-        println!("{}", self.counts.editions.line());
-        println!("near pairs: {} as the Rust, {} by 01's angle order alone", self.near - self.near_by_01, self.near_by_01);
-        let per = |t: Duration| t.as_secs_f64() * 1e6 / o.count.max(1) as f64;
-        println!(
-            "{:.0} s, {:.0} pairs a second; per pair ours {:.0} us, the reference with its checks {:.0} us",
-            self.start.elapsed().as_secs_f64(), self.rate(), per(self.ours), per(self.theirs)
-        );
-        let (x, y, seed) = self.slowest;
-        println!("slowest for ours: seed {seed}, {:.1} ms, the reference {:.1} ms", x.as_secs_f64() * 1e3, y.as_secs_f64() * 1e3);
-        print!("{}", self.tally.table());
-        println!("{}", self.line());
+        Ok(same)
     }
 }
 
 fn compare(o: &Options) -> std::io::Result<bool> {
     watch();
-    let mut area = Area::of(hookyellow::raw::hookyellow_job);
-    let mut report = Report { dir: o.dir.clone(), mode: o.mode, left: WRITTEN };
-    let mut run = Run::new();
+    let area = Area::of(hookyellow::raw::hookyellow_job);
+    let report = Report { dir: o.dir.clone(), mode: o.mode, left: WRITTEN };
+    let mut both = Both { area, desk: Desk::of(Library::linked()), report, run: Run::new(), mode: o.mode };
     for seed in o.first..o.first + o.count {
-        SEED.store(seed, Relaxed);
-        let pair = made(seed, o.mode);
-        let outcome = judge(&pair, seed, &mut area);
-        run.add(seed, &outcome);
-        if let Some(want) = &outcome.want {
-            run.tally.count(&pair, want);
-        }
-        report.differ(&pair, seed, &outcome, &mut area)?;
-        run.progress(seed + 1 - o.first, o.count);
+        both.seed(seed)?;
+        both.run.progress(seed + 1 - o.first, o.count);
     }
-    run.summary(o);
-    Ok(run.differ == 0)
+    both.run.summary(o.mode, o.count);
+    Ok(both.run.differ == 0)
 }
 
 fn write_all(o: &Options) -> std::io::Result<bool> {

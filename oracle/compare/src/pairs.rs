@@ -46,12 +46,13 @@ pub enum Mode {
     Zones,
     All,
     Mixed,
+    Files,
 }
 
 impl Mode {
     /// The option that asks for it.
     pub fn name(self) -> &'static str {
-        [" --lines", " --planes", " --sheets", " --border", " --edges", " --zones", " --all", ""][self as usize]
+        [" --lines", " --planes", " --sheets", " --border", " --edges", " --zones", " --all", "", " --files"][self as usize]
     }
 }
 
@@ -65,7 +66,7 @@ pub fn need(case: &[u8]) -> Option<(u64, u64, u64)> {
 pub fn made(seed: u64, mode: Mode) -> Pair {
     let r = &mut Rng::new(seed ^ (mode as u64 + 1) << 56);
     let mut pair = of_mode(seed, mode, r);
-    if mode != Mode::Zones && r.one_in(8) {
+    if mode != Mode::Zones && r.one_in(if mode == Mode::Files { 2 } else { 8 }) {
         zones_of_bytes(&mut pair, r);
     }
     pair
@@ -88,6 +89,16 @@ fn of_mode(seed: u64, mode: Mode, r: &mut Rng) -> Pair {
             8 | 9 => border_pair(r),
             10 => edges_pair(r),
             11 | 12 => zones_pair(r),
+            _ => any_pair(seed, r),
+        },
+        Mode::Files if r.one_in(40) => large(r),
+        Mode::Files => match r.below(8) {
+            0 => lines_pair(r),
+            1 | 2 => planes_pair(r),
+            3 => border_pair(r),
+            4 => edges_pair(r),
+            5 => zones_pair(r),
+            6 => small_words(r),
             _ => any_pair(seed, r),
         },
     }

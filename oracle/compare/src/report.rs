@@ -58,14 +58,20 @@ pub struct Report {
 }
 
 impl Report {
+    /// Names a difference; may it be written?
+    pub fn named(&mut self, seed: u64, sort: &str, why: &str) -> bool {
+        println!("seed {seed}{} ({sort}): {why}", self.mode.name());
+        let written = self.left > 0;
+        self.left -= written as u32;
+        written
+    }
+
     /// Names a pair that differs, writes it, makes it smaller and writes that. The outcome is the last of the area.
     pub fn differ(&mut self, pair: &Pair, seed: u64, outcome: &Outcome, area: &mut Area) -> std::io::Result<()> {
         let Verdict::Differ(why) = &outcome.verdict else { return Ok(()) };
-        println!("seed {seed}{} ({}): {why}", self.mode.name(), pair.sort);
-        if self.left == 0 {
+        if !self.named(seed, &pair.sort, why) {
             return Ok(());
         }
-        self.left -= 1;
         let folder = self.dir.join(seed.to_string());
         put_outcome(&folder.join("whole"), pair, outcome, area)?;
         let (small, outcome) = smaller(pair, seed, area);
@@ -101,21 +107,34 @@ impl Report {
 
 /// The smallest pair found that differs still in the same way, and its outcome, the last that ran in the area.
 pub fn smaller(pair: &Pair, seed: u64, area: &mut Area) -> (Pair, Outcome) {
+    quietly(|| {
+        let way = way_of(&judge(pair, seed, area));
+        let small = shrink(pair, &mut |p| way.is_some() && way_of(&judge(p, seed, area)) == way);
+        let outcome = judge(&small, seed, area);
+        (small, outcome)
+    })
+}
+
+/// Where panics of the reference are not told.
+pub fn quietly<T>(run: impl FnOnce() -> T) -> T {
     QUIET.store(true, Relaxed);
-    let way = way(&judge(pair, seed, area));
-    let small = shrink(pair, &mut |p| way.is_some() && self::way(&judge(p, seed, area)) == way);
-    let outcome = judge(&small, seed, area);
+    let result = run();
     QUIET.store(false, Relaxed);
-    (small, outcome)
+    result
 }
 
-/// How a pair differs: the words of the difference before its first number.
-fn way(o: &Outcome) -> Option<String> {
+/// How a pair differs.
+fn way_of(o: &Outcome) -> Option<String> {
     let Verdict::Differ(why) = &o.verdict else { return None };
-    why.split(|c: char| c.is_ascii_digit()).next().map(str::to_string)
+    Some(way(why))
 }
 
-fn put(folder: &Path, name: &str, bytes: impl AsRef<[u8]>) -> std::io::Result<()> {
+/// The words of a difference before its first number.
+pub fn way(why: &str) -> String {
+    why.chars().take_while(|c| !c.is_ascii_digit()).collect()
+}
+
+pub fn put(folder: &Path, name: &str, bytes: impl AsRef<[u8]>) -> std::io::Result<()> {
     std::fs::write(folder.join(name), bytes)
 }
 
