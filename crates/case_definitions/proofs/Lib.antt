@@ -1,3 +1,4 @@
 pub mod WalkLaws
 pub mod RecordLaws
 pub mod Walking
+pub mod AlikeLaws

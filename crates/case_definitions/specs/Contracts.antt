@@ -4,13 +4,15 @@
 -- `firstOf`, `headOf`, `cursorAt`: a record's head and a position.
 -- `stepped`, `stepAt`: the record at a position. `walked`, `walkedFaces`: all of them.
 -- `readOf`, `definitionAt`, `faceAt`: what stands there. `HeadAt`: its head.
-use Prim.Native.Nat.{ℕ, _+_, _-_, _<_, _≤_}
+-- `Looks`, `RunExit`: records that look like the one before them.
+use Prim.Native.Nat.{ℕ, _+_, _-_, _*_, _<_, _≤_}
 use mathlib.Core.Path.{_≡_}
-use mathlib.Core.List.{List, []}
+use mathlib.Core.List.{List, [], _++_}
 use lib.ListN.{length, getD, drop}
-use Rattle.reading.specs.Result.{Result, refused, fine}
+use Rattle.arith.specs.All.{All}
+use Rattle.reading.specs.Result.{Result, refused, fine, _>>=_}
 use Rattle.case_definitions.specs.Faces.{solid, Definition, polygon, polyhedron, faceCount, facesCounted, facesOf}
-use Rattle.case_definitions.specs.Definitions.{Taken, numbers, counted, made, definition}
+use Rattle.case_definitions.specs.Definitions.{Taken, numbers, counted, made, definition, definitions}
 use Rattle.case_definitions.specs.declared.Listed.{Listed}
 use Rattle.case_definitions.specs.declared.Listed.the-variants.{Count, Bad}
 use Rattle.case_definitions.specs.declared.Skipped.{Skipped}
@@ -102,3 +104,21 @@ faceAt ws at k = getD (facesOf (definitionAt ws at)) k []
 pub record HeadAt (ws : List ℕ) (h : Head) : Type 0 where
   pub next : Cursor
   pub step : stepAt ws (h .at) ≡ Record h next
+
+-- ---- records that look alike
+
+-- the record from p on has room for `size` words, the kind word of the one at `from` and, where that is a polygon, its count
+pub record Looks (ws : List ℕ) (from size p : ℕ) : Type 0 where
+  pub room : p + size ≤ length ws
+  pub kind : getD ws p 0 ≡ getD ws from 0
+  pub count : getD ws from 0 ≡ 0 → getD ws (p + 1) 0 ≡ getD ws (from + 1) 0
+
+-- r records from `at` on are right, each as long as the one from `from` to `at` and with as many faces;
+-- with them `definitions` goes on behind them
+pub record RunExit (ws : List ℕ) (from at left faces r : ℕ) : Type 0 where
+  pub few : r ≤ left
+  pub within : at + r * (at - from) ≤ length ws
+  pub read : List Definition
+  pub long : length read ≡ r
+  pub alike : All (λ d. faceCount d ≡ faces) read
+  pub rest : (m : ℕ) → definitions (r + m) (drop at ws) ≡ (definitions m (drop (at + r * (at - from)) ws) >>= λ ds. fine (read ++ ds))
