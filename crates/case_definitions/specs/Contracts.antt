@@ -4,7 +4,7 @@
 -- `firstOf`, `headOf`, `cursorAt`: a record's head and a position.
 -- `stepped`, `stepAt`: the record at a position. `walked`, `walkedFaces`: all of them.
 -- `readOf`, `definitionAt`, `faceAt`: what stands there. `HeadAt`: its head.
--- `Looks`, `RunExit`: records that look like the one before them.
+-- `HeadTo`, `Looks`, `RunExit`: records that look like the one before them.
 use Prim.Native.Nat.{ℕ, _+_, _-_, _*_, _<_, _≤_}
 use mathlib.Core.Path.{_≡_}
 use mathlib.Core.List.{List, [], _++_}
@@ -106,6 +106,10 @@ pub record HeadAt (ws : List ℕ) (h : Head) : Type 0 where
   pub step : stepAt ws (h .at) ≡ Record h next
 
 -- ---- records that look alike
+
+-- h is the head of a right record that ends at `next`
+pub record HeadTo (ws : List ℕ) (h : Head) (next : ℕ) : Type 0 where
+  pub step : stepAt ws (h .at) ≡ Record h (record { at = next })
 
 -- the record from p on has room for `size` words, the kind word of the one at `from` and, where that is a polygon, its count
 pub record Looks (ws : List ℕ) (from size p : ℕ) : Type 0 where

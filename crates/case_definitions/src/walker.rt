@@ -10,7 +10,8 @@ use crate::Walked;
 use arith::bytes;
 use case_file::Counts;
 ghost use mathlib.Core.Path.{_≡_};
-ghost use Prim.Native.Nat.{_+_, _*_, _≤_, _<_};
+ghost use mathlib.Core.Bool.{true};
+ghost use Prim.Native.Nat.{_+_, _-_, _*_, _≤_, _<_};
 ghost use lib.ListN.{length, getD, drop};
 ghost use Rattle.arith.specs.Records.{part};
 ghost use Rattle.case_file.specs.Trailer.{wordsFrom, wordsIn};
@@ -218,6 +219,68 @@ pub fn word(words: &[u8], at: usize) -> u32
     word_of(past(start(words), Cursor { at }))
 }
 
+// The record at p has the kind word of the one with the head h, which ends at `at`, and a polygon
+// its count.
+fn looks_like(words: &[u8], h: Head, at: usize, p: usize) -> bool
+    requires { ⌜ Contracts.HeadTo (wordsIn (now words)) h at × (h .kind ≤ 4) × (p ≤ length (wordsIn (now words))) ⌝ }
+    ensures { λ r. ⌜ (r ≡ true → Contracts.Looks (wordsIn (now (words .entry))) (h .at) (at - h .at) p) ⌝ }
+{
+    if total(words) - p < at - h.at {
+        return false;
+    }
+    if word_at(words, p) != h.kind {
+        return false;
+    }
+    if 0 < h.kind {
+        return true;
+    }
+    word_at(words, p + 1) as usize == h.faces
+}
+
+// How many records from `at` on, at most `left`, look like the one with the head h, which ends there.
+// They are not counted where it is a polyhedron.
+fn run(words: &[u8], h: Head, at: usize, left: usize) -> usize
+    requires { ⌜ Contracts.HeadTo (wordsIn (now words)) h at ⌝ }
+    ensures { λ r. ⌜ Contracts.RunExit (wordsIn (now (words .entry))) (h .at) at left (h .faces) r ⌝ }
+{
+    if 4 < h.kind {
+        return 0;
+    }
+    let mut p = at;
+    let mut k = 0;
+    while k < left {
+        if looks_like(words, h, at, p) {
+            p += at - h.at;
+        } else {
+            return k;
+        }
+        k += 1;
+    }
+    k
+}
+
+// The same, where it is time to look: where `wait` is 0.
+fn run_if(wait: usize, words: &[u8], h: Head, at: usize, left: usize) -> usize
+    requires { ⌜ Contracts.HeadTo (wordsIn (now words)) h at ⌝ }
+    ensures { λ r. ⌜ Contracts.RunExit (wordsIn (now (words .entry))) (h .at) at left (h .faces) r ⌝ }
+{
+    if 0 < wait {
+        return 0;
+    }
+    run(words, h, at, left)
+}
+
+// How many records to read singly before the next look, where the last one found k.
+fn next_wait(wait: usize, k: usize) -> usize {
+    if 0 < wait {
+        return wait - 1;
+    }
+    if k < 4 {
+        return 8;
+    }
+    0
+}
+
 // The number of faces of all records, which are exactly as many as the cells; or refusal 3.
 pub fn walk(words: &[u8], cells: usize) -> Walked
     ensures { λ r. ⌜ r ≡ walked (definitions cells (wordsIn (now (words .entry)))) ⌝ }
@@ -225,15 +288,18 @@ pub fn walk(words: &[u8], cells: usize) -> Walked
     let mut at = 0;
     let mut faces = 0;
     let mut i = 0;
+    let mut wait = 0;
     while i < cells {
         match record_at(words, Cursor { at }) {
             Step::Wrong(r) => return Walked::Refused(r),
             Step::Record(head, next) => {
-                faces += head.faces;
-                at = next.at;
+                let k = run_if(wait, words, head, next.at, cells - i - 1);
+                faces += head.faces * (k + 1);
+                at = next.at + k * (next.at - head.at);
+                i += k + 1;
+                wait = next_wait(wait, k);
             }
         }
-        i += 1;
     }
     if at < total(words) {
         return Walked::Refused(3);
