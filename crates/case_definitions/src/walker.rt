@@ -237,8 +237,8 @@ fn looks_like(words: &[u8], h: Head, at: usize, p: usize) -> bool
     word_at(words, p + 1) as usize == h.faces
 }
 
-// How many records from `at` on, at most `left`, look like the one with the head h, which ends there.
-// They are not counted where it is a polyhedron.
+// How many records from `at` on, at most `left`, look like the one with the head h, which ends
+// there. They are not counted where it is a polyhedron.
 fn run(words: &[u8], h: Head, at: usize, left: usize) -> usize
     requires { ⌜ Contracts.HeadTo (wordsIn (now words)) h at ⌝ }
     ensures { λ r. ⌜ Contracts.RunExit (wordsIn (now (words .entry))) (h .at) at left (h .faces) r ⌝ }

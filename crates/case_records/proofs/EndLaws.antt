@@ -25,7 +25,7 @@ unfolding skipped
 short-of ws t r e = rw e
 
 -- what was read ends at q
-record Reaches {A : Type 0} (ws : List ℕ) (t : Result (Taken A)) (q : ℕ) : Type 0 where
+pub record Reaches {A : Type 0} (ws : List ℕ) (t : Result (Taken A)) (q : ℕ) : Type 0 where
   pub value : A
   pub read : t ≡ fine (record { read = value; left = drop q ws })
   pub within : q ≤ length ws
@@ -105,7 +105,7 @@ module _ (ws : List ℕ) (at : ℕ) where
   record-unknown more h = short-of ws _ 3 (steps-wrong ws at 3 (step-unknown ws at more h))
 
   -- what the answer of `record_end` tells
-  record-told : (q : ℕ) → To q ≡ skipped ws (definition (drop at ws)) → Reaches ws (definition (drop at ws)) q
+  pub record-told : (q : ℕ) → To q ≡ skipped ws (definition (drop at ws)) → Reaches ws (definition (drop at ws)) q
   unfolding skipped
   record-told q e = by (definition (drop at ws)) refl
     where

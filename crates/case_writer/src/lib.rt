@@ -23,8 +23,8 @@ pub enum Written {
     Refused(u64),
 }
 
-// Writes the file of counts and parts to the front of `out`; or answers the refusal and leaves `out`
-// as it was. Floats are given by their bits.
+// Writes the file of counts and parts to the front of `out`; or answers the refusal and leaves
+// `out` as it was. Floats are given by their bits.
 pub fn write_case(
     n: Counts,
     points: &[u64],
@@ -82,7 +82,8 @@ fn loses_zones(case: &[u8], n: Counts, edition: usize) -> bool
 // The file of a case that was read, in this edition, if there is room: refusal 47.
 fn put_copy(case: &[u8], n: Counts, edition: usize, out: &mut [u8]) -> Written
     requires { ⌜ PutCopyEntry (now case) n edition ⌝ }
-    ensures { λ r. ⌜ FileExit (inEdition edition (contentsOf (now (case .entry)))) (now (out .entry)) (now (out .exit)) r ⌝ }
+    ensures { λ r. ⌜ FileExit (inEdition edition (contentsOf (now (case .entry)))) (now (out .entry))
+        (now (out .exit)) r ⌝ }
 {
     let to = Counts {
         dimension: n.dimension,
