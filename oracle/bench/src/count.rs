@@ -1,4 +1,5 @@
 //! One side of one row, `n` times and nothing else, for callgrind: the counts of two `n` differ by the row alone.
+use crate::files::{Desk, FileRow};
 use crate::ours::{bytes, Ours};
 use crate::rows::{Row, Work};
 use crate::theirs::{build, field, Call, Lists, Ready, Theirs};
@@ -50,4 +51,11 @@ fn count_builds(case: &[u8], n: usize, run: impl Fn(Lists, Vec<Vec3>)) {
         run(lists, velocities);
     }
     std::mem::forget(inputs);
+}
+
+/// The file made, or copied.
+pub fn count_file(row: &FileRow, n: usize, copied: bool) -> Result<(), String> {
+    let mut desk = Desk::new(row)?;
+    (0..n).for_each(|_| if copied { desk.copy() } else { desk.make() });
+    Ok(())
 }

@@ -1,6 +1,8 @@
-//! The proved code beside the unchanged Rust: `bench [PREFIX..]` prints the table (of the rows whose keys start so), `bench --rows` the
-//! keys of the rows to count, `bench --count ROW N ours|rust` runs one side of a row N times (see `counts`).
+//! The proved code beside the unchanged Rust, and files made beside files copied: `bench [PREFIX..]` prints the tables (of the rows whose
+//! keys start so), `bench --rows` and `bench --file-rows` the keys of the rows to count, `bench --count ROW N ours|rust|copy` runs one
+//! side of a row N times (see `counts`).
 mod count;
+mod files;
 mod measure;
 mod ours;
 mod rooms;
@@ -8,7 +10,8 @@ mod rows;
 mod table;
 mod theirs;
 
-use measure::Measured;
+use files::FileRow;
+use measure::{Measured, MeasuredFile};
 use rows::Row;
 use std::process::ExitCode;
 
@@ -27,8 +30,12 @@ fn main() -> ExitCode {
             print_keys();
             Ok(())
         }
+        ["--file-rows"] => {
+            files::all().iter().for_each(|row| println!("{}", row.key()));
+            Ok(())
+        }
         ["--count", key, n, side] => count(key, n, side),
-        _ => print_table(&words),
+        _ => print_tables(&words),
     };
     match result {
         Ok(()) => ExitCode::SUCCESS,
@@ -49,8 +56,14 @@ fn print_keys() {
 }
 
 fn count(key: &str, n: &str, side: &str) -> Result<(), String> {
-    let row = rows::all().into_iter().find(|row| row.key() == key).ok_or("no such row")?;
     let n = n.parse().ok().filter(|n| *n <= count::MOST).ok_or(format!("N is a number up to {}", count::MOST))?;
+    if let Some(row) = files::all().into_iter().find(|row| row.key() == key) {
+        return match side {
+            "ours" | "copy" => count::count_file(&row, n, side == "copy"),
+            _ => Err("the side is ours or copy".into()),
+        };
+    }
+    let row = rows::all().into_iter().find(|row| row.key() == key).ok_or("no such row")?;
     match side {
         "ours" => count::count_ours(&row, n),
         "rust" => count::count_theirs(&row, n),
@@ -59,22 +72,44 @@ fn count(key: &str, n: &str, side: &str) -> Result<(), String> {
     Ok(())
 }
 
-/// Measures every row first: where an answer differs there is no table.
-fn print_table(prefixes: &[&str]) -> Result<(), String> {
-    let wanted = |row: &Row| prefixes.is_empty() || prefixes.iter().any(|prefix| row.key().starts_with(prefix));
+/// Measures every row first: where an answer or a file differs there is no table.
+fn print_tables(prefixes: &[&str]) -> Result<(), String> {
+    let wanted = |key: &str| prefixes.is_empty() || prefixes.iter().any(|prefix| key.starts_with(prefix));
     let mut done: Vec<(Row, Measured)> = Vec::new();
-    for row in rows::all().into_iter().filter(wanted) {
+    for row in rows::all().into_iter().filter(|row| wanted(&row.key())) {
         let measured = measure::measure(&row)?;
         done.push((row, measured));
     }
-    if done.is_empty() {
+    let mut files: Vec<(FileRow, MeasuredFile)> = Vec::new();
+    for row in files::all().into_iter().filter(|row| wanted(&row.key())) {
+        let measured = measure::measure_file(&row)?;
+        files.push((row, measured));
+    }
+    if done.is_empty() && files.is_empty() {
         return Err("no such row".into());
     }
+    print_table(&done);
+    print_files(&files);
+    Ok(())
+}
+
+fn print_table(done: &[(Row, Measured)]) {
+    if done.is_empty() {
+        return;
+    }
     table::print_header();
-    for (row, measured) in &done {
+    for (row, measured) in done {
         let smallest = done.iter().find(|(other, _)| other.name == row.name).map_or(measured, |(_, m)| m);
         table::print_row(row, measured, smallest);
     }
-    table::print_worst(&done);
-    Ok(())
+    table::print_worst(done);
+}
+
+fn print_files(done: &[(FileRow, MeasuredFile)]) {
+    if done.is_empty() {
+        return;
+    }
+    table::print_file_header();
+    done.iter().for_each(|(row, measured)| table::print_file_row(row, measured));
+    table::print_worst_file(done);
 }

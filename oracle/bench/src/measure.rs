@@ -1,4 +1,5 @@
 //! Times one row: medians of rounds in which the sides run in turn.
+use crate::files::{Desk, FileRow};
 use crate::ours::{bytes, Ours};
 use crate::rows::{by_the_bins, witnesses, Request, Row, Work};
 use crate::theirs::{build, field, Call, Output, Ready, Theirs};
@@ -11,6 +12,9 @@ const ROW: f64 = 1_500_000.0;
 const RUN: f64 = 150_000.0;
 /// A row asks for no fewer units than this.
 const LEAST: usize = 4;
+/// Microseconds that a file is made or copied again and again in one round, and the rounds.
+const FILES: f64 = 200.0;
+const FILE_ROUNDS: usize = 1001;
 
 pub struct Measured {
     pub ours: f64,
@@ -23,6 +27,13 @@ pub struct Measured {
     pub scaled: bool,
     /// Half of our rounds lie more than a quarter of the median apart.
     pub uneven: bool,
+}
+
+/// Of one file: the shortest times, since a file takes microseconds, and what is above them is another program's doing.
+pub struct MeasuredFile {
+    pub bytes: usize,
+    pub ours: f64,
+    pub copy: f64,
 }
 
 /// Which part of a row is run: `units` of it, `repeats` times in one job.
@@ -206,4 +217,21 @@ fn measure_requests(
     let first = first.is_some().then(|| median(&mut d) * factor);
     let (ours, theirs) = (median(&mut a) * factor, median(&mut b) * factor);
     Ok(Measured { ours, theirs, bins, first, scaled: units < whole, uneven: uneven(&a) })
+}
+
+fn time_files(repeats: usize, mut run: impl FnMut()) -> f64 {
+    clock(|| (0..repeats).for_each(|_| run())).0 / repeats as f64
+}
+
+/// A file made and copied in turn, each as often in a round as fills its time.
+pub fn measure_file(row: &FileRow) -> Result<MeasuredFile, String> {
+    let mut desk = Desk::new(row)?;
+    let repeats = |once: f64| ((FILES / once.max(0.01)) as usize).clamp(1, 100_000);
+    let (makes, copies) = (repeats(time_files(8, || desk.make())), repeats(time_files(8, || desk.copy())));
+    let (mut ours, mut copy) = (f64::INFINITY, f64::INFINITY);
+    for _ in 0..FILE_ROUNDS {
+        ours = ours.min(time_files(makes, || desk.make()));
+        copy = copy.min(time_files(copies, || desk.copy()));
+    }
+    Ok(MeasuredFile { bytes: desk.bytes(), ours, copy })
 }

@@ -1,5 +1,6 @@
 //! The table and its last line.
-use crate::measure::Measured;
+use crate::files::FileRow;
+use crate::measure::{Measured, MeasuredFile};
 use crate::rows::Row;
 
 const HEADER: &str = "\
@@ -79,5 +80,32 @@ pub fn print_worst(rows: &[(Row, Measured)]) {
     }
     if let Some((ratio, key)) = worst(rows, ratio) {
         println!("worst ratio {ratio:.2} in {key}");
+    }
+}
+
+const FILE_HEADER: &str = "\
+A case file made (ours) and copied by a plain loop of the same language, into the same buffer: the shortest, of rounds in which they
+run in turn, of the time that the thread has a core. The files were compared before.
+write-*: from the parts in memory; convert-*: from the file of the other edition, zones 0. first, second: the edition of the file that is
+made. At most 1.50 is due.";
+
+/// What making a file may take of copying it.
+const TO_COPY: f64 = 1.5;
+
+pub fn print_file_header() {
+    println!("{FILE_HEADER}\n");
+    println!("{:<25} {:>7} {:>9} {:>11} {:>11} {:>8}", "row", "cells", "bytes", "ours (us)", "copy (us)", "ratio");
+}
+
+pub fn print_file_row(row: &FileRow, m: &MeasuredFile) {
+    let (cells, ratio) = (row.shape.cells(), m.ours / m.copy);
+    println!("{:<25} {cells:>7} {:>9} {:>11.3} {:>11.3} {ratio:>8.2}", row.name, m.bytes, m.ours, m.copy);
+}
+
+pub fn print_worst_file(rows: &[(FileRow, MeasuredFile)]) {
+    let ratios = rows.iter().map(|(row, m)| (m.ours / m.copy, row.key()));
+    if let Some((ratio, key)) = ratios.max_by(|a, b| a.0.total_cmp(&b.0)) {
+        let verdict = if ratio <= TO_COPY { "at most" } else { "MORE THAN" };
+        println!("worst writer ratio {ratio:.2} in {key}: {verdict} {TO_COPY:.2}");
     }
 }
