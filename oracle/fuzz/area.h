@@ -8,6 +8,8 @@
 #include <string.h>
 
 enum { HEADER = 32, REQUEST = 128, MOST_STEPS = 65536 };
+/* Functions of the library by the first byte of the header, and the bytes of the numbers for the writer. */
+enum { NEEDS = 15, CONVERTER = 16, WRITER = 17, NUMBERS = 80 };
 
 /* One lent buffer between two pages that cannot be touched. What it and the bytes around it hold before a call is a run of `garbage`. */
 typedef struct area {

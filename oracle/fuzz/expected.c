@@ -1,6 +1,6 @@
-/* What docs/01-scope.md and docs/FORMAT.md say of a case and of answers, written without the library: refusals 1 to 10 and 45 and
- * the shape of each answer. */
-#include "area.h"
+/* What docs/01-scope.md, docs/02-change-requests.md and docs/FORMAT.md say of a case, of answers and of files to be made, written
+ * without the library: refusals 1 to 10 and 45 to 47 and the shape of each answer. */
+#include "files.h"
 #include <math.h>
 
 /* The faces of one record and, in *at, the word after it; -1 where it is no record. */
@@ -30,6 +30,23 @@ static int64_t record(const uint8_t *words, uint64_t count, uint64_t *at) {
     return n;
 }
 
+/* Are the words exactly as many records as cells? Adds up their faces. */
+static int records(const uint8_t *words, uint64_t count, uint64_t cells, uint64_t *sum) {
+    uint64_t at = 0;
+    for (uint64_t i = 0; i < cells; i++) {
+        int64_t faces = record(words, count, &at);
+        if (faces < 0) return 0;
+        *sum += (uint64_t)faces;
+    }
+    return at == count;
+}
+
+static int zones_at_most(const uint8_t *zones, uint64_t cells, uint32_t most) {
+    for (uint64_t i = 0; i < cells; i++)
+        if (word_at(zones + 4 * i) > most) return 0;
+    return 1;
+}
+
 survey survey_case(const uint8_t *bytes, size_t length) {
     survey s = {1, 0, 1, 0, 0, 0, 0};
     if (length < 32) return s;
@@ -49,18 +66,31 @@ survey survey_case(const uint8_t *bytes, size_t length) {
     s.refusal = 2;
     if (s.points > 65536 || s.cells > 16384 || s.words > 1048576) return s;
     s.refusal = 3;
-    uint64_t at = 0;
-    for (uint64_t i = 0; i < s.cells; i++) {
-        int64_t faces = record(bytes + a, s.words, &at);
-        if (faces < 0) return s;
-        s.faces += (uint64_t)faces;
-    }
-    if (at != s.words) return s;
+    if (!records(bytes + a, s.words, s.cells, &s.faces)) return s;
     s.refusal = 45;
-    for (uint64_t i = 0; s.edition == 2 && i < s.cells; i++)
-        if (word_at(bytes + end + 4 * i) > 255) return s;
+    if (s.edition == 2 && !zones_at_most(bytes + end, s.cells, 255)) return s;
     s.refusal = 0;
     return s;
+}
+
+unsigned due_conversion(const survey *s, const uint8_t *bytes, uint64_t edition, int fits) {
+    if ((edition != 1 && edition != 2) || s->edition == edition) return 1;
+    if (s->refusal) return s->refusal;
+    if (edition == 1 && !zones_at_most(bytes + 24 * s->points + 4 * s->words + 32 * s->cells, s->cells, 0)) return 46;
+    return fits ? 0 : 47;
+}
+
+/* The counts are edition, dimension, points, words and cells; the lengths those of points, words, velocities, pressures and zones. */
+unsigned due_writing(const uint64_t *counts, const size_t *lengths, const uint8_t *words, const uint8_t *zones, int fits) {
+    uint64_t edition = counts[0], p = counts[2], w = counts[3], c = counts[4], faces = 0;
+    if ((edition != 1 && edition != 2) || (counts[1] != 2 && counts[1] != 3)) return 1;
+    if ((unsigned __int128)3 * p != lengths[0] || w != lengths[1] || (unsigned __int128)3 * c != lengths[2]) return 1;
+    if (c != lengths[3] || c != lengths[4]) return 1;
+    if (p > 65536 || c > 16384 || w > 1048576) return 2;
+    if (!records(words, w, c, &faces)) return 3;
+    if (!zones_at_most(zones, c, 255)) return 45;
+    if (edition == 1 && !zones_at_most(zones, c, 0)) return 46;
+    return fits ? 0 : 47;
 }
 
 static double float_at(const uint8_t *p) {

@@ -1,4 +1,5 @@
-/* A library with a fault, for `run --self-test`: the job with one thing wrong afterwards. FAULT says which. */
+/* A library with a fault, for `run --self-test`: the job, the converter or the writer with one thing wrong afterwards. FAULT says
+ * which: 1 to 20 for the job, 21 to 32 for the converter, 33 to 44 for the writer, then some for one of these two alone. */
 #include "../../include/hookyellow.h"
 #include <string.h>
 
@@ -70,4 +71,63 @@ uint64_t __wrap_hookyellow_job(GIVEN) {
         second = case_length >= 32 && case_bytes[case_length - 32] > 100;
     }
     return result;
+}
+
+static uint32_t word_at(const uint8_t *p) {
+    uint32_t w;
+    memcpy(&w, p, 4);
+    return w;
+}
+
+/* What can go wrong with a file that is made, one thing for each of 12 kinds. */
+static void spoil(int kind, hookyellow_written *r, uint8_t *out, size_t out_length) {
+    static int made;
+    int file = !r->refusal;
+    switch (kind) {
+    case 0: out[out_length] ^= 1; break;                               /* one byte past the end */
+    case 1: out[-1] ^= 1; break;                                       /* the byte before the output */
+    case 2: if (!file && out_length) out[0] ^= 1; break;               /* the output under a refusal */
+    case 3: if (file && r->length < out_length) out[r->length] ^= 1; break; /* a byte after the file */
+    case 4: if (r->refusal == 47) r->refusal = 46; break;              /* another refusal */
+    case 5: if (r->refusal == 45) r->refusal = 3; break;               /* another one */
+    case 6: if (r->refusal == 1) r->refusal = 48; break;               /* one that is none */
+    case 7: if (file) out[r->length - 8] ^= 1; break;                  /* a file that cannot be read */
+    case 8: if (file && r->length > 100) out[0] ^= 1; break;           /* another float */
+    case 9: r->length++; break;                                        /* another length */
+    case 10: if (file && out[7] == 0x7f && out[6] == 0xf0) out[6] ^= 8; break; /* another NaN */
+    case 11: if (file && ++made % 2 == 0 && r->length > 100) out[8] ^= 1; break; /* another float in every second file */
+    }
+}
+
+hookyellow_written __real_hookyellow_convert(const uint8_t *case_bytes, size_t case_length, size_t edition, uint8_t *out,
+                                             size_t out_length);
+
+hookyellow_written __wrap_hookyellow_convert(const uint8_t *case_bytes, size_t case_length, size_t edition, uint8_t *out,
+                                             size_t out_length) {
+    hookyellow_written r = __real_hookyellow_convert(case_bytes, case_length, edition, out, out_length);
+    spoil(FAULT - 21, &r, out, out_length);
+    size_t cells = r.refusal ? 0 : word_at(out + r.length - 20);
+    if (FAULT == 45 && edition == 2 && cells) out[r.length - 36 - 4 * cells] = 1;                   /* a zone that is not 0 */
+    if (FAULT == 46 && case_length) ((uint8_t *)case_bytes)[0] ^= 1;                                /* the case */
+    if (FAULT == 47 && r.refusal == 46) r.refusal = 47;                                             /* another refusal for a zone */
+    return r;
+}
+
+#define PARTS \
+    hookyellow_counts counts, const uint64_t *points, size_t points_length, const uint32_t *words, size_t words_length, \
+        const uint64_t *velocities, size_t velocities_length, const uint64_t *pressures, size_t pressures_length, \
+        const uint32_t *zones, size_t zones_length, uint8_t *out, size_t out_length
+
+hookyellow_written __real_hookyellow_write_case(PARTS);
+
+hookyellow_written __wrap_hookyellow_write_case(PARTS) {
+    hookyellow_written r = __real_hookyellow_write_case(counts, points, points_length, words, words_length, velocities,
+                                                        velocities_length, pressures, pressures_length, zones, zones_length, out,
+                                                        out_length);
+    int long_edition = counts.edition == 1 || counts.edition == 2, rest = words_length == counts.words && zones_length == counts.cells;
+    spoil(FAULT - 33, &r, out, out_length);
+    if (FAULT == 48 && zones_length) ((uint32_t *)zones)[0] ^= 1;                                   /* a part */
+    if (FAULT == 49) *(volatile const uint32_t *)(zones + zones_length);                            /* a read past the end */
+    if (FAULT == 50 && r.refusal == 1 && long_edition && rest && 3 * counts.points == points_length) r.refusal = 2; /* modulo 2^64 */
+    return r;
 }

@@ -2,15 +2,16 @@
  * and ends the process by abort() where anything differs from what include/hookyellow.h and docs/01-scope.md say.
  *
  * Input: 32 bytes of header, then the case and the requests.
- *   0 function, modulo 32: 1 to 14 the single requests, 15 hookyellow_needs, else hookyellow_job
+ *   0 function, modulo 32: 1 to 14 the single requests, 15 hookyellow_needs, 16 the converter, 17 the writer, else hookyellow_job
  *   1 form: bit 0 the case bytes are taken as they are; else P, W, C below give the trailer, bit 1 the dimension and bit 4
  *           edition 2, whose zones stand behind the pressures.
  *           bit 2 request bytes that are no multiple of 128 stay. bit 3 buffers start at a guard page; else they end near one
  *   2 lengths of words, floats, marks, answers, a byte each (see length_of)
  *   6 canary bytes behind case and requests, 7 canary elements behind words, floats, marks and answers
- *   8 P, W, C; 20 the length of the case bytes taken as they are; 24 seed of what the buffers hold; 28 least number of requests */
+ *   8 P, W, C; 20 the length of the case bytes taken as they are; 24 seed of what the buffers hold; 28 least number of requests
+ * Bytes 2 to 4 are lengths of outputs for the writer and the converter; behind the case stand changes for the writer (see files.c). */
 #include "../../include/hookyellow.h"
-#include "area.h"
+#include "files.h"
 
 enum { MOST_CASE = 5 << 20, MOST_REQUESTS = 5000 };
 enum { MOST_WORDS = 3 << 20, MOST_FLOATS = 2 << 20, MOST_MARKS = 1 << 16, MOST_ANSWERS = 1 << 16 };
@@ -26,6 +27,7 @@ typedef struct lengths {
 int LLVMFuzzerInitialize(int *argc, char ***argv) {
     (void)argc, (void)argv;
     make_areas();
+    make_file_areas();
     case_area = map_area(MOST_CASE);
     request_area = map_area(MOST_REQUESTS * REQUEST);
     word_area = map_area(4 * MOST_WORDS);
@@ -269,27 +271,36 @@ static void try_needs(const uint8_t *header, const survey *s, lengths n, uint32_
     if (!untouched(&answer_area, stores ? 24 : 0)) violated("hookyellow_needs stores more than three needs, or under a refusal");
 }
 
+static void try_requests(const uint8_t *header, const survey *s) {
+    uint64_t floats = s->refusal ? 0 : 12 * s->faces + 64 * s->cells, words = s->refusal ? 0 : 16 * s->faces + 96 * s->cells;
+    uint64_t marks = s->refusal ? 0 : s->cells, answers = 2 * (request_length / REQUEST);
+    lengths n = {length_of(header[2], words, MOST_WORDS), length_of(header[3], floats, MOST_FLOATS),
+                 length_of(header[4], marks, MOST_MARKS), length_of(header[5], answers, MOST_ANSWERS)};
+    uint32_t seed = word_at(header + 24);
+    unsigned function = header[0] & 31;
+    if (function >= 1 && function <= 14) {
+        try_single(header, s, n, seed);
+    } else if (function == NEEDS) {
+        try_needs(header, s, n, seed);
+    } else {
+        lay_all(header, n, seed);
+        check_job(run_job(n), s, n);
+    }
+}
+
 int LLVMFuzzerTestOneInput(const uint8_t *data, size_t size) {
     if (size < HEADER) return 0;
     const uint8_t *header = data, *body = data + HEADER;
     size -= HEADER;
     size_t taken = cut_case(header, body, size);
     if (taken == SIZE_MAX) return 0;
-    cut_requests(header, body + taken, size - taken);
     survey s = survey_case(case_bytes, case_length);
-    uint64_t floats = s.refusal ? 0 : 12 * s.faces + 64 * s.cells, words = s.refusal ? 0 : 16 * s.faces + 96 * s.cells;
-    uint64_t marks = s.refusal ? 0 : s.cells, answers = 2 * (request_length / REQUEST);
-    lengths n = {length_of(header[2], words, MOST_WORDS), length_of(header[3], floats, MOST_FLOATS),
-                 length_of(header[4], marks, MOST_MARKS), length_of(header[5], answers, MOST_ANSWERS)};
-    uint32_t seed = word_at(header + 24);
-    unsigned function = header[0] & 31;
-    if (function >= 1 && function <= 14) {
-        try_single(header, &s, n, seed);
-    } else if (function == 15) {
-        try_needs(header, &s, n, seed);
-    } else {
-        lay_all(header, n, seed);
-        check_job(run_job(n), &s, n);
+    switch (header[0] & 31) {
+    case CONVERTER: try_convert(header, case_bytes, case_length, &s); break;
+    case WRITER: try_write(header, case_bytes, case_length, &s, body + taken, size - taken); break;
+    default:
+        cut_requests(header, body + taken, size - taken);
+        try_requests(header, &s);
     }
     return 0;
 }

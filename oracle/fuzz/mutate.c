@@ -1,5 +1,5 @@
 /* Changes of an input that keep its layout: half of them go to one header byte, one word of the
- * definitions, one float, one zone, one request or the point of one. */
+ * definitions, one float, one zone, one request or the point of one, or one number for the writer. */
 #include "area.h"
 
 size_t LLVMFuzzerMutate(uint8_t *data, size_t size, size_t most);
@@ -55,6 +55,12 @@ static void change_zone(uint8_t *place, const uint8_t *run, size_t cells) {
     memcpy(place, &zone, 4);
 }
 
+/* One of the ten numbers that change what the writer is given; three times the last two are 1 and 2 modulo 2^64. */
+static void change_number(uint8_t *run) {
+    static const uint64_t odd[] = {0, 0, 1, 2, UINT64_MAX, 100, 1ull << 32, 1ull << 63, 0xaaaaaaaaaaaaaaab, 0x5555555555555556};
+    memcpy(run + 8 * below(10), &odd[below(10)], 8);
+}
+
 /* Puts the point of a request at a point of the case, in the middle between two of them, or beside
  * one of these: at a vertex, on a side. */
 static void change_point(uint8_t *request, const uint8_t *points, uint64_t count) {
@@ -76,6 +82,7 @@ static int change_part(uint8_t *data, size_t size) {
     uint64_t requests = zones + (data[1] & 16 ? 4 * c : 0);
     if (data[1] & 1 || requests > size) return 0;
     size_t count = (size - requests) / REQUEST;
+    int writer = (data[0] & 31) == WRITER && size - requests >= NUMBERS;
     switch (below(10)) {
     case 0: data[below(8)] = (uint8_t)below(256); return 1;
     case 1: if (p) change_float(data + HEADER + 8 * below(3 * p), data + HEADER, 3 * p); return 1;
@@ -83,7 +90,10 @@ static int change_part(uint8_t *data, size_t size) {
     case 4: if (c) change_float(data + fields + 8 * below(4 * c), data + fields, 4 * c); return 1;
     case 9: if (c && requests > zones) change_zone(data + zones + 4 * below(c), data + zones, c); return 1;
     case 5: if (p && count) change_point(data + requests + REQUEST * below(count), data + HEADER, p); return 1;
-    default: if (count) change_request(data + requests, count); return 1;
+    default:
+        if (writer) change_number(data + requests);
+        else if (count) change_request(data + requests, count);
+        return 1;
     }
 }
 
