@@ -1,5 +1,7 @@
 // Reads case.bin and requests.bin from the folder it runs in, runs the job, and prints the answers
 // and the cells that were read, or the refusal.
+#![tactic(auto)]
+
 ghost use Rattle.std.specs.Prelude.{◌≤◌, length};
 
 use libc::STDOUT_FILENO;

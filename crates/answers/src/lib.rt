@@ -1,4 +1,6 @@
 // The words of an answer, written to a slice as far as they fit, and what a job stores beside them.
+#![tactic(auto)]
+
 pub mod buffers;
 
 ghost use Rattle.std.specs.Prelude.{◌≡◌, ◌<◌, set};
@@ -10,7 +12,7 @@ use arith::{Vec3, bytes};
 use reading::Values;
 
 // How many words the whole answer has, or its refusal.
-#[derive(Drop)]
+#[derive(Clone, Copy)]
 pub enum Answered {
     Words(usize),
     Refused(u64),

@@ -1,5 +1,7 @@
 // The arithmetic that mesh, lines and planes are written in: numbers in bytes, counts, Rust's methods
 // of f64, vectors, and the sides that a line crosses.
+#![tactic(auto)]
+
 pub mod bytes;
 pub mod float;
 pub mod number;
@@ -7,7 +9,7 @@ pub mod polygon;
 mod vector;
 
 // A point or a vector of the room.
-#[derive(Drop)]
+#[derive(Clone, Copy)]
 pub struct Vec3 {
     pub x: f64,
     pub y: f64,
@@ -15,14 +17,14 @@ pub struct Vec3 {
 }
 
 // A point or a vector of a plane.
-#[derive(Drop)]
+#[derive(Clone, Copy)]
 pub struct Vec2 {
     pub x: f64,
     pub y: f64,
 }
 
 // Where something was found.
-#[derive(Drop)]
+#[derive(Clone, Copy)]
 pub enum Found {
     At(usize),
     Nothing,

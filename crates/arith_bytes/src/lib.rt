@@ -1,4 +1,6 @@
 // Numbers stored as bytes, the low byte first, and bytes copied.
+#![tactic(auto)]
+
 ghost use Rattle.std.specs.Prelude.{◌≡◌, ◌+◌, ◌*◌, ◌≤◌, length, take};
 ghost use Rattle.arith_bytes.specs.Stored.{le_bytes, all_bytes, stored};
 

@@ -1,4 +1,6 @@
 // The square root of an f64, rounded once to the nearest f64.
+#![tactic(auto)]
+
 ghost use Rattle.std.specs.Prelude.{◌≡◌, ◌+◌, ◌*◌, ◌^◌, ◌≤◌, ◌<◌};
 ghost use Rattle.std.specs.Float.{binary64};
 ghost use Rattle.std.specs.Float.Ieee.{of_bits};
@@ -55,7 +57,7 @@ fn any_estimate(x: f64, b: u64) -> f64 {
 }
 
 // A positive finite float as `a` * 2^(`h` - 2098), where `a` has 53 binary digits.
-#[derive(Drop)]
+#[derive(Clone, Copy)]
 struct Parts {
     a: u64,
     h: u64,

@@ -1,4 +1,6 @@
 // The whole number nearest to a square root: checked where one is given, else digit by digit.
+#![tactic(auto)]
+
 ghost use Rattle.std.specs.Prelude.{T, ◌+◌, ◌*◌, ◌^◌, ◌<◌};
 ghost use Rattle.arith_whole_root.specs.Whole.{WholeRoot, RootFrom, HalfRoot};
 

@@ -1,5 +1,7 @@
 // The job, each request alone, how much a case needs, and case files written and converted, for
 // programs in other languages.
+#![tactic(auto)]
+
 mod alone;
 mod files;
 

@@ -1,9 +1,11 @@
 // The values that the exported functions take and give.
+#![tactic(auto)]
+
 pub mod convert;
 
 // A point or a vector.
 #[repr(C)]
-#[derive(Drop)]
+#[derive(Clone, Copy)]
 pub struct Vector {
     pub x: f64,
     pub y: f64,
@@ -12,7 +14,7 @@ pub struct Vector {
 
 // The plane of a section, with its axes.
 #[repr(C)]
-#[derive(Drop)]
+#[derive(Clone, Copy)]
 pub struct SectionPlane {
     pub origin: Vector,
     pub u: Vector,
@@ -22,7 +24,7 @@ pub struct SectionPlane {
 // How a line is followed, and whether a point is looked for in all cells, not in those of its bin
 // alone.
 #[repr(C)]
-#[derive(Drop)]
+#[derive(Clone, Copy)]
 pub struct LineOptions {
     pub step_size: f64,
     pub max_steps: usize,
@@ -33,7 +35,7 @@ pub struct LineOptions {
 
 // What a case file says of itself.
 #[repr(C)]
-#[derive(Drop)]
+#[derive(Clone, Copy)]
 pub struct CaseCounts {
     pub edition: usize,
     pub dimension: usize,
@@ -44,7 +46,7 @@ pub struct CaseCounts {
 
 // 0 and a file's length; or the refusal and 0.
 #[repr(C)]
-#[derive(Drop)]
+#[derive(Clone, Copy)]
 pub struct WrittenFile {
     pub refusal: u64,
     pub length: usize,

@@ -1,16 +1,18 @@
 // The definition words of a case, and the walker over them. They are read where they stand in the case
 // bytes.
+#![tactic(auto)]
+
 pub mod walker;
 
 // A position among the definition words.
-#[derive(Drop)]
+#[derive(Clone, Copy)]
 pub struct Cursor {
     pub at: usize,
 }
 
 // A record of the definition words: its kind word stands at `at`, its point numbers, or a
 // polyhedron's faces, from `first` on.
-#[derive(Drop)]
+#[derive(Clone, Copy)]
 pub struct Head {
     pub kind: u32,
     pub faces: usize,
@@ -19,28 +21,28 @@ pub struct Head {
 }
 
 // The record at a cursor, with the cursor after it; or the refusal.
-#[derive(Drop)]
+#[derive(Clone, Copy)]
 pub enum Step {
     Record(Head, Cursor),
     Wrong(u64),
 }
 
 // The number of faces of all records, or the refusal.
-#[derive(Drop)]
+#[derive(Clone, Copy)]
 pub enum Walked {
     Faces(usize),
     Refused(u64),
 }
 
 // A count with as many words after it.
-#[derive(Drop)]
+#[derive(Clone, Copy)]
 enum Listed {
     Count(usize),
     Bad,
 }
 
 // The position after some faces of a polyhedron; or the refusal.
-#[derive(Drop)]
+#[derive(Clone, Copy)]
 pub enum Skipped {
     To(usize),
     Short(u64),

@@ -13,7 +13,7 @@ use arith::bytes;
 use case_file::Counts;
 
 // The definition words, from a position on.
-#[derive(Drop)]
+#[derive(Clone, Copy)]
 struct Walker<'a> {
     words: &'a [u8],
     at: usize,

@@ -1,4 +1,6 @@
 // The faces of a record of the definition words, one after another.
+#![tactic(auto)]
+
 ghost use Rattle.std.specs.Prelude.{◌≡◌, [], ◌∷◌, ◌+◌, ◌≤◌, ◌<◌, length, get_or};
 ghost use Rattle.arith.specs.Lists.{after};
 ghost use Rattle.arith.specs.Records.{puts};
@@ -9,21 +11,21 @@ ghost use Rattle.case_faces.specs.Ensures.{AtFace, CopyFaceExit, places_of, tabl
 use case_definitions::{Head, walker};
 
 // A face of a solid: its places among the cell's point numbers.
-#[derive(Drop)]
+#[derive(Clone, Copy)]
 enum Places {
     Three(usize, usize, usize),
     Four(usize, usize, usize, usize),
 }
 
 // A face of a record, by its number; `at` is where a polyhedron's face starts.
-#[derive(Drop)]
+#[derive(Clone, Copy)]
 pub struct FaceCursor {
     pub face: usize,
     pub at: usize,
 }
 
 // A face's point numbers were copied: how many, and the next face.
-#[derive(Drop)]
+#[derive(Clone, Copy)]
 pub struct Copied {
     pub count: usize,
     pub next: FaceCursor,

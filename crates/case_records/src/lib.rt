@@ -1,6 +1,8 @@
 // Definition words that stand in a slice of u32, walked record by record: the refusal of the words
 // is the one of a case's bytes. The functions that end in _end answer the position after what stands
 // at a position.
+#![tactic(auto)]
+
 ghost use Rattle.std.specs.Prelude.{◌≡◌, true, ◌+◌, ◌*◌, ◌≤◌, ◌<◌, length, get_or, drop};
 ghost use Rattle.case_definitions.specs.Definitions.{numbers, counted, face_lists, definition, definitions};
 ghost use Rattle.case_definitions.specs.Faces.{face_count};
@@ -10,7 +12,7 @@ ghost use Rattle.case_records.specs.Ensures.{checked};
 use case_definitions::Skipped;
 
 // Nothing is refused; or the refusal.
-#[derive(Drop)]
+#[derive(Clone, Copy)]
 pub enum Checked {
     Right,
     Wrong(u64),

@@ -1,11 +1,13 @@
 // The survey of a case, before anything is made of it.
+#![tactic(auto)]
+
 ghost use Rattle.case_survey.specs.Ensures.{SurveyExit};
 
 use case_definitions::{Walked, walker};
 use case_file::{Counts, Opened, field, trailer};
 
 // The counts of a case and the number of faces of all its definitions, or refusal 1, 2, 3 or 45.
-#[derive(Drop)]
+#[derive(Clone, Copy)]
 pub enum Surveyed {
     Case(Counts, usize),
     Refused(u64),

@@ -1,5 +1,7 @@
 // The writer of case files, from dimension, counts and parts to the bytes of a file of either
 // edition; and the converter from one edition to the other.
+#![tactic(auto)]
+
 ghost use Rattle.std.specs.Prelude.{◌≡◌};
 ghost use Rattle.case_file.specs.Trailer.{opened};
 ghost use Rattle.case_contents.specs.Contents.{contents_of, in_edition};
@@ -16,7 +18,7 @@ mod checks;
 mod parts;
 
 // The file's length; or the refusal, under which the output is as it was.
-#[derive(Drop)]
+#[derive(Clone, Copy)]
 pub enum Written {
     Length(usize),
     Refused(u64),

@@ -1,4 +1,6 @@
 // The bytes of one request, from its arguments.
+#![tactic(auto)]
+
 ghost use Rattle.std.specs.Prelude.{◌≡◌, ◌≤◌, ◌<◌};
 ghost use Rattle.std.proofs.lemmas.List.Edits.{sets};
 ghost use Rattle.job_requests.specs.Encode.{bytes_of};

@@ -1,4 +1,6 @@
 // How much a case needs.
+#![tactic(auto)]
+
 ghost use Rattle.std.specs.Prelude.{◌≡◌, length};
 ghost use Rattle.case_survey.specs.Survey.{survey_of};
 ghost use Rattle.job_needs.specs.Needs.{needs_number, needs_of};

@@ -1,9 +1,11 @@
 // The job's result, and its number; what a run of the job promises stands in specs/.
+#![tactic(auto)]
+
 ghost use Rattle.std.specs.Prelude.{◌≡◌};
 ghost use Rattle.job_promise.specs.Job.{number_of};
 
 // The job's result.
-#[derive(Drop)]
+#[derive(Clone, Copy)]
 pub enum Outcome {
     Done,
     Refused(u64),

@@ -1,4 +1,6 @@
 // A request: 16 words of 8 bytes, taken apart. Refusals 30 to 33 and 36 to 38.
+#![tactic(auto)]
+
 mod codes;
 pub mod encode;
 
@@ -18,14 +20,14 @@ use planes_cut::{Plane, axes};
 
 // A row of the table of codes: the dimension that a code needs, how many words it uses, and the
 // word at which the arguments of its lines start.
-#[derive(Drop)]
+#[derive(Clone, Copy)]
 pub struct Code {
     pub dimension: usize,
     pub used: usize,
     pub line: usize,
 }
 
-#[derive(Drop)]
+#[derive(Clone, Copy)]
 pub enum Request {
     Refused(u64),
     Locate(Vec3, Search),

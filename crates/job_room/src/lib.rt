@@ -1,4 +1,6 @@
 // The room of a case: its mesh in the work area and, in 2D, its field. Refusals 1 to 19, and 45.
+#![tactic(auto)]
+
 ghost use Rattle.std.specs.Prelude.{◌≤◌, ◌≡◌, List, length};
 ghost use Rattle.arith.specs.Limits.{most_cells, most_words};
 ghost use Rattle.reading.specs.Result.{fine};
@@ -19,14 +21,14 @@ use lines_velocity::Tracer;
 use mesh_area::Sizes;
 
 // Where a room stands in the work area.
-#[derive(Drop)]
+#[derive(Clone, Copy)]
 pub enum Place {
     Flat(Tracer),
     Solid(Counts, Sizes),
 }
 
 // The room, or the refusal.
-#[derive(Drop)]
+#[derive(Clone, Copy)]
 pub enum Prepared {
     Ready(Place),
     Refused(u64),

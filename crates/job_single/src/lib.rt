@@ -1,4 +1,6 @@
 // Each request alone, as a job of one: it starts from the case bytes too.
+#![tactic(auto)]
+
 ghost use Rattle.std.specs.Prelude.{◌≡◌, length};
 ghost use Rattle.job_requests.specs.Encode.{bytes_of};
 ghost use Rattle.job_promise.specs.Job.{number_of, outcome_of};

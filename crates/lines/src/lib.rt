@@ -1,4 +1,6 @@
 // Streamlines over a 2D case: `integrate` and `integrate_rake`.
+#![tactic(auto)]
+
 pub mod integrate;
 mod line;
 pub mod rakes;
@@ -6,21 +8,21 @@ pub mod rakes;
 use arith::Vec3;
 use lines_step::StreamlineOptions;
 
-#[derive(Drop)]
+#[derive(Clone, Copy)]
 pub enum StreamlineDirection {
     Forward,
     Backward,
 }
 
 // How a line is traced.
-#[derive(Drop)]
+#[derive(Clone, Copy)]
 pub struct StreamlineSettings {
     pub direction: StreamlineDirection,
     pub options: StreamlineOptions,
 }
 
 // `count` seeds, spread from `start` to `end`.
-#[derive(Drop)]
+#[derive(Clone, Copy)]
 pub struct Rake {
     pub start: Vec3,
     pub end: Vec3,

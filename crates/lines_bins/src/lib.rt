@@ -1,6 +1,8 @@
 // An index of bins in the words of a work area: for each bin the chain of the cells that are listed
 // in it, rising. From `base` on there are n records of 8 words, which start with a cell's range:
 // first x and y, last x and y. The index stands behind them, where it fits.
+#![tactic(auto)]
+
 ghost use Rattle.std.specs.Prelude.{◌≡◌, ◌+◌, ◌*◌, ◌≤◌, ◌<◌, length};
 ghost use Rattle.arith.specs.Limits.{most_cells, 2^32};
 ghost use Rattle.lines_bins.specs.Index.{range_word, flag_in, pool_in, within};

@@ -1,5 +1,7 @@
 // The bins of a grid, and the lowest cell that contains a point, of those listed in its bin or of all:
 // `locate_cell`. The polygons stand in the lent work area.
+#![tactic(auto)]
+
 ghost use Rattle.std.specs.Prelude.{◌≡◌, ◌+◌, ◌*◌, ◌%◌, ◌<◌, ◌≤◌, length, List, Float, true, not};
 ghost use Rattle.arith.specs.Limits.{most_cells, most_words, most_bins};
 ghost use Rattle.arith.specs.F64.{finite, ofℕ, floorℕ};
@@ -23,14 +25,14 @@ use lines_polygon::{Position, extent};
 use mesh_area::Sizes;
 
 // A bin, or the number of bins each way.
-#[derive(Drop)]
+#[derive(Clone, Copy)]
 pub struct Bin {
     pub x: usize,
     pub y: usize,
 }
 
 // The smallest box about some points.
-#[derive(Drop)]
+#[derive(Clone, Copy)]
 pub struct Box {
     pub left: f64,
     pub bottom: f64,
@@ -39,21 +41,21 @@ pub struct Box {
 }
 
 // The bounds of a field, and its bin counts.
-#[derive(Drop)]
+#[derive(Clone, Copy)]
 pub struct Grid {
     pub bounds: Box,
     pub bins: Bin,
 }
 
 // Which cells a point is looked for in: those that are listed in its bin, or all.
-#[derive(Drop)]
+#[derive(Clone, Copy)]
 pub enum Search {
     Bins,
     All,
 }
 
 // The cell that a point locates in, and where the point lies to its polygon; outside where there is none.
-#[derive(Drop)]
+#[derive(Clone, Copy)]
 pub struct Located {
     pub cell: Found,
     pub position: Position,
@@ -132,7 +134,7 @@ pub fn index_bin(g: Grid, p: Vec2) -> Bin
 }
 
 // The bin of a point, and that of the index.
-#[derive(Drop)]
+#[derive(Clone, Copy)]
 struct Places {
     bin: Bin,
     index: Bin,

@@ -1,4 +1,6 @@
 // Metres in whole millimetres.
+#![tactic(auto)]
+
 ghost use Rattle.std.specs.Prelude.{true, ◌≡◌, ◌*◌, ◌^◌, ◌≤◌, ◌<◌, Float};
 ghost use Rattle.arith_root.specs.Ensures.{units_of};
 ghost use Rattle.lines_millimetres.specs.Nearest as Nearest;
@@ -7,7 +9,7 @@ ghost use Rattle.lines_millimetres.specs.Ensures.{OnlyNearest};
 use arith::float;
 
 // Where an exact half goes.
-#[derive(Drop)]
+#[derive(Clone, Copy)]
 pub enum Rounding {
     AwayFromZero,
     ToEven,

@@ -1,4 +1,6 @@
 // Where a point lies to a polygon, whose vertices stand as x and y from `at` on: `point_in_polygon`.
+#![tactic(auto)]
+
 pub mod extent;
 
 ghost use Rattle.std.specs.Prelude.{◌≡◌, ◌+◌, ◌*◌, ◌<◌, ◌≤◌, length};
@@ -11,7 +13,7 @@ use arith::polygon::crosses;
 use arith::{Vec2, float};
 
 // Where a point lies to a polygon: outside, on an edge, within 1e-12, or inside.
-#[derive(Drop)]
+#[derive(Clone, Copy)]
 pub enum Position {
     Outside,
     Edge,
@@ -30,7 +32,7 @@ pub fn is_within(p: Position) -> bool
 }
 
 // A polygon contains no point below `low`, above `high`, to the right of `right` or to the left of `left`.
-#[derive(Drop)]
+#[derive(Clone, Copy)]
 pub struct Limits {
     pub low: f64,
     pub high: f64,
@@ -39,7 +41,7 @@ pub struct Limits {
 }
 
 // The ends of a side of a polygon: a vertex and the next one.
-#[derive(Drop)]
+#[derive(Clone, Copy)]
 struct Ends {
     from: Vec2,
     to: Vec2,

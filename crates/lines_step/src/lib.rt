@@ -1,4 +1,6 @@
 // A Runge-Kutta step, a function for each of its four directions, and one step of a line.
+#![tactic(auto)]
+
 ghost use Rattle.std.specs.Prelude.{◌≡◌};
 ghost use Rattle.reading.specs.Served.{Served};
 ghost use Rattle.case_file.specs.Field.{values_of};
@@ -13,13 +15,13 @@ use lines_velocity::interpolate::{direction_at, locate};
 use lines_velocity::{Tracer, Vector};
 
 // The next point with its segment length, or that the line ends.
-#[derive(Drop)]
+#[derive(Clone, Copy)]
 pub enum Step {
     Next(Vec3, f64),
     Ended,
 }
 
-#[derive(Drop)]
+#[derive(Clone, Copy)]
 pub struct StreamlineOptions {
     pub step_size: f64,
     pub max_steps: usize,
@@ -28,7 +30,7 @@ pub struct StreamlineOptions {
 }
 
 // Where a step starts, how long it is (below 0 backward), and the speed that ends a line.
-#[derive(Drop)]
+#[derive(Clone, Copy)]
 struct StepStart {
     point: Vec3,
     step: f64,

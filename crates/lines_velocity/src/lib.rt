@@ -1,4 +1,6 @@
 // The velocity at a point of a 2D case, and its direction.
+#![tactic(auto)]
+
 pub mod interpolate;
 
 ghost use Rattle.std.specs.Prelude.{◌≡◌};
@@ -11,7 +13,7 @@ use mesh_area::Sizes;
 
 // What a 2D case is traced with: its counts, the sizes of its work area, the grid of its bins, which
 // cells a point is looked for in, and the zone that a line stays in.
-#[derive(Drop)]
+#[derive(Clone, Copy)]
 pub struct Tracer {
     pub counts: Counts,
     pub sizes: Sizes,
@@ -21,14 +23,14 @@ pub struct Tracer {
 }
 
 // A velocity, a direction or a point; or that there is none.
-#[derive(Drop)]
+#[derive(Clone, Copy)]
 pub enum Vector {
     Here(Vec3),
     Nowhere,
 }
 
 // A cell, and the squared distance of its centre from a point.
-#[derive(Drop)]
+#[derive(Clone, Copy)]
 struct Near {
     cell: usize,
     distance_squared: f64,

@@ -1,5 +1,7 @@
 // The words of a line: its points, or its sheet in whole millimetres. A pen goes from point to
 // point, and no list of them is held.
+#![tactic(auto)]
+
 ghost use Rattle.std.specs.Prelude.{◌≡◌, ◌-◌, ◌<◌, set};
 ghost use Rattle.std.proofs.lemmas.List.Edits.{sets};
 ghost use Rattle.arith.specs.Limits.{2^32};
@@ -11,14 +13,14 @@ use arith::Vec3;
 use lines_millimetres::Rounding;
 
 // What is written of a line: its points by their floats, or in whole millimetres.
-#[derive(Drop)]
+#[derive(Clone, Copy)]
 pub enum Style {
     Points,
     Sheet(Rounding),
 }
 
 // x and y of a point in whole millimetres.
-#[derive(Drop)]
+#[derive(Clone, Copy)]
 pub struct SheetPoint {
     pub x: i64,
     pub y: i64,
@@ -26,7 +28,7 @@ pub struct SheetPoint {
 
 // What was written of a line: in which style, from which word on, how many points, and the last one
 // of a sheet.
-#[derive(Drop)]
+#[derive(Clone, Copy)]
 pub struct Pen {
     pub style: Style,
     pub at: usize,

@@ -1,4 +1,6 @@
 // What `airjob` prints: a line for each answer, then the cells that were read; or the refusal.
+#![tactic(auto)]
+
 ghost use Rattle.std.specs.Prelude.{◌+◌, min, ◌≡◌, length, set};
 ghost use Rattle.listing.specs.Listing.{decimal_text, hex_text, words_text, answer_text, answers_text, marks_text, done_text, refused_text};
 ghost use Rattle.listing.specs.Ensures.{end_in, PutExit, ListingExit};

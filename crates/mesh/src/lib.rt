@@ -1,4 +1,6 @@
 // UnstructuredMesh::from_cells: the mesh of a case, into the lent work area.
+#![tactic(auto)]
+
 ghost use Rattle.std.specs.Prelude.{◌≡◌, ◌+◌, ◌*◌, ◌<◌, ◌≤◌, length, List};
 ghost use Rattle.arith.specs.Limits.{most_cells, most_words};
 ghost use Rattle.mesh_area.specs.Layout.{points_in};
@@ -22,7 +24,7 @@ use mesh_cells::CellsAdded;
 use mesh_centres::Finished;
 
 // The mesh in the area, or the refusal.
-#[derive(Drop)]
+#[derive(Clone, Copy)]
 pub enum Built {
     Mesh(Sizes),
     Refused(u64),

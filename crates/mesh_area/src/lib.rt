@@ -1,5 +1,7 @@
 // The mesh as records in the lent work area: what stands where, and the functions that read it.
 // Each reads for every number: past the end it finds what the definition finds there.
+#![tactic(auto)]
+
 ghost use Rattle.std.specs.Prelude.{◌≡◌, List, ℕ, ◌+◌, ◌*◌, ◌≤◌, ◌<◌, length, get_or, take, Float};
 ghost use Rattle.std.specs.Float.{nan};
 ghost use Rattle.arith.specs.Limits.{most_points, most_cells, most_words, 2^32};
@@ -41,7 +43,7 @@ const VOLUME_FLOAT: usize = 3;
 
 // How much the area holds: `slots` is the number of faces of all definitions counted singly,
 // `faces` of those that stand in the table, `cells` of cells.
-#[derive(Drop)]
+#[derive(Clone, Copy)]
 pub struct Sizes {
     pub slots: usize,
     pub faces: usize,

@@ -1,4 +1,6 @@
 // The parts of a cell's partial cell, in the lent area: a face of it in the face table, and its record.
+#![tactic(auto)]
+
 ghost use Rattle.std.specs.Prelude.{◌+◌, ◌*◌, ◌≤◌, ◌<◌, length};
 ghost use Rattle.arith.specs.Limits.{most_points, most_cells, most_words};
 ghost use Rattle.mesh_area.specs.Layout.{points_in};
@@ -12,7 +14,7 @@ use mesh_faces::Added;
 use mesh_geometry::TurnedFace;
 
 // A face's number and the number of faces in the table, or the refusal.
-#[derive(Drop)]
+#[derive(Clone, Copy)]
 pub enum FacePlaced {
     Face(usize, usize),
     Refused(u64),
@@ -20,7 +22,7 @@ pub enum FacePlaced {
 
 // A cell that is added: its number, the average of its points, its record, and where the list of
 // its faces' numbers starts.
-#[derive(Drop)]
+#[derive(Clone, Copy)]
 pub struct NewCell {
     pub number: usize,
     pub reference: Vec3,

@@ -1,4 +1,6 @@
 // The first pass of from_cells: the face table and the cells as partial cells, in the lent area.
+#![tactic(auto)]
+
 ghost use Rattle.std.specs.Prelude.{◌≡◌, List, ◌+◌, ◌*◌, ◌≤◌, ◌<◌, length};
 ghost use Rattle.arith.specs.Limits.{most_points};
 ghost use Rattle.reading.specs.Result.{fine};
@@ -18,14 +20,14 @@ use mesh_cell_parts::{FacePlaced, NewCell};
 use mesh_points::Reference;
 
 // The number of faces in the table, or the refusal.
-#[derive(Drop)]
+#[derive(Clone, Copy)]
 pub enum CellsAdded {
     Faces(usize),
     Refused(u64),
 }
 
 // The next face of the record and the number of faces in the table, or the refusal.
-#[derive(Drop)]
+#[derive(Clone, Copy)]
 enum FaceAdded {
     Next(FaceCursor, usize),
     Refused(u64),
@@ -33,21 +35,21 @@ enum FaceAdded {
 
 // Where the next record starts, where the next cell's lists start, and the number of faces in
 // the table.
-#[derive(Drop)]
+#[derive(Clone, Copy)]
 struct Progress {
     pub at: usize,
     pub first: usize,
     pub faces: usize,
 }
 
-#[derive(Drop)]
+#[derive(Clone, Copy)]
 enum CellAdded {
     Next(Progress),
     Refused(u64),
 }
 
 // The cell and where the next record starts, or the refusal.
-#[derive(Drop)]
+#[derive(Clone, Copy)]
 enum CellFound {
     Cell(NewCell, Cursor),
     Refused(u64),

@@ -1,4 +1,6 @@
 // The second pass of from_cells: each cell's centre and its area or volume (15).
+#![tactic(auto)]
+
 ghost use Rattle.std.specs.Prelude.{◌≡◌, ◌+◌, ◌≤◌, length};
 ghost use Rattle.arith.specs.Records.{puts};
 ghost use Rattle.case_file.specs.Trailer.{words_in};
@@ -11,14 +13,14 @@ use mesh_area::Sizes;
 use mesh_volumes::{CellGeometry, CellMeasure};
 
 // The cells are finished, or one of them has no volume.
-#[derive(Drop)]
+#[derive(Clone, Copy)]
 pub enum Finished {
     Done,
     ZeroVolume,
 }
 
 // Where the next record starts, or that the cell has no volume.
-#[derive(Drop)]
+#[derive(Clone, Copy)]
 enum CellFinished {
     Next(Cursor),
     ZeroVolume,

@@ -1,4 +1,6 @@
 // Whether the cells are connected, over the mesh in the lent work area.
+#![tactic(auto)]
+
 ghost use Rattle.std.specs.Prelude.{◌≡◌, false, ◌+◌, ◌*◌, ◌≤◌, ◌<◌, length};
 ghost use Rattle.arith.specs.Limits.{2^32};
 ghost use Rattle.mesh_area.specs.Layout.{words_end, LentWords};

@@ -1,4 +1,6 @@
 // Refusals 8, 9 and 10: whether a case has cells, and the tests over all its coordinates.
+#![tactic(auto)]
+
 ghost use Rattle.std.specs.Prelude.{◌≡◌, List, length};
 ghost use Rattle.arith.specs.F64.{finite, within};
 ghost use Rattle.arith.specs.Lists.{all_of};

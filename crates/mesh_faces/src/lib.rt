@@ -1,4 +1,6 @@
 // The use of a face by a cell, over the face table of `from_cells` in the lent area.
+#![tactic(auto)]
+
 ghost use Rattle.std.specs.Prelude.{◌≡◌, ◌*◌, replicate};
 ghost use Rattle.std.proofs.lemmas.List.Edits.{sets};
 ghost use Rattle.mesh_area.specs.Layout.{LentWords};
@@ -8,7 +10,7 @@ use arith::number::narrow;
 use mesh_area::Sizes;
 use mesh_geometry::FaceGeometry;
 
-#[derive(Drop)]
+#[derive(Clone, Copy)]
 pub enum Added {
     // the face is new, and has this number
     New(usize),

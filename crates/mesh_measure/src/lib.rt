@@ -1,4 +1,6 @@
 // The geometry of one cell of a case (15).
+#![tactic(auto)]
+
 ghost use Rattle.std.specs.Prelude.{◌≡◌, ◌≤◌, ◌<◌, length, get_or};
 ghost use Rattle.arith.specs.Lists.{fold};
 ghost use Rattle.reading.specs.Result.{steps};
@@ -16,21 +18,21 @@ use mesh_geometry::TurnedFace;
 use mesh_volumes::{CellMeasure, Weight};
 
 // A sum with a face more, and the next face.
-#[derive(Drop)]
+#[derive(Clone, Copy)]
 struct Weighed {
     pub weight: Weight,
     pub next: FaceCursor,
 }
 
 // The same in 3D, or that the face is degenerate.
-#[derive(Drop)]
+#[derive(Clone, Copy)]
 enum FaceWeight {
     Added(Weighed),
     Degenerate,
 }
 
 // The sum over all faces in 3D, or that one is degenerate.
-#[derive(Drop)]
+#[derive(Clone, Copy)]
 enum CellWeight {
     Sum(Weight),
     Degenerate,

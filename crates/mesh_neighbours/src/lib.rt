@@ -1,4 +1,6 @@
 // The cells' neighbour lists, over the mesh in the lent work area.
+#![tactic(auto)]
+
 ghost use Rattle.std.specs.Prelude.{◌≡◌, ◌+◌, ◌*◌, ◌≤◌, ◌<◌, eqb, length};
 ghost use Rattle.arith.specs.Limits.{2^32};
 ghost use Rattle.arith.specs.Lists.{any_of};

@@ -1,4 +1,6 @@
 // Which side of a face its cells lie on (16).
+#![tactic(auto)]
+
 ghost use Rattle.std.specs.Prelude.{◌≡◌};
 ghost use Rattle.arith.specs.Lists.{any_of};
 ghost use Rattle.mesh_area.specs.Tables.{face_at};

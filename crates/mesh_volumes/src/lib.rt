@@ -1,5 +1,7 @@
 // The geometry of one cell: mesh.rs's cell_geometry, as functions of points that are read where
 // they are.
+#![tactic(auto)]
+
 ghost use Rattle.std.specs.Prelude.{◌≡◌, [], ◌∷◌, ◌+◌, ◌*◌, ◌≤◌, ◌<◌, length, get_or};
 ghost use Rattle.arith.specs.Limits.{most_points};
 ghost use Rattle.mesh_area.specs.Tables.{point_at};
@@ -10,20 +12,20 @@ use arith::{Vec3, float};
 use mesh_averages::vertex_point;
 
 // A sum of measures, and of centres weighted with them.
-#[derive(Drop)]
+#[derive(Clone, Copy)]
 pub struct Weight {
     pub measure: f64,
     pub moment: Vec3,
 }
 
-#[derive(Drop)]
+#[derive(Clone, Copy)]
 pub struct CellGeometry {
     pub centre: Vec3,
     pub volume: f64,
 }
 
 // A cell's centre and volume, or that it has no volume.
-#[derive(Drop)]
+#[derive(Clone, Copy)]
 pub enum CellMeasure {
     Cell(CellGeometry),
     ZeroVolume,

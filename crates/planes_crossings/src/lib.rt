@@ -1,18 +1,20 @@
 // Where a plane meets the sides of one cell.
+#![tactic(auto)]
+
 use arith::Vec3;
 
 pub mod crossings;
 pub mod slices;
 
 // An end of a side with its height over the plane.
-#[derive(Drop)]
+#[derive(Clone, Copy)]
 struct End {
     point: Vec3,
     height: f64,
 }
 
 // Where a side meets the plane.
-#[derive(Drop)]
+#[derive(Clone, Copy)]
 enum Crossing {
     Point(Vec3),
     None,

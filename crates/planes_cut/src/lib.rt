@@ -1,12 +1,14 @@
 // A plane that cuts a mesh: what `FlowPlaneMonitor::validate` accepts, the tolerance of its sections,
 // and what the points of a cell show of it at a glance.
+#![tactic(auto)]
+
 use arith::Vec3;
 
 pub mod axes;
 pub mod heights;
 
 // A plane by its origin and two axes.
-#[derive(Drop)]
+#[derive(Clone, Copy)]
 pub struct Plane {
     pub origin: Vec3,
     pub u: Vec3,
@@ -14,7 +16,7 @@ pub struct Plane {
 }
 
 // A plane with its normal and the tolerance of its sections.
-#[derive(Drop)]
+#[derive(Clone, Copy)]
 pub struct Cut {
     pub plane: Plane,
     pub normal: Vec3,
@@ -22,14 +24,14 @@ pub struct Cut {
 }
 
 // The largest distance of a point from the plane's origin, and from (0, 0, 0).
-#[derive(Drop)]
+#[derive(Clone, Copy)]
 struct Reach {
     span: f64,
     location: f64,
 }
 
 // Whether some point lies in the plane, below it, above it.
-#[derive(Drop)]
+#[derive(Clone, Copy)]
 pub struct Signs {
     pub near: bool,
     pub below: bool,

@@ -1,11 +1,13 @@
 // The samples of a plane's section: all cells are read one after the other, no list of them is held,
 // and of each sample what its answer keeps is kept.
+#![tactic(auto)]
+
 use planes_sums::Accumulator;
 
 pub mod walk;
 
 // How the reading of the samples ends.
-#[derive(Drop)]
+#[derive(Clone, Copy)]
 pub enum Accumulated {
     Done(Accumulator),
     Bad,

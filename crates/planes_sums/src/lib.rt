@@ -1,4 +1,6 @@
 // One sample of a plane's section: its measure and its values, and what each answer keeps of it.
+#![tactic(auto)]
+
 use arith::Vec2;
 use reading::Values;
 
@@ -7,7 +9,7 @@ pub mod measures;
 mod write;
 
 // The running sums of `section_statistics_csv`.
-#[derive(Drop)]
+#[derive(Clone, Copy)]
 pub struct Sums {
     pub used: u64,
     pub area: f64,
@@ -21,14 +23,14 @@ pub struct Sums {
 }
 
 // The running sums, or that a flux was not finite.
-#[derive(Drop)]
+#[derive(Clone, Copy)]
 pub enum Summed {
     Total(Sums),
     Unsummed,
 }
 
 // The running sums of `plane_integrals::sample`.
-#[derive(Drop)]
+#[derive(Clone, Copy)]
 pub struct Integral {
     pub area: f64,
     pub pressure: f64,
@@ -37,14 +39,14 @@ pub struct Integral {
 }
 
 // The running sums, or that a sample was invalid.
-#[derive(Drop)]
+#[derive(Clone, Copy)]
 pub enum Weighed {
     Whole(Integral),
     Unweighed,
 }
 
 // The cell under a point of a section with its values, or that there is none.
-#[derive(Drop)]
+#[derive(Clone, Copy)]
 pub enum Probed {
     Hit(usize, Values),
     Missed,
@@ -52,7 +54,7 @@ pub enum Probed {
 
 // What is kept of the samples: how many polygons were written and where the next one goes;
 // the sums of a field; the integrals; the sample over a point.
-#[derive(Drop)]
+#[derive(Clone, Copy)]
 pub enum Accumulator {
     Section(usize, usize),
     Statistics(u64, Summed),

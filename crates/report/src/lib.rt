@@ -1,4 +1,6 @@
 // The text that `airjob` prints, from the bytes of its two files and the buffers that it lends.
+#![tactic(auto)]
+
 ghost use Rattle.std.specs.Prelude.{◌/◌, ◌≡◌, length};
 ghost use Rattle.report.specs.Report.{ended, ReportExit};
 

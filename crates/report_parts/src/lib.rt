@@ -1,4 +1,6 @@
 // What `report` does beside the job: the text of a result, and which file is too long.
+#![tactic(auto)]
+
 ghost use Rattle.std.specs.Prelude.{◌≡◌};
 ghost use Rattle.listing.specs.Ensures.{ListingExit};
 ghost use Rattle.report_parts.specs.Parts.{listing_text, is_too_long};

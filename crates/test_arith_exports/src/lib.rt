@@ -1,5 +1,7 @@
 // The root, the leaves of arith and the millimetres for programs in other languages. Each function
 // calls one of those crates and promises the same definition. Beside them a plain copy of bytes.
+#![tactic(auto)]
+
 mod copy;
 mod directions;
 

@@ -4,6 +4,8 @@
 // The file `cases` holds them: their count, then for each its name, a single piece, and the case,
 // a text of pieces (`stored`). oracle/cases/make.py makes them, and has the reference job say what
 // each is due.
+#![tactic(auto)]
+
 use case_definitions::{Walked, walker};
 use case_file::{Opened, trailer};
 use libc::STDOUT_FILENO;

@@ -8,6 +8,8 @@
 // points (u64), the words (u32), the velocities and the pressures (u64) and the zones (u32); those
 // of the converter one u64, the edition to convert to, and the file. oracle/writings makes the
 // file, and has the reference say what each input is due.
+#![tactic(auto)]
+
 ghost use Rattle.std.specs.Prelude.{◌≤◌, length};
 
 use arith::bytes;

@@ -1,4 +1,6 @@
 // The mesh of a case for programs in other languages.
+#![tactic(auto)]
+
 ghost use Rattle.std.specs.Prelude.{length};
 ghost use Rattle.case_file.specs.Trailer.{counts_of};
 ghost use Rattle.mesh_area.specs.Layout.{points_in};

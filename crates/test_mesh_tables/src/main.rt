@@ -8,6 +8,8 @@
 // The file holds the number of cases, then for each the length of its name, the name, 1 if the
 // tables are shown or else 0, the lengths of the two lent areas, the length of the case and its
 // bytes. Numbers are u32. oracle/meshes makes it, and has the reference say what each case is due.
+#![tactic(auto)]
+
 ghost use Rattle.mesh_area.specs.Layout.{LentWords, LentFloats};
 
 use arith::{Found, Vec3, bytes};
@@ -24,7 +26,7 @@ const WORDS: usize = 131072;
 const FLOATS: usize = 65536;
 
 // Where the numbers go: into the hash, and to the output if they are shown.
-#[derive(Drop)]
+#[derive(Clone, Copy)]
 struct Digest {
     hash: u64,
     shown: bool,

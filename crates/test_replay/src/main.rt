@@ -8,6 +8,8 @@
 // answers are shown or else 0, the lengths of the two lent areas, of the marks and of the answers,
 // the case and the requests, each a text of pieces (`stored`). oracle/replay makes the file, and has
 // the reference say what each pair is due.
+#![tactic(auto)]
+
 use job_promise::Outcome;
 use libc::STDOUT_FILENO;
 use test_stored::fnv;

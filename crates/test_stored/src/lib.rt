@@ -4,6 +4,8 @@
 //
 // Nothing is assumed of what a read gives, so no contract here can say which number or which bytes it is; each
 // says where they stand, and that the rest of the room is kept. That a name is printed no contract says.
+#![tactic(auto)]
+
 ghost use Rattle.std.specs.Prelude.{◌≡◌, ◌-◌, ◌<◌, ◌≤◌, length};
 ghost use Rattle.arith.specs.Limits.{2^32};
 ghost use Rattle.test_stored.specs.Pieces.{repeated, PieceExit, AssembleExit, ShowNameExit};
