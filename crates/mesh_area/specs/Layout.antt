@@ -9,7 +9,7 @@
 -- `LentWords`, `LentFloats`: the area is long enough.
 -- `list_at`, `vec_from`, `found`: numbers, a point, a number or none, where they stand.
 -- `face_in`, `cell_in`: one record. `faces_in`, `cells_in`, `mesh_in`: the whole mesh.
-use Rattle.std.specs.Prelude.{ℕ, zero, suc, ◌+◌, ◌-◌, ◌*◌, ◌≤◌, Bool, cond, List, [], ltb, eqb, length, get_or, take, Float}
+use Rattle.std.specs.Prelude.{ℕ, ◌+◌, ◌-◌, ◌*◌, ◌≤◌, cond, List, eqb, length, get_or, take, Float}
 use Rattle.std.specs.Float.{nan}
 use Rattle.arith.specs.Limits.{most_cells, most_words}
 use Rattle.arith.specs.Bytes.{vec_at}
