@@ -14,7 +14,7 @@ mark_all-append m (i ∷ l) k = mark_all-append _ l k
 
 pub length-mark_all : (m l : List ℕ) → length (mark_all m l) ≡ length m
 length-mark_all m [] = refl
-length-mark_all m (i ∷ l) = rw (length-mark_all _ l, length-set)
+length-mark_all m (i ∷ l) = length-mark_all _ l ∙ simp length-set
 
 -- a mark that is 1 stays 1
 set-stays : (m : List ℕ) (j i : ℕ) → i < length m → get_or m i 0 ≡ 1 → get_or (set m j 1) i 0 ≡ 1
@@ -30,6 +30,7 @@ marked-stays m (j ∷ l) i b h = marked-stays _ l i (rw length-set b) (set-stays
 
 -- a cell that was read is marked, where it has a mark at all
 pub marked : (m l : List ℕ) (i : ℕ) → i < length m → Memᴰ i l → get_or (mark_all m l) i 0 ≡ 1
+marked m [] i h x = elim x [ ]
 marked m (j ∷ l) i h (Memᴰ.head e) =
     marked-stays (set m j 1) l i (rw length-set h) (rw (← e) (get_or-set_same m i 1 0 h))
 marked m (j ∷ l) i h (Memᴰ.tail w) = marked (set m j 1) l i (rw length-set h) w

@@ -9,6 +9,7 @@ pub data Within {A : Type 0} (n : ℕ) : Asks A → Type 0 where
   asked : {i : ℕ} {k : Values → Asks A} → i < n → ((v : Values) → Within n (k v)) → Within n (ask i k)
 
 pub within-reads : {A : Type 0} {n : ℕ} {t : Asks A} (f : ℕ → Values) → Within n t → (i : ℕ) → Memᴰ i (reads t f) → i < n
+within-reads f given i x = elim x [ ]
 within-reads f (asked h w) i (Memᴰ.head e) = rw e h
 within-reads f (asked {i = j} h w) i (Memᴰ.tail m) = within-reads f (w (f j)) i m
 
