@@ -2,9 +2,9 @@
 -- `set_pool`: `SetPoolExit`. `set_flag`: `SetFlagExit`. `push`: `PushExit`.
 -- `Chains`: the chains of all bins. `BinRanges`: the cells' ranges of bins, as the functions below need them. `BinIndex`: the whole index.
 -- `clear`, `list_row` and `list_cell`: `ListCellExit`. `fill` and `chain_all`: `FillExit`. `build`: `BuildExit`.
-use Rattle.std.specs.Prelude.{◌≡◌, Bool, true, false, List, ◌≢◌, ℕ, ◌+◌, ◌*◌, ◌<◌, ◌≤◌, length}
+use Rattle.std.specs.Prelude.{◌≡◌, Bool, true, List, ◌≢◌, ℕ, ◌+◌, ◌*◌, ◌<◌, ◌≤◌, length}
 use Rattle.arith.specs.Limits.{most_cells}
-use Rattle.lines_bins.specs.Index.{range_word, in_bin, flag_in, pool_in, head_in, Same, Chain, node, within}
+use Rattle.lines_bins.specs.Index.{range_word, in_bin, flag_in, pool_in, head_in, Same, Chain}
 
 -- one word of the pool stored
 pub record SetPoolExit (w w' : List ℕ) (base n p v : ℕ) : Type 0 where
