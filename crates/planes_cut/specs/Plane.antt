@@ -1,7 +1,7 @@
 -- A plane by its origin and two axes. Refusals 36 and 37.
 -- `finite_axes`, `not_unit`, `not_orthogonal`, `invalid`: 36. `origin_beyond`: 37. `plane_refusal`: the first of the two, or 0.
 -- `normal_of`, `along`: its normal, and a difference along its axes.
-use Rattle.std.specs.Prelude.{ℕ, Bool, not, cond, ◌&&◌, ◌||◌, Float}
+use Rattle.std.specs.Prelude.{ℕ, Bool, not, cond, ◌&&◌, ◌||◌}
 use Rattle.arith.specs.F64.{◌⊖◌, ◌≺◌, 1·0, 1e-7, abs, finite, within}
 use Rattle.arith.specs.Vec.{pair, dot, cross, norm, each3}
 use Rattle.arith.specs.declared.Vec2.{Vec2}
