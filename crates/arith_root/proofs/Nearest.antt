@@ -1,6 +1,6 @@
 -- `root x` is the square root of x, the f64 nearest to the exact root of a finite x above 0, and no other f64 is. Assumes nothing.
 use mathlib.Core.Path.{◌≡◌, refl, sym, ap, ◌∙◌, subst}
-use mathlib.Core.Logic.{◌⊎◌, ⊎_elim}
+use mathlib.Core.Logic.{⊎_elim}
 use Prim.Native.Nat.{ℕ, zero, suc, ◌+◌, ◌-◌, ◌*◌, ◌/◌, ◌%◌, ◌^◌, ◌≤◌, ◌<◌, zero-le}
 use native.Mathlib.Nat.{le_antisymm, lt_trans, add_comm, add-mul, mul_assoc, mul_left_comm, mul-one, zero-mul, mul-le-mul, mul-le-mul_right, mul-le-mul_left, mul-lt-mul_of_pos_right, mul-pos, lt_of_mul-lt-mul_right, le_of_suc-le-suc, lt_of_not-le, not-le_of_lt, lt_of_lt_of_le, lt_of_le_of_lt, le_trans, le_of_lt, eq-or-lt_of_le}
 use native.Mathlib.Omega.{arith}

@@ -1,5 +1,5 @@
 -- Whole square roots, and the words of the contracts. Definitions only.
-use Rattle.std.specs.Prelude.{◌≡◌, ℕ, ◌+◌, ◌*◌, ◌/◌, ◌^◌, ◌≤◌, ◌<◌}
+use Rattle.std.specs.Prelude.{◌≡◌, ℕ, ◌+◌, ◌*◌, ◌/◌, ◌≤◌, ◌<◌}
 
 -- r is the whole square root of n: the largest number whose square is at most n.
 pub record WholeRoot (n r : ℕ) : Type 0 where

@@ -20,10 +20,10 @@ pub extern "C" fn hookyellow_locate(
     marks: &mut [u8],
     answers: &mut [u64],
 ) -> u64
-    ensures* { λ r. ⌜ JobPromise case.now
+    ensures { JobPromise case.now
         (bytes_of (locate_words (vector_of p) (search_of all_cells)))
         (length words.old) (length floats.old) answers.old marks.old
-        (record { result = r; answers = answers.new; marks = marks.new }) ⌝ }
+        (record { result = result; answers = answers.new; marks = marks.new }) }
 {
     number_of(job_single::locate(
         case,
@@ -47,10 +47,10 @@ pub extern "C" fn hookyellow_velocity(
     marks: &mut [u8],
     answers: &mut [u64],
 ) -> u64
-    ensures* { λ r. ⌜ JobPromise case.now
+    ensures { JobPromise case.now
         (bytes_of (velocity_words (vector_of p) (search_of all_cells)))
         (length words.old) (length floats.old) answers.old marks.old
-        (record { result = r; answers = answers.new; marks = marks.new }) ⌝ }
+        (record { result = result; answers = answers.new; marks = marks.new }) }
 {
     number_of(job_single::velocity(
         case,
@@ -75,11 +75,11 @@ pub extern "C" fn hookyellow_streamline(
     marks: &mut [u8],
     answers: &mut [u64],
 ) -> u64
-    ensures* { λ r. ⌜ JobPromise case.now
+    ensures { JobPromise case.now
         (bytes_of (streamline_words (vector_of seed) (settings_of backward options)
         (search_of options.all_cells)))
         (length words.old) (length floats.old) answers.old marks.old
-        (record { result = r; answers = answers.new; marks = marks.new }) ⌝ }
+        (record { result = result; answers = answers.new; marks = marks.new }) }
 {
     number_of(job_single::streamline(
         case,
@@ -105,11 +105,11 @@ pub extern "C" fn hookyellow_sheet(
     marks: &mut [u8],
     answers: &mut [u64],
 ) -> u64
-    ensures* { λ r. ⌜ JobPromise case.now
+    ensures { JobPromise case.now
         (bytes_of (sheet_words (vector_of seed) (settings_of backward options)
         (search_of options.all_cells)))
         (length words.old) (length floats.old) answers.old marks.old
-        (record { result = r; answers = answers.new; marks = marks.new }) ⌝ }
+        (record { result = result; answers = answers.new; marks = marks.new }) }
 {
     number_of(job_single::sheet(
         case,
@@ -137,11 +137,11 @@ pub extern "C" fn hookyellow_rake(
     marks: &mut [u8],
     answers: &mut [u64],
 ) -> u64
-    ensures* { λ r. ⌜ JobPromise case.now
+    ensures { JobPromise case.now
         (bytes_of (rake_words (rake_of start end count) (settings_of backward options)
         (search_of options.all_cells)))
         (length words.old) (length floats.old) answers.old marks.old
-        (record { result = r; answers = answers.new; marks = marks.new }) ⌝ }
+        (record { result = result; answers = answers.new; marks = marks.new }) }
 {
     number_of(job_single::rake(
         case,
@@ -165,9 +165,9 @@ pub extern "C" fn hookyellow_section(
     marks: &mut [u8],
     answers: &mut [u64],
 ) -> u64
-    ensures* { λ r. ⌜ JobPromise case.now (bytes_of (section_words (plane_of plane)))
+    ensures { JobPromise case.now (bytes_of (section_words (plane_of plane)))
         (length words.old) (length floats.old) answers.old marks.old
-        (record { result = r; answers = answers.new; marks = marks.new }) ⌝ }
+        (record { result = result; answers = answers.new; marks = marks.new }) }
 {
     number_of(job_single::section(case, convert::plane(plane), words, floats, marks, answers))
 }
@@ -183,9 +183,9 @@ pub extern "C" fn hookyellow_statistics(
     marks: &mut [u8],
     answers: &mut [u64],
 ) -> u64
-    ensures* { λ r. ⌜ JobPromise case.now (bytes_of (statistics_words (plane_of plane) field))
+    ensures { JobPromise case.now (bytes_of (statistics_words (plane_of plane) field))
         (length words.old) (length floats.old) answers.old marks.old
-        (record { result = r; answers = answers.new; marks = marks.new }) ⌝ }
+        (record { result = result; answers = answers.new; marks = marks.new }) }
 {
     number_of(job_single::statistics(
         case,
@@ -208,9 +208,9 @@ pub extern "C" fn hookyellow_integrals(
     marks: &mut [u8],
     answers: &mut [u64],
 ) -> u64
-    ensures* { λ r. ⌜ JobPromise case.now (bytes_of (integrals_words (plane_of plane)))
+    ensures { JobPromise case.now (bytes_of (integrals_words (plane_of plane)))
         (length words.old) (length floats.old) answers.old marks.old
-        (record { result = r; answers = answers.new; marks = marks.new }) ⌝ }
+        (record { result = result; answers = answers.new; marks = marks.new }) }
 {
     number_of(job_single::integrals(case, convert::plane(plane), words, floats, marks, answers))
 }
@@ -226,9 +226,9 @@ pub extern "C" fn hookyellow_probe(
     marks: &mut [u8],
     answers: &mut [u64],
 ) -> u64
-    ensures* { λ r. ⌜ JobPromise case.now (bytes_of (probe_words (plane_of plane) (vector_of p)))
+    ensures { JobPromise case.now (bytes_of (probe_words (plane_of plane) (vector_of p)))
         (length words.old) (length floats.old) answers.old marks.old
-        (record { result = r; answers = answers.new; marks = marks.new }) ⌝ }
+        (record { result = result; answers = answers.new; marks = marks.new }) }
 {
     number_of(job_single::probe(
         case,

@@ -22,9 +22,9 @@ pub extern "C" fn hookyellow_job(
     marks: &mut [u8],
     answers: &mut [u64],
 ) -> u64
-    ensures* { λ r. ⌜ JobPromise case.now requests.now
+    ensures { JobPromise case.now requests.now
         (length words.old) (length floats.old) answers.old marks.old
-        (record { result = r; answers = answers.new; marks = marks.new }) ⌝ }
+        (record { result = result; answers = answers.new; marks = marks.new }) }
 {
     number_of(job::job(case, requests, words, floats, marks, answers))
 }

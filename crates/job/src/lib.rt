@@ -118,9 +118,9 @@ pub fn job(
     marks: &mut [u8],
     answers: &mut [u64],
 ) -> Outcome
-    ensures* fact { λ r. ⌜ JobPromise case.now requests.now
+    ensures promise { JobPromise case.now requests.now
         (length words.old) (length floats.old) answers.old marks.old
-        (record { result = number_of r; answers = answers.new; marks = marks.new }) ⌝ }
+        (record { result = number_of result; answers = answers.new; marks = marks.new }) }
     ensures value { result ≡ outcome_of (number_of result) }
 {
     match job_room::prepare(

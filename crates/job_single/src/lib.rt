@@ -23,9 +23,9 @@ pub fn locate(
     marks: &mut [u8],
     answers: &mut [u64],
 ) -> Outcome
-    ensures* fact { λ r. ⌜ JobPromise case.now (bytes_of (locate_words p search))
+    ensures promise { JobPromise case.now (bytes_of (locate_words p search))
         (length words.old) (length floats.old) answers.old marks.old
-        (record { result = number_of r; answers = answers.new; marks = marks.new }) ⌝ }
+        (record { result = number_of result; answers = answers.new; marks = marks.new }) }
     ensures value { result ≡ outcome_of (number_of result) }
 {
     let request = job_encoding::locate(p, search);
@@ -42,9 +42,9 @@ pub fn velocity(
     marks: &mut [u8],
     answers: &mut [u64],
 ) -> Outcome
-    ensures* fact { λ r. ⌜ JobPromise case.now (bytes_of (velocity_words p search))
+    ensures promise { JobPromise case.now (bytes_of (velocity_words p search))
         (length words.old) (length floats.old) answers.old marks.old
-        (record { result = number_of r; answers = answers.new; marks = marks.new }) ⌝ }
+        (record { result = number_of result; answers = answers.new; marks = marks.new }) }
     ensures value { result ≡ outcome_of (number_of result) }
 {
     let request = job_encoding::velocity(p, search);
@@ -62,9 +62,9 @@ pub fn streamline(
     marks: &mut [u8],
     answers: &mut [u64],
 ) -> Outcome
-    ensures* fact { λ r. ⌜ JobPromise case.now (bytes_of (streamline_words seed settings search))
+    ensures promise { JobPromise case.now (bytes_of (streamline_words seed settings search))
         (length words.old) (length floats.old) answers.old marks.old
-        (record { result = number_of r; answers = answers.new; marks = marks.new }) ⌝ }
+        (record { result = number_of result; answers = answers.new; marks = marks.new }) }
     ensures value { result ≡ outcome_of (number_of result) }
 {
     let request = job_encoding::streamline(seed, settings, search);
@@ -82,9 +82,9 @@ pub fn sheet(
     marks: &mut [u8],
     answers: &mut [u64],
 ) -> Outcome
-    ensures* fact { λ r. ⌜ JobPromise case.now (bytes_of (sheet_words seed settings search))
+    ensures promise { JobPromise case.now (bytes_of (sheet_words seed settings search))
         (length words.old) (length floats.old) answers.old marks.old
-        (record { result = number_of r; answers = answers.new; marks = marks.new }) ⌝ }
+        (record { result = number_of result; answers = answers.new; marks = marks.new }) }
     ensures value { result ≡ outcome_of (number_of result) }
 {
     let request = job_encoding::sheet(seed, settings, search);
@@ -102,9 +102,9 @@ pub fn rake(
     marks: &mut [u8],
     answers: &mut [u64],
 ) -> Outcome
-    ensures* fact { λ r. ⌜ JobPromise case.now (bytes_of (rake_words seeds settings search))
+    ensures promise { JobPromise case.now (bytes_of (rake_words seeds settings search))
         (length words.old) (length floats.old) answers.old marks.old
-        (record { result = number_of r; answers = answers.new; marks = marks.new }) ⌝ }
+        (record { result = number_of result; answers = answers.new; marks = marks.new }) }
     ensures value { result ≡ outcome_of (number_of result) }
 {
     let request = job_encoding::rake(seeds, settings, search);
@@ -120,9 +120,9 @@ pub fn section(
     marks: &mut [u8],
     answers: &mut [u64],
 ) -> Outcome
-    ensures* fact { λ r. ⌜ JobPromise case.now (bytes_of (section_words plane))
+    ensures promise { JobPromise case.now (bytes_of (section_words plane))
         (length words.old) (length floats.old) answers.old marks.old
-        (record { result = number_of r; answers = answers.new; marks = marks.new }) ⌝ }
+        (record { result = number_of result; answers = answers.new; marks = marks.new }) }
     ensures value { result ≡ outcome_of (number_of result) }
 {
     let request = job_encoding::section(plane);
@@ -139,9 +139,9 @@ pub fn statistics(
     marks: &mut [u8],
     answers: &mut [u64],
 ) -> Outcome
-    ensures* fact { λ r. ⌜ JobPromise case.now (bytes_of (statistics_words plane field))
+    ensures promise { JobPromise case.now (bytes_of (statistics_words plane field))
         (length words.old) (length floats.old) answers.old marks.old
-        (record { result = number_of r; answers = answers.new; marks = marks.new }) ⌝ }
+        (record { result = number_of result; answers = answers.new; marks = marks.new }) }
     ensures value { result ≡ outcome_of (number_of result) }
 {
     let request = job_encoding::statistics(plane, field);
@@ -157,9 +157,9 @@ pub fn integrals(
     marks: &mut [u8],
     answers: &mut [u64],
 ) -> Outcome
-    ensures* fact { λ r. ⌜ JobPromise case.now (bytes_of (integrals_words plane))
+    ensures promise { JobPromise case.now (bytes_of (integrals_words plane))
         (length words.old) (length floats.old) answers.old marks.old
-        (record { result = number_of r; answers = answers.new; marks = marks.new }) ⌝ }
+        (record { result = number_of result; answers = answers.new; marks = marks.new }) }
     ensures value { result ≡ outcome_of (number_of result) }
 {
     let request = job_encoding::integrals(plane);
@@ -176,9 +176,9 @@ pub fn probe(
     marks: &mut [u8],
     answers: &mut [u64],
 ) -> Outcome
-    ensures* fact { λ r. ⌜ JobPromise case.now (bytes_of (probe_words plane p))
+    ensures promise { JobPromise case.now (bytes_of (probe_words plane p))
         (length words.old) (length floats.old) answers.old marks.old
-        (record { result = number_of r; answers = answers.new; marks = marks.new }) ⌝ }
+        (record { result = number_of result; answers = answers.new; marks = marks.new }) }
     ensures value { result ≡ outcome_of (number_of result) }
 {
     let request = job_encoding::probe(plane, p);

@@ -16,9 +16,9 @@ fn run(
     marks: &mut [u8],
     answers: &mut [u64],
 ) -> u64
-    ensures* { λ r. ⌜ ended case.now requests.now
+    ensures { ended case.now requests.now
         (length words.old) (length floats.old) answers.old marks.old
-        ≡ record { result = r; answers = answers.new; marks = marks.new } ⌝ }
+        ≡ record { result = result; answers = answers.new; marks = marks.new } }
 {
     if is_too_long(case.len()) {
         return 20;
