@@ -1,5 +1,5 @@
 -- The contracts of the helpers of `open`.
-use Rattle.std.specs.Prelude.{ℕ, ◌-◌, ◌<◌, ◌≡◌, List}
+use Rattle.std.specs.Prelude.{ℕ, ◌<◌, ◌≡◌, List}
 use Rattle.arith.specs.Limits.{2^32}
 use Rattle.case_file.specs.declared.Counts.{Counts}
 use Rattle.case_file.specs.Trailer.{counts_of}

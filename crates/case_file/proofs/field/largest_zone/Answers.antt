@@ -1,0 +1,18 @@
+use borrow.Author.Rules.{rules}
+use mathlib.Core.Path.{refl, sym, ◌∙◌}
+use Rattle.case_file.specs.Field.{largest}
+use Rattle.case_file.proofs.ZoneLaws.{largest-next, largest-end}
+use Rattle.case_file.proofs.field.largest_zone.Goals as goal
+
+pub loop-i-init : goal.loop-i-init
+unfolding largest
+loop-i-init c = (search rules, refl)
+
+pub loop-i-preserved : goal.loop-i-preserved
+loop-i-preserved c = (
+  search rules,
+  rw c.larger-most.ensures (sym (largest-next _ _ c.requires _ _ _ c.loop-i-test.true c.zone.ensures) ∙ c.loop-i.invariant.1),
+)
+
+pub returns : goal.returns
+returns c = sym (largest-end _ _ c.requires _ _ c.loop-i-test.false) ∙ c.loop-i.invariant.1
