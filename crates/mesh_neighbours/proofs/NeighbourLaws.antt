@@ -119,12 +119,12 @@ module _ (s : Sizes) (w : List ℕ) (cell f : ℕ) (x : Found) (ex : (floats : L
     unfolding beyond other_cell
     beyond-owner lent fit q =
         let b = neighbour-small s w f n lent fit (sym e ∙ ex []) in
-        record { found = λ floats. rw (← ex floats, ← eo floats, e, other_cell, eq-eqb o cell q); small = λ d r. let z : n ≡ d = cc in omega arith }
+        record { found = λ floats. rw (← ex floats, e, ← eo floats, eq-eqb o cell q); small = λ d r. let z : n ≡ d = cc in omega arith }
 
     pub beyond-other : o < 4294967296 → (o ≡ cell → ⊥) → BeyondExit s w cell f (At o)
     unfolding beyond other_cell
     beyond-other b ne =
-        record { found = λ floats. rw (← ex floats, ← eo floats, e, other_cell, ne_eqb o cell ne); small = λ d r. let z : o ≡ d = cc in omega arith }
+        record { found = λ floats. rw (← ex floats, e, ← eo floats, ne_eqb o cell ne); small = λ d r. let z : o ≡ d = cc in omega arith }
 
 pub ruleset looking = (beyond-none, beyond-owner, beyond-other)
 
