@@ -1,6 +1,6 @@
 -- A record that looks like a right one is right, as long, and has as many faces; so is a run of them. Assumes nothing.
-use Prim.Native.Nat.{ℕ, zero, suc, ◌+◌, ◌-◌, ◌*◌, ◌≤◌, ◌<◌}
-use native.Mathlib.Nat.{suc-mul, mul-suc, zero-mul, mul-zero, mul_comm, mul-le-mul_right}
+use Prim.Native.Nat.{ℕ, suc, ◌+◌, ◌-◌, ◌*◌, ◌≤◌, ◌<◌}
+use native.Mathlib.Nat.{suc-mul, mul-suc, zero-mul, mul_comm, mul-le-mul_right}
 use native.Mathlib.Omega.{arith}
 use mathlib.Core.Path.{◌≡◌, refl, ap, sym, ◌∙◌}
 use mathlib.Core.Bool.{true, false}
@@ -11,15 +11,15 @@ use Rattle.arith.specs.All.{All}
 use Rattle.arith.specs.Lists.{fold}
 use Rattle.arith.proofs.All.{all_append}
 use Rattle.reading.specs.Result.{Result, refused, fine, ◌>>=◌}
-use Rattle.case_definitions.specs.Faces.{Definition, polygon, solid, polyhedron, tetrahedron, hexahedron, prism, pyramid, face_count, add_face_count}
-use Rattle.case_definitions.specs.Definitions.{Taken, numbers, counted, made, kinds, definition, definitions}
+use Rattle.case_definitions.specs.Faces.{Definition, polygon, solid, face_count, add_face_count}
+use Rattle.case_definitions.specs.Definitions.{numbers, counted, made, kinds, definition, definitions}
 use Rattle.case_definitions.specs.Ensures.{head_of, step_at, HeadTo}
 pub use Rattle.case_definitions.specs.Ensures.{Looks, RunExit}
 use Rattle.case_definitions.specs.declared.Cursor.{Cursor}
 use Rattle.case_definitions.specs.declared.Head.{Head}
 use Rattle.case_definitions.specs.declared.Step.TheVariants.{Record}
 use Rattle.case_definitions.specs.declared.Walked.TheVariants.{Faces}
-use Rattle.case_definitions.proofs.WalkLaws.{numbers-there, counted-within, Lists, kind_at}
+use Rattle.case_definitions.proofs.WalkLaws.{numbers-there, counted-within, kind_at}
 use Rattle.case_definitions.proofs.RecordLaws.{IsSolid, is-tetrahedron, is-hexahedron, is-prism, is-pyramid, RecordCase, a-polygon, a-solid, a-polyhedron, record-case, steps-to, walked_from, walk-next}
 
 -- d is the record from `at` to `next`
