@@ -1,5 +1,5 @@
 -- A cell that was found is one of the cells, and the point is not outside of it. Assumes nothing.
-use Prim.Native.Nat.{ℕ, zero, suc, ◌+◌, ◌<◌}
+use Prim.Native.Nat.{ℕ, suc, ◌+◌, ◌<◌}
 use native.Mathlib.Omega.{arith}
 use mathlib.Core.Path.{◌≡◌, refl, sym, ap, ◌∙◌}
 use mathlib.Core.Bool.{Bool, true, false, ◌&&◌}
@@ -14,7 +14,6 @@ use Rattle.arith.specs.declared.Found.{Found}
 use Rattle.arith.specs.declared.Found.TheVariants.{At, Nothing}
 use Rattle.mesh_area.specs.declared.Sizes.{Sizes}
 use Rattle.lines_polygon.specs.declared.Position.{Position}
-use Rattle.lines_polygon.specs.declared.Position.TheVariants.{Outside}
 use Rattle.lines_polygon.specs.Contains.{position, is_within, contains}
 use Rattle.lines_polygon.proofs.LimitLaws.{both}
 use Rattle.lines_locate.specs.declared.Bin.{Bin}

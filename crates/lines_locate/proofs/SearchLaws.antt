@@ -10,7 +10,7 @@ use Rattle.arith.specs.Lists.{first_from}
 use Rattle.arith.specs.declared.Vec2.{Vec2}
 use Rattle.arith.specs.declared.Vec3.{Vec3}
 use Rattle.arith.specs.declared.Found.{Found}
-use Rattle.arith.specs.declared.Found.TheVariants.{At, Nothing}
+use Rattle.arith.specs.declared.Found.TheVariants.{At}
 use Rattle.lines_polygon.specs.Contains.{contains}
 use Rattle.lines_polygon.proofs.LimitLaws.{both}
 use Rattle.lines_locate.specs.declared.Bin.{Bin}
