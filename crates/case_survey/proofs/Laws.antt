@@ -25,7 +25,6 @@ use Rattle.case_definitions.proofs.RecordLaws.{definition-read}
 use Rattle.case_survey.specs.Survey.{survey_of}
 use Rattle.case_survey.specs.Ensures.{SurveyExit, surveyed, refusing}
 use Rattle.case_survey.specs.declared.Surveyed.{Surveyed}
-use Rattle.case_survey.specs.declared.Surveyed.TheVariants as Surveyed
 
 -- ---- 1, 2, 3 and 45
 

@@ -9,7 +9,6 @@ use Rattle.case_file.specs.declared.Counts.{Counts}
 use Rattle.case_file.specs.declared.Opened.TheVariants.{Case}
 use Rattle.case_survey.specs.Survey.{survey_of}
 use Rattle.case_survey.specs.declared.Surveyed.{Surveyed}
-use Rattle.case_survey.specs.declared.Surveyed.TheVariants as Surveyed
 
 -- a case with its counts and the number of faces of all its definitions, or the refusal
 pub data SurveyExit (file : List ℕ) : Surveyed → Type 0 where
