@@ -74,7 +74,8 @@ back s bound f reads p q (w ∷ ws) h =
     let e : length (p ++ le_bytes s w) ≡ length p + s = length-append p (le_bytes s w) ∙ ap (λ (n : ℕ). length p + n) (length-le_bytes s w) in
     let g : p ++ ((le_bytes s w ++ all_bytes s ws) ++ q) ≡ p ++ (le_bytes s w ++ (all_bytes s ws ++ q)) = rw append_assoc in
     let i : (p ++ le_bytes s w) ++ (all_bytes s ws ++ q) ≡ p ++ (le_bytes s w ++ (all_bytes s ws ++ q)) = rw append_assoc in
-    rw g (ap₂ ◌∷◌ (reads p (all_bytes s ws ++ q) w h.0) (rw (i, e) at (back s bound f reads (p ++ le_bytes s w) q ws h.1)))
+    ap (λ (x : List ℕ). read_all (f x) s (length (w ∷ ws)) (length p)) g
+    ∙ ap₂ ◌∷◌ (reads p (all_bytes s ws ++ q) w h.0) (rw (i, e) at (back s bound f reads (p ++ le_bytes s w) q ws h.1))
 
 module _ (p q : List ℕ) where
   pub le32-after : (k : ℕ) → le32 (p ++ q) (length p + k) ≡ le32 q k
