@@ -30,7 +30,7 @@ use Rattle.lines_field.specs.declared.BinSpan.{BinSpan}
 use Rattle.lines_field.specs.Bounds.{boundless, widened, bounds_of, low_corner, high_corner}
 use Rattle.lines_locate.specs.Bins.{CellPolygon, bin_for}
 use Rattle.lines_locate.specs.Ranges.{first_bin, last_bin, Ranged}
-use Rattle.lines_locate.specs.Ensures.{Spread, HasBins, HasRanges}
+use Rattle.lines_locate.specs.Ensures.{Spread, HasBins}
 use Rattle.lines_field.specs.Bins.{listed_in, are_flat, are_many}
 use Rattle.lines_field.specs.Field.{grid_for, built_grid}
 use Rattle.lines_locate.specs.Layout.{words_at, floats_at, count_in, polygon_in, bin_from, cell_polygon_in, cell_polygons_in}

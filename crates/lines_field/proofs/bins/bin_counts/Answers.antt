@@ -1,0 +1,11 @@
+use native.Mathlib.Omega.{arith}
+use Rattle.arith.proofs.Counts.{whole_in}
+use Rattle.lines_field.specs.Bins.{bin_counts}
+use Rattle.lines_field.proofs.bins.bin_counts.Goals as goal
+
+pub int_to_float-count : goal.int_to_float-count
+int_to_float-count c = whole_in _ (omega arith)
+
+pub returns : goal.returns
+unfolding bin_counts
+returns c = record { counts = rw (c.bin_count-y.ensures.0, c.bin_count-x.ensures.0, c.aspect-ratio.ensures, c.at_least_one-count.ensures.0); wide = c.bin_count-x.ensures.1; high = c.bin_count-y.ensures.1 }
