@@ -1,0 +1,26 @@
+use Rattle.case_faces.proofs.FaceLaws.{next-number}
+use mathlib.Core.Path.{sym, ◌∙◌, ap}
+use lib.ListN.{length-take}
+use Rattle.mesh_volumes.specs.Geometry.{add_face_3d}
+use Rattle.mesh_measure.specs.Ensures.{weight_of, added, degenerate}
+use native.Mathlib.Omega.{arith}
+use borrow.Author.Rules.{rules}
+use Rattle.mesh_measure.proofs.add_face_3d.Goals as goal
+
+pub slice_bounds-add_turned-end : goal.slice_bounds-add_turned-end
+slice_bounds-add_turned-end c = simp length-take (omega arith)
+
+pub add_turned-requires : goal.add_turned-requires
+add_turned-requires c = record { point_bytes = search rules; vertices_len_bound = simp length-take (omega arith) }
+
+pub returns-in-Degenerate : goal.returns-in-Degenerate
+unfolding weight_of
+returns-in-Degenerate c =
+    let k = c.copy_face-copied.ensures in
+    degenerate (ap (add_face_3d _ _ _) (sym k.front) ∙ sym c.add_turned.ensures ∙ ap weight_of c.in-Degenerate.is)
+
+pub returns-in-Sum : goal.returns-in-Sum
+unfolding weight_of
+returns-in-Sum c =
+    let k = c.copy_face-copied.ensures in
+    added (ap (add_face_3d _ _ _) (sym k.front) ∙ sym c.add_turned.ensures ∙ ap weight_of c.in-Sum.is) (record { face = next-number _ _ _ _ k.follows; at-face = k.goes })
