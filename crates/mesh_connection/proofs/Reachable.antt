@@ -1,7 +1,6 @@
 use Prim.Native.Nat.{ℕ, ◌<◌}
 use mathlib.Core.Path.{◌≡◌}
 use mathlib.Core.Bool.{Bool, true}
-use Rattle.mesh_connection.specs.Connection.{rounds, connected}
 
 -- the same without counting rounds: n cells are connected exactly where each of them is reachable (proofs/Enough.antt)
 pub data Reachable (touch : ℕ → ℕ → Bool) (n : ℕ) : ℕ → Type 0 where

@@ -117,7 +117,7 @@ module _ (fs : List Face) (i j : ℕ) where
   fold-keeps : (l faces : List ℕ) → In j l → In j (fold (add_neighbour fs i) l faces)
   unfolding fold add_neighbour
   fold-keeps l [] h = h
-  fold-keeps l (f ∷ faces) h = fold-keeps _ faces (found-keeps l (beyond i (face_at fs f)) h)
+  fold-keeps l (f ∷ faces) h = fold-keeps (add_found l (beyond i (face_at fs f))) faces (found-keeps l (beyond i (face_at fs f)) h)
 
   fold-has : (l faces : List ℕ) → Faced fs i j faces → In j (fold (add_neighbour fs i) l faces)
   unfolding fold add_neighbour add_found any_of
