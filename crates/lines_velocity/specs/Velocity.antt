@@ -4,7 +4,7 @@
 -- `blended`, `apart`, `beside_if`, `beside`, `beside_nearest`, `toward`: a cell's velocity, blended toward that of a neighbour.
 -- `velocity_in`, `velocity_where`, `velocity_at`: the velocity at a point.
 -- `from`: what goes on from a vector, where there is one. `unit`, `direction_at`: the direction at a point.
-use Rattle.std.specs.Prelude.{ℕ, ◌≡◌, Bool, true, false, not, cond, ◌&&◌, List, [], ◌∷◌, get_or, drop, Float}
+use Rattle.std.specs.Prelude.{ℕ, Bool, true, false, not, cond, ◌&&◌, List, [], ◌∷◌, get_or, drop, Float}
 use Rattle.arith.specs.F64.{◌⊘◌, ◌≺◌, ◌≼◌, 2^-52, finite, clamp, nearer}
 use Rattle.arith.specs.Lists.{fold}
 use Rattle.arith.specs.Vec.{plus, minus, times, over, dot, norm_squared, norm}
