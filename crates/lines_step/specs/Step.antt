@@ -1,5 +1,5 @@
 -- `rk4_step`, and one step of a line: "One step answers the next point with its segment length, or that the line ends."
-use Rattle.std.specs.Prelude.{Bool, true, false, not, cond, ◌&&◌, eqb, Float}
+use Rattle.std.specs.Prelude.{not, cond, ◌&&◌, eqb, Float}
 use Rattle.arith.specs.F64.{◌⊕◌, ◌≺◌, finite}
 use Rattle.arith.specs.Vec.{minus, norm}
 use Rattle.arith.specs.declared.Vec3.{Vec3}
