@@ -11,7 +11,7 @@ use Rattle.case_definitions.specs.Definitions.{definition, definitions}
 use Rattle.case_definitions.specs.Ensures.{skipped, read_of, definition_at, Looks, RunExit}
 use Rattle.case_definitions.specs.declared.Skipped.TheVariants.{To}
 use Rattle.case_definitions.proofs.RecordLaws.{definition-read}
-use Rattle.case_definitions.proofs.AlikeLaws.{Ends, Alike, alike, Running, running-starts, running-next}
+use Rattle.case_definitions.proofs.AlikeLaws.{Ends, alike, Running, running-starts, running-next}
 use Rattle.case_records.specs.Ensures.{checked}
 use Rattle.case_records.specs.declared.Checked.{Checked}
 use Rattle.case_records.proofs.EndLaws.{record-told}
