@@ -4,14 +4,12 @@ use Rattle.arith.specs.Records.{puts}
 use Rattle.arith.specs.declared.Vec3.{Vec3}
 use Rattle.reading.specs.Result.{refused, fine}
 use Rattle.mesh_area.specs.declared.Sizes.{Sizes}
-use Rattle.mesh_area.specs.Tables.{Face}
 use Rattle.mesh_area.specs.Layout.{faces_in}
 use Rattle.mesh_face_table.specs.Chains.{Chained}
 use Rattle.mesh_faces.specs.Ensures.{with_faces}
 use Rattle.mesh_cell_parts.specs.declared.FacePlaced.{FacePlaced}
 use Rattle.mesh_cell_parts.specs.declared.NewCell.{NewCell}
 use Rattle.mesh_cell_parts.specs.Parts.{CellFaces, add_face_of}
-use Rattle.mesh_cell_parts.specs.declared.FacePlaced.TheVariants as FacePlaced
 
 -- the table has n faces, face f among them, and nothing after it has changed
 pub record TableGrowth (s : Sizes) (words words' : List ℕ) (floats floats' : List Float) (f n : ℕ) : Type 0 where

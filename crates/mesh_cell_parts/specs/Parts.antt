@@ -1,7 +1,7 @@
 -- The faces of a partial cell: refusals 13 and 14, "face by face".
 -- `measured_from`: the geometry of a face that is turned outward.
 -- `CellFaces`, `add_face_of`: the faces of a cell, one after another.
-use Rattle.std.specs.Prelude.{ℕ, ◌+◌, List, [], ◌∷◌, ◌++◌}
+use Rattle.std.specs.Prelude.{ℕ, List, [], ◌∷◌, ◌++◌}
 use Rattle.arith.specs.declared.Vec3.{Vec3}
 use Rattle.reading.specs.Result.{Result, fine, ◌>>=◌}
 use Rattle.mesh_area.specs.Tables.{Face}
