@@ -4,21 +4,19 @@ use native.Mathlib.Omega.{arith}
 use mathlib.Core.Path.{◌≡◌, refl, ap, sym, ◌∙◌}
 use mathlib.Core.Bool.{Bool, true, false, cond, not, ◌&&◌, ◌||◌}
 use mathlib.Core.List.{List, ◌++◌}
-use lib.Dec.{leb, ltb, eqb}
+use lib.Dec.{eqb}
 use lib.ListN.{length, get_or, take, drop}
 use lib.Seq.{take-append_seam}
-use borrow.Author.Tests.{eqb-true, eqb-false, ne_eqb, le-ltb, not-false}
+use borrow.Author.Tests.{eqb-true, eqb-false, ne_eqb, le-ltb}
 use Rattle.arith.specs.Lists.{all_of}
 use Rattle.arith.proofs.All.{All}
-use Rattle.reading.specs.Result.{Result, refused, fine, ◌>>=◌, refuse}
+use Rattle.reading.specs.Result.{Result, fine, ◌>>=◌, refuse}
 use Rattle.reading.proofs.ResultLaws.{bound, not-due}
 use Rattle.case_file.specs.Trailer.{trailer_word, edition_of, counts_of}
 use Rattle.case_file.specs.Field.{zone_of, zones_of, is_at_most}
 use Rattle.case_file.proofs.ZoneLaws.{get_or-zones}
-use Rattle.case_survey.specs.Survey.{survey_of}
 use Rattle.case_contents.specs.Contents.{Contents, with_edition, in_edition, contents_of, file_of}
 use Rattle.case_contents.specs.Refusals.{is_edition, loses_zones, writable, written, converted}
-use Rattle.case_contents.specs.Accepted.{Accepted}
 use Rattle.case_contents.specs.Promise.{output_after, ReadsAs, WritePromise, ConvertPromise}
 use Rattle.case_contents.proofs.RoundTrip.{Bits, written_back, read_again, read-bits, zone-one, all-by-place}
 use Rattle.case_contents.proofs.RefusalLaws.{Right, right, accepts-written, Found, found, read-writable}

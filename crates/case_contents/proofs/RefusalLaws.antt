@@ -1,33 +1,32 @@
 -- What the writer does not refuse a reader accepts, and what a reader accepts the writer writes. Assumes nothing.
-use Prim.Native.Nat.{ℕ, ◌*◌, ◌≤◌, ◌<◌}
+use Prim.Native.Nat.{ℕ, ◌*◌, ◌≤◌}
 use native.Mathlib.Omega.{arith}
-use mathlib.Core.Path.{◌≡◌, refl, ap, sym, ◌∙◌}
-use mathlib.Core.Bool.{Bool, true, false, cond, not, ◌&&◌, ◌||◌}
+use mathlib.Core.Path.{◌≡◌, refl, ap, ◌∙◌}
+use mathlib.Core.Bool.{Bool, true, false, ◌&&◌}
 use mathlib.Core.List.{List}
-use lib.Dec.{leb, ltb, eqb}
-use lib.ListN.{length, get_or}
+use lib.Dec.{leb, eqb}
+use lib.ListN.{length}
 use borrow.Author.Tests.{eqb-true, eq-eqb, le-ltb, not-false}
 use Rattle.arith.specs.Bytes.{le32, le64}
 use Rattle.arith.specs.Lists.{all_of}
-use Rattle.arith.proofs.All.{All}
-use Rattle.reading.specs.Result.{Result, refused, fine, ◌>>=◌, refuse}
+use Rattle.reading.specs.Result.{fine, ◌>>=◌, refuse}
 use Rattle.reading.proofs.ResultLaws.{bound, not-due}
 use Rattle.case_file.specs.declared.Counts.{Counts}
 use Rattle.case_file.specs.declared.Opened.{Opened}
 use Rattle.case_file.specs.declared.Opened.TheVariants.{Case, Refused}
-use Rattle.case_file.specs.Trailer.{trailer_word, edition_of, counts_of, words_from, field_from, pressures_from, is_dimension, trailer_right, over_limit, opened, opened_case, words_of}
-use Rattle.case_file.specs.Field.{cells_of, zone_of, zones_of, is_at_most, zones_within}
+use Rattle.case_file.specs.Trailer.{counts_of, words_from, field_from, pressures_from, is_dimension, trailer_right, over_limit, opened, opened_case, words_of}
+use Rattle.case_file.specs.Field.{cells_of, zones_of, is_at_most, zones_within}
 use Rattle.case_file.proofs.ReadLaws.{length-read_all}
-use Rattle.case_file.proofs.TrailerLaws.{and_left, and_right, within, Opens, opens}
-use Rattle.case_file.proofs.ZoneLaws.{length-zones, get_or-zones}
+use Rattle.case_file.proofs.TrailerLaws.{and_left, and_right, within, opens}
+use Rattle.case_file.proofs.ZoneLaws.{length-zones}
 use Rattle.case_definitions.specs.Faces.{Definition}
 use Rattle.case_definitions.specs.Definitions.{definitions}
 use Rattle.case_survey.specs.Survey.{CaseSurvey, survey_of}
 use Rattle.case_contents.specs.Contents.{Contents, with_edition, in_edition, contents_of, file_of}
-use Rattle.case_contents.specs.Refusals.{is_edition, long_as, parts_right, well_formed, loses_zones, writable, written, converted}
-use Rattle.case_contents.specs.Accepted.{Accepted, SizedCounts, Sized}
+use Rattle.case_contents.specs.Refusals.{is_edition, long_as, parts_right, well_formed, loses_zones, writable}
+use Rattle.case_contents.specs.Accepted.{Accepted, Sized}
 use Rattle.case_contents.proofs.LayoutLaws.{counts-back, right-trailer}
-use Rattle.case_contents.proofs.RoundTrip.{Bits, words_back, zones-back, written_back, read_again, file-bytes, read-bits, zone-one, all-by-place}
+use Rattle.case_contents.proofs.RoundTrip.{Bits, words_back, zones-back, file-bytes}
 
 -- ---- what no refusal tells
 
@@ -118,6 +117,11 @@ pub record Found (file : List ℕ) : Type 0 where
   pub walked : definitions (counts_of file).cells (words_of file (counts_of file)) ≡ fine records
   pub zones : zones_within file ≡ true
 
+opened-case : (o : Opened) (n : Counts) → opened_case o ≡ fine n → o ≡ Case n
+unfolding opened_case
+opened-case (Case m) n e = let g : m ≡ n = cc in ap Case g
+opened-case (Refused k) n e = absurd (let g : ◌≡◌ {A = ℕ} 0 1 = cc in omega arith)
+
 pub found : (file : List ℕ) (v : CaseSurvey) → survey_of file ≡ fine v → Found file
 unfolding survey_of
 found file v e =
@@ -134,10 +138,6 @@ found file v e =
       zones = not-false _ (not-due 45 _ _ b3.had);
     }
   where
-    opened-case : (o : Opened) (n : Counts) → opened_case o ≡ fine n → o ≡ Case n
-    opened-case (Case m) n e = let g : m ≡ n = unfold opened_case in cc in ap Case g
-    opened-case (Refused k) n e = absurd (let g : ◌≡◌ {A = ℕ} 0 1 = unfold opened_case in cc in omega arith)
-
     not-over : (n : Counts) → n.points ≤ 65536 → n.cells ≤ 16384 → n.words ≤ 1048576 → over_limit n ≡ false
     not-over n p c w = unfold over_limit in rw (le-ltb 65536 n.points p, le-ltb 16384 n.cells c, le-ltb 1048576 n.words w)
 
