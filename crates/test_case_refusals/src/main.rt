@@ -8,7 +8,7 @@
 
 use case_definitions::{Walked, walker};
 use case_file::{Opened, trailer};
-use libc::STDOUT_FILENO;
+use std::fs::File;
 
 // The length of a case with every count one past its limit.
 const LONGEST: usize = 6_291_548;
@@ -21,46 +21,45 @@ fn read(case: &[u8]) -> Walked {
     }
 }
 
-fn print(w: Walked) {
+fn print(rt: &impl Print, w: Walked) {
     match w {
         Walked::Refused(r) => {
-            io::print_decimal(STDOUT_FILENO, r);
+            let _ = rt.print(r);
         }
         Walked::Faces(n) => {
-            io::write_all(STDOUT_FILENO, b"0 ");
-            io::print_decimal(STDOUT_FILENO, n as u64);
+            let _ = rt.write_all(b"0 ");
+            let _ = rt.print(n as u64);
         }
     }
-    io::write_all(STDOUT_FILENO, b"\n");
+    let _ = rt.write_all(b"\n");
 }
 
 // Prints the line of the next case.
-fn show(fd: i32, case: &mut [u8]) {
-    let name = test_stored::piece(fd, case, 0);
-    io::write_all(STDOUT_FILENO, &case[..name]);
-    io::write_all(STDOUT_FILENO, b": ");
-    let end = test_stored::assemble(fd, case);
-    print(read(&case[..end]));
+fn show(rt: &impl Print, file: &mut File, case: &mut [u8]) {
+    let name = test_stored::piece(file, case, 0);
+    let _ = rt.write_all(&case[..name]);
+    let _ = rt.write_all(b": ");
+    let end = test_stored::assemble(file, case);
+    print(rt, read(&case[..end]));
 }
 
-fn show_all(fd: i32) {
+fn show_all(rt: &impl Print, file: &mut File) {
     let mut room = [0u8; LONGEST];
     let case: &mut [u8] = &mut room;
-    let count = test_stored::number(fd, 65536);
+    let count = test_stored::number(file, 65536);
     let mut i = 0;
     while i < count {
-        show(fd, case);
+        show(rt, file, case);
         i += 1;
     }
 }
 
-fn main() {
-    let path = b"cases";
-    let fd = os::open_read(path);
-    if fd < 0 {
-        os::fail(path);
-        return;
+fn main(rt: HostRuntime) {
+    let path = "cases";
+    match File::open(&rt, path) {
+        Ok(mut file) => show_all(&rt, &mut file),
+        Err(e) => {
+            let _ = eprintln!(rt; "{path}: {e}");
+        }
     }
-    show_all(fd);
-    libc::close(fd);
 }
