@@ -34,7 +34,6 @@ use Rattle.mesh_faces.specs.Ensures.{with_faces}
 use Rattle.mesh_faces.proofs.AreaLaws.{chained-kept, faces-kept}
 use Rattle.mesh_points.specs.Collect.{wrong_kind, missing, checked, reference_case}
 use Rattle.mesh_points.specs.declared.Reference.{Reference}
-use Rattle.mesh_points.specs.declared.Reference.TheVariants as Reference
 use Rattle.mesh_cell_parts.specs.Parts.{add_face_of}
 use Rattle.mesh_cell_parts.specs.Ensures.{PutCellExit}
 use Rattle.mesh_cell_parts.specs.declared.NewCell.{NewCell}
@@ -43,12 +42,9 @@ use Rattle.mesh_cells.specs.Ensures as Ensures
 use Rattle.mesh_cells.specs.Partial.{cell_word, partial_cell_in, partial_cells_in}
 use Rattle.mesh_cells.specs.Ensures.{FaceLists, AddCellsExit, cell_faces_in, add_faces, ListGrowth, AddFacesEntry, AddFacesExit, FillCellEntry, StoredCell, FillCellExit, NewCellExit, CellsSoFar, read, defined_in, AddCellsEntry, AddCellEntry, AddCellExit}
 use Rattle.mesh_cells.specs.declared.CellsAdded.{CellsAdded}
-use Rattle.mesh_cells.specs.declared.CellsAdded.TheVariants as CellsAdded
 use Rattle.mesh_cells.specs.declared.Progress.{Progress}
 use Rattle.mesh_cells.specs.declared.CellFound.{CellFound}
-use Rattle.mesh_cells.specs.declared.CellFound.TheVariants as CellFound
 use Rattle.mesh_cells.specs.declared.CellAdded.{CellAdded}
-use Rattle.mesh_cells.specs.declared.CellAdded.TheVariants as CellAdded
 use Rattle.mesh_cells.proofs.FaceLaws.{kept_at, lent-sized, lent-floats-sized}
 
 -- ---- `fill_cell`

@@ -9,12 +9,11 @@ use lib.Ieee.{Float}
 use Rattle.arith.specs.Records.{tab}
 use Rattle.arith.specs.declared.Vec3.{Vec3}
 use Rattle.arith.proofs.RecordLaws.{tab-next, tab-same}
-use Rattle.reading.specs.Result.{refused, fine, steps}
+use Rattle.reading.specs.Result.{fine, steps}
 use Rattle.reading.proofs.ResultLaws.{steps_next, steps-refused}
 use Rattle.case_definitions.specs.Faces.{faces_of}
 use Rattle.case_definitions.specs.Ensures.{definition_at, face_at}
 use Rattle.case_faces.specs.Ensures.{AtFace, CopyFaceExit}
-use Rattle.case_definitions.specs.declared.Head.{Head}
 use Rattle.case_faces.specs.declared.FaceCursor.{FaceCursor}
 use Rattle.case_faces.proofs.FaceLaws.{at_first}
 use Rattle.case_definitions.proofs.Walking.{head-faces}
@@ -28,11 +27,9 @@ use Rattle.mesh_cell_parts.specs.Parts.{add_face_of}
 use Rattle.mesh_cell_parts.specs.Ensures.{TableGrowth, PlaceFaceExit}
 use Rattle.mesh_cell_parts.specs.declared.NewCell.{NewCell}
 use Rattle.mesh_cell_parts.specs.declared.FacePlaced.{FacePlaced}
-use Rattle.mesh_cell_parts.specs.declared.FacePlaced.TheVariants as FacePlaced
 use Rattle.mesh_cells.specs.Ensures as Ensures
 use Rattle.mesh_cells.specs.Ensures.{cell_faces_in, AddFaceEntry, ListGrowth, AddFaceExit, AddFacesEntry, add_faces, AddFacesExit}
 use Rattle.mesh_cells.specs.declared.FaceAdded.{FaceAdded}
-use Rattle.mesh_cells.specs.declared.FaceAdded.TheVariants as FaceAdded
 use Rattle.mesh_cells.specs.declared.CellsAdded.TheVariants as CellsAdded
 
 -- ---- `add_face`

@@ -33,10 +33,6 @@ use Rattle.mesh_cells.specs.declared.Progress.{Progress}
 use Rattle.mesh_cells.specs.declared.CellFound.{CellFound}
 use Rattle.mesh_cells.specs.declared.CellAdded.{CellAdded}
 use Rattle.case_definitions.specs.Definitions as Words
-use Rattle.mesh_cells.specs.declared.FaceAdded.TheVariants as FaceAdded
-use Rattle.mesh_cells.specs.declared.CellsAdded.TheVariants as CellsAdded
-use Rattle.mesh_cells.specs.declared.CellFound.TheVariants as CellFound
-use Rattle.mesh_cells.specs.declared.CellAdded.TheVariants as CellAdded
 
 -- the lists of the first n cells follow each other, each as long as its definition has faces, up to `end`; no neighbours are listed yet
 pub record FaceLists (ws : List ℕ) (s : Sizes) (words : List ℕ) (n end : ℕ) : Type 0 where
