@@ -11,7 +11,7 @@ use Rattle.arith.specs.declared.Vec3.{Vec3}
 use Rattle.arith.specs.declared.Found.{Found}
 use Rattle.arith.specs.declared.Found.TheVariants.{At, Nothing}
 use Rattle.reading.specs.declared.Values.{Values}
-use Rattle.reading.specs.Asks.{Asks, give, run, ◌>>=◌}
+use Rattle.reading.specs.Asks.{give, run}
 use Rattle.reading.proofs.AsksLaws.{run_bind}
 use Rattle.lines_millimetres.specs.Nearest.{under2^53}
 use Rattle.lines_words.specs.Ensures.{SheetPointEntry}

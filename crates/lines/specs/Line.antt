@@ -3,7 +3,7 @@
 -- `zone_found`, `home_of`: the zone of a seed. `onward`, `line_from`, `points_after`, `line`: the points of a line.
 -- `is_length`, `is_speed`, `are_accepted`: refusal 34. `is_nowhere`, `nowhere`: refusal 35.
 -- `line_answer`: the answer. `integrate`: the answer, or the refusal.
-use Rattle.std.specs.Prelude.{ℕ, zero, suc, ◌≡◌, Bool, true, false, not, ◌&&◌, List, [], ◌∷◌, ◌++◌, ltb, Float}
+use Rattle.std.specs.Prelude.{ℕ, zero, suc, Bool, true, false, not, ◌&&◌, List, [], ◌∷◌, ltb, Float}
 use Rattle.arith.specs.F64.{◌⊕◌, ◌⊗◌, ◌≺◌, ◌≼◌, 0·0, 1·0, -1·0, finite}
 use Rattle.arith.specs.declared.Vec3.{Vec3}
 use Rattle.arith.specs.declared.Found.{Found}

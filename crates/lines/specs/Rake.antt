@@ -1,5 +1,5 @@
 -- `integrate_rake`: a line from each of the seeds between two points, with the refusals 34 and 35.
-use Rattle.std.specs.Prelude.{ℕ, ◌-◌, not, List, [], ◌∷◌, ◌++◌, length}
+use Rattle.std.specs.Prelude.{ℕ, ◌-◌, not, List, [], ◌∷◌, ◌++◌}
 use Rattle.arith.specs.F64.{◌⊘◌, ofℕ}
 use Rattle.arith.specs.Lists.{any_of}
 use Rattle.arith.specs.Records.{tab}

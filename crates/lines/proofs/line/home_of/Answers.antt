@@ -1,0 +1,11 @@
+use Rattle.lines.proofs.HomeLaws.{home-first, home-there, home-none}
+use Rattle.lines.proofs.line.home_of.Goals as goal
+
+pub returns-then-t-ne2 : goal.returns-then-t-ne2
+returns-then-t-ne2 c = home-first _ _ _ _ _ c.requires c.if-t-ne2.true
+
+pub returns-in-At : goal.returns-in-At
+returns-in-At c = home-there _ _ _ _ _ _ (c.locate-found.ensures.by_index_2 _) _ _ c.in-At.is c.zone.ensures
+
+pub returns-in-Nothing : goal.returns-in-Nothing
+returns-in-Nothing c = home-none _ _ _ _ _ _ (c.locate-found.ensures.by_index_2 _) c.in-Nothing.is
