@@ -1,7 +1,6 @@
 -- `probe_world`: the first sample whose polygon holds a point of the plane.
 use Rattle.std.specs.Prelude.{Bool, true, false, cond, List, [], ◌∷◌, map}
 use Rattle.arith.specs.F64.{◌≺◌, 1e-8, abs}
-use Rattle.arith.specs.Lists.{fold}
 use Rattle.arith.specs.Vec.{minus, dot}
 use Rattle.arith.specs.Polygon.{even_odd}
 use Rattle.arith.specs.declared.Vec2.{Vec2}
