@@ -1,12 +1,11 @@
 -- The file of contents that are right, and what the writer and the converter answer. Assumes nothing.
-use Prim.Native.Nat.{ℕ, suc, ◌+◌, ◌-◌, ◌*◌, ◌≤◌, ◌<◌}
-use native.Mathlib.Nat.{zero-add}
+use Prim.Native.Nat.{ℕ, suc, ◌+◌, ◌≤◌, ◌<◌}
 use native.Mathlib.Omega.{arith}
 use mathlib.Core.Path.{◌≡◌, refl, ap, sym, ◌∙◌}
-use mathlib.Core.Bool.{Bool, true, false, not, ◌||◌}
+use mathlib.Core.Bool.{Bool, true, false}
 use mathlib.Core.List.{List, [], ◌∷◌, ◌++◌}
-use lib.Dec.{leb, ltb, eqb}
-use lib.ListN.{length, get_or, take, drop, length-append}
+use lib.Dec.{ltb, eqb}
+use lib.ListN.{length, get_or, take, length-append}
 use borrow.Author.Tests.{eq-eqb, ne_eqb, lt-ltb, le-ltb}
 use mir.Val.{Fits}
 use mir.Syntax.{w8, w32, w64}
@@ -15,8 +14,7 @@ use Rattle.arith_bytes.specs.Stored.{all_bytes, stored}
 use Rattle.arith_bytes.proofs.ByteLaws.{length-all_bytes, stored-first}
 use Rattle.reading.specs.Result.{Result, refused, fine, ◌>>=◌, refuse}
 use Rattle.case_file.specs.declared.Counts.{Counts}
-use Rattle.case_file.specs.declared.Opened.TheVariants.{Case}
-use Rattle.case_file.specs.Trailer.{counts_of, zones_from, zone_bytes, trailer_from, trailer_right, opened, opened_case}
+use Rattle.case_file.specs.Trailer.{counts_of, zones_from, trailer_from}
 use Rattle.case_file.specs.Field.{zones_of}
 use Rattle.case_file.proofs.TrailerLaws.{Opens, opens, open-short}
 use Rattle.case_survey.specs.Survey.{CaseSurvey, survey_of}
@@ -32,7 +30,7 @@ use Rattle.case_contents.proofs.RoundTrip.{Bits, front-is}
 use Rattle.case_contents.proofs.RefusalLaws as refusals
 use Rattle.case_contents.proofs.RefusalLaws.{Found, found, read-writable, read-sized}
 use Rattle.case_contents.proofs.PromiseLaws.{edition-read, write-promise, convert-promise}
-use Rattle.case_writer.specs.Ensures.{holding, length_of, end_bytes, PutCopyEntry, CopyEntry, PutEndEntry, FileExit}
+use Rattle.case_writer.specs.Ensures.{holding, length_of, end_bytes, PutCopyEntry, FileExit}
 use Rattle.case_writer.specs.declared.Written.{Written}
 use Rattle.case_writer.specs.declared.Written.TheVariants.{Length, Refused}
 use Rattle.case_writer.proofs.PartLaws.{join}

@@ -1,13 +1,11 @@
 -- The stores of the parts of a file, joined. Assumes nothing.
-use Prim.Native.Nat.{ℕ, zero, suc, ◌+◌, ◌-◌, ◌*◌, ◌≤◌, ◌<◌}
+use Prim.Native.Nat.{ℕ, ◌+◌, ◌*◌, ◌≤◌}
 use native.Mathlib.Nat.{zero-add}
 use native.Mathlib.Omega.{arith}
-use mathlib.Core.Path.{◌≡◌, refl, ap, ap₂, sym, ◌∙◌}
+use mathlib.Core.Path.{◌≡◌, ap, sym, ◌∙◌}
 use mathlib.Core.Logic.{⊎_elim}
-use mathlib.Core.Bool.{Bool, true, false, cond}
-use mathlib.Core.List.{List, [], ◌∷◌, ◌++◌, append_assoc, append-nil}
-use lib.Dec.{eqb}
-use lib.ListN.{length, get_or, set, take, drop, length-append}
+use mathlib.Core.List.{List, ◌++◌, append_assoc, append-nil}
+use lib.ListN.{length, length-append}
 use borrow.Author.Tests.{eq-eqb, ne_eqb}
 use Rattle.arith_bytes.specs.Stored.{le_bytes, all_bytes, stored}
 use Rattle.arith_bytes.proofs.ByteLaws.{length-le_bytes, length-all_bytes, length-stored, stored_more}
@@ -18,7 +16,7 @@ use Rattle.case_file.specs.Field.{cells_of, zones_of}
 use Rattle.case_file.proofs.TrailerLaws.{opens}
 use Rattle.case_file.proofs.ZoneLaws.{length-zones}
 use Rattle.case_contents.specs.Contents.{dimension_word, trailer_of, zone_words, offset_words, front_of}
-use Rattle.case_contents.specs.Accepted.{SizedCounts, Sized}
+use Rattle.case_contents.specs.Accepted.{SizedCounts}
 use Rattle.case_contents.proofs.LayoutLaws.{two-or-three}
 use Rattle.case_writer.specs.Ensures.{holding, end_bytes, end_from, PutFieldsEntry, PutEndEntry, CopyEntry}
 
