@@ -5,7 +5,7 @@ pub mod extent;
 
 ghost use Rattle.std.specs.Prelude.{◌≡◌, ◌+◌, ◌*◌, ◌<◌, ◌≤◌, length};
 ghost use Rattle.arith.specs.Lists.{after};
-ghost use Rattle.lines_polygon.specs.Contains as Contains;
+ghost use Rattle.lines_polygon.specs.Contains as Containment;
 ghost use Rattle.lines_polygon.specs.Vertices.{pair_from, pairs_from, side_from};
 
 use arith::number::next_of;
@@ -22,7 +22,7 @@ pub enum Position {
 
 // Not outside.
 pub fn is_within(p: Position) -> bool
-    ensures { result ≡ Contains.is_within p }
+    ensures { result ≡ Containment.is_within p }
 {
     match p {
         Position::Outside => false,
@@ -60,7 +60,7 @@ pub fn pair_at(floats: &[f64], at: usize) -> Vec2
 
 // a lies from the lower to the higher of b and c, within 1e-12.
 fn between(a: f64, b: f64, c: f64) -> bool
-    ensures { result ≡ Contains.between a b c }
+    ensures { result ≡ Containment.between a b c }
 {
     if a >= float::min(b, c) - 1.0e-12 {
         a <= float::max(b, c) + 1.0e-12
@@ -71,7 +71,7 @@ fn between(a: f64, b: f64, c: f64) -> bool
 
 // q lies on the line from a to b, within 1e-12. Two tests and no sign: the sign is a branch that cannot be foreseen.
 fn on_line(q: Vec2, a: Vec2, b: Vec2) -> bool
-    ensures { result ≡ Contains.on_line q (record { from = a; to = b }) }
+    ensures { result ≡ Containment.on_line q (record { from = a; to = b }) }
 {
     let v = (b.x - a.x) * (q.y - a.y) - (b.y - a.y) * (q.x - a.x);
     (v <= 1.0e-12) & (v >= -1.0e-12)
@@ -79,7 +79,7 @@ fn on_line(q: Vec2, a: Vec2, b: Vec2) -> bool
 
 // q lies on the side from a to b, within 1e-12.
 fn on_edge(q: Vec2, a: Vec2, b: Vec2) -> bool
-    ensures { result ≡ Contains.on_edge q (record { from = a; to = b }) }
+    ensures { result ≡ Containment.on_edge q (record { from = a; to = b }) }
 {
     if on_line(q, a, b) {
         if between(q.x, a.x, b.x) {
@@ -106,7 +106,7 @@ fn side_at(floats: &[f64], at: usize, n: usize, i: usize) -> Ends
 // Where q lies: on an edge where it lies on some side, inside where it crosses an odd number of them.
 pub fn point_in_polygon(q: Vec2, floats: &[f64], at: usize, n: usize) -> Position
     requires { (at + 2 * n ≤ length floats.now) × (n ≤ 24) }
-    ensures { result ≡ Contains.position q (pairs_from floats.now at n) }
+    ensures { result ≡ Containment.position q (pairs_from floats.now at n) }
 {
     if n < 3 {
         return Position::Outside;

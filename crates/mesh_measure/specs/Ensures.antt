@@ -16,7 +16,7 @@ use Rattle.mesh_measure.specs.declared.Weighed.{Weighed}
 use Rattle.mesh_measure.specs.declared.FaceWeight.{FaceWeight}
 use Rattle.mesh_measure.specs.declared.CellWeight.{CellWeight}
 use Rattle.mesh_measure.specs.declared.FaceWeight.TheVariants as Fan
-use Rattle.mesh_measure.specs.declared.CellWeight.TheVariants as All
+use Rattle.mesh_measure.specs.declared.CellWeight.TheVariants as Whole
 
 -- the faces of the record h
 unfoldable pub faces_at : List ℕ → Head → List (List ℕ)
@@ -44,5 +44,5 @@ pub data AddFaceExit (ps : List Vec3) (ws : List ℕ) (h : Head) (c : FaceCursor
 
 -- 15 "zero volume"
 unfoldable pub weight_of : CellWeight → Result Weight
-weight_of (All.Sum w) = fine w
-weight_of All.Degenerate = refused 15
+weight_of (Whole.Sum w) = fine w
+weight_of Whole.Degenerate = refused 15
