@@ -23,8 +23,8 @@ fn measure(dx: &[f64], dy: &[f64], quarters: &mut [u64], slopes: &mut [f64])
 
 // The places of the directions in angle order; quarters and slopes are work space.
 fn order(dx: &[f64], dy: &[f64], quarters: &mut [u64], slopes: &mut [f64], places: &mut [usize])
-    requires fact_1 { Spec.EqualLengths dx.now dy.now quarters.old slopes.old }
-    requires fact_2 { length places.old ≡ length dx.now }
+    requires equal_lengths { Spec.EqualLengths dx.now dy.now quarters.old slopes.old }
+    requires places_len { length places.old ≡ length dx.now }
     ensures { places.new ≡ Spec.ordered dx.now dy.now }
 {
     measure(dx, dy, quarters, slopes);
