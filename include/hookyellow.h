@@ -1,7 +1,7 @@
 /* Hookyellow: lines and plane sections of the air flow in a room, and the cells that each was made
  * from; a writer of case files and a converter between their editions.
  *
- * `rt staticlib capi` writes target/staticlib/libcapi.a. docs/FORMAT.md has the case, request and answer formats. A case is of
+ * `tools/staticlib capi` writes target/staticlib/libcapi.a. docs/FORMAT.md has the case, request and answer formats. A case is of
  * edition 1, or of edition 2, which has a zone for each cell: in it a line ends before its first point in another zone than its
  * seed's. Everything else is alike in both.
  *

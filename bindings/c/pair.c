@@ -1,6 +1,6 @@
 /* 01's known rooms through include/hookyellow.h. The same text is C11 and C++. `.ci/run` compiles it as both and runs it:
  *
- *     rt staticlib capi
+ *     tools/staticlib capi
  *     cc -std=c11 -Wall -Wextra -pedantic -Werror -I include bindings/c/pair.c target/staticlib/libcapi.a -o pair && ./pair
  *
  * Everything that is expected stands in docs/01-scope.md: in "Known rooms", or under the number of a refusal. The sheet is

@@ -2,7 +2,7 @@
  * written and converted, each in a thread whose stack was painted before. Prints the deepest place
  * that was written, and ends with 1 where it is beyond what include/hookyellow.h says.
  *
- *     rt staticlib capi
+ *     tools/staticlib capi
  *     cc -std=c11 -O2 -Wall -Wextra -Werror -I include bindings/c/stack.c target/staticlib/libcapi.a -lpthread -o stack && ./stack
  */
 #define _GNU_SOURCE

@@ -1,4 +1,4 @@
-//! Links the static library that `rt staticlib capi` writes. HOOKYELLOW_LIB names another folder that holds it.
+//! Links the static library that `tools/staticlib capi` writes. HOOKYELLOW_LIB names another folder that holds it.
 use std::path::{Path, PathBuf};
 
 fn main() {
@@ -10,7 +10,7 @@ fn main() {
     println!("cargo::rerun-if-env-changed=HOOKYELLOW_LIB");
     println!("cargo::rerun-if-changed={}", archive.display());
     if !archive.exists() {
-        println!("cargo::error={} is missing: run `rt staticlib capi` in the repository first", archive.display());
+        println!("cargo::error={} is missing: run `tools/staticlib capi` in the repository first", archive.display());
         return;
     }
     println!("cargo::rustc-link-search=native={}", folder.display());

@@ -1,4 +1,4 @@
-//! Links the static library that `rt staticlib test_arith_exports` writes.
+//! Links the static library that `tools/staticlib test_arith_exports` writes.
 use std::path::Path;
 
 fn main() {
@@ -7,7 +7,7 @@ fn main() {
     println!("cargo::rerun-if-changed={}", archive.display());
     if !archive.exists() {
         println!(
-            "cargo::error={} is missing: run `rt staticlib test_arith_exports` in the repository first",
+            "cargo::error={} is missing: run `tools/staticlib test_arith_exports` in the repository first",
             archive.display()
         );
         return;

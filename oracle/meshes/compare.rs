@@ -2,7 +2,7 @@
 //! process, and compares refusals, faces and cells by their bits; then times both on two large meshes.
 //!
 //! It is built in the workspace of the reference job, as a binary of its package `refair` (src/bin/compare.rs,
-//! whose `gen` makes the cases), and linked with target/staticlib/libtest_mesh_exports.a of `rt staticlib
+//! whose `gen` makes the cases), and linked with target/staticlib/libtest_mesh_exports.a of `tools/staticlib
 //! test_mesh_exports`:
 //!     RUSTFLAGS="-L native=TARGET/staticlib -l static=test_mesh_exports" cargo build --offline --release --bin compare
 //! Run: compare FIRST COUNT.

@@ -93,7 +93,7 @@
 //! The formats are those of docs/FORMAT.md; docs/01-scope.md says what each answer is, and
 //! docs/02-change-requests.md what a sheet is, what `all_cells` asks for, when a point is on an
 //! edge, what zones are for and what the writer and the converter refuse. The work is done by the
-//! proved code in the static library that `rt staticlib capi` writes; [`raw`] has its functions as
+//! proved code in the static library that `tools/staticlib capi` writes; [`raw`] has its functions as
 //! they are.
 #![warn(missing_docs)]
 

@@ -1,7 +1,7 @@
 //! Runs generated pairs (case, requests) by the proved code and by the reference job around FLURSYS's own code in one
 //! process, and compares the result, every word of the answer buffer by its bits and every byte of the marks buffer.
 //!
-//!     rt staticlib capi && (cd oracle && cargo run --offline --release -p compare -- FIRST COUNT)
+//!     tools/staticlib capi && (cd oracle && cargo run --offline --release -p compare -- FIRST COUNT)
 //!
 //! runs the pairs of the seeds from FIRST on, COUNT of them (REFERENCE names the folder of the
 //! reference job, see reference/build.rs). --lines, --planes, --sheets, --border and --edges make
