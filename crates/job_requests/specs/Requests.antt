@@ -6,7 +6,7 @@
 -- `over_field`: codes 1 to 4 and 9 to 12.
 -- `plane_of`: the plane. `statistics`: code 6. `over_plane`, `planar`: codes 5 to 8.
 -- `search_of`, `plain_code`, `is_planar`, `by_code`, `request_of`: all codes.
-use Rattle.std.specs.Prelude.{ℕ, ◌+◌, ◌-◌, ◌/◌, Bool, not, cond, ◌&&◌, ◌||◌, List, [], ◌∷◌, ltb, leb, eqb, length, get_or, drop, Float}
+use Rattle.std.specs.Prelude.{ℕ, ◌+◌, ◌-◌, ◌/◌, Bool, not, cond, ◌&&◌, ◌||◌, List, ltb, leb, eqb, length, get_or, drop, Float}
 use Rattle.arith.specs.Limits.{most_steps}
 use Rattle.arith.specs.F64.{float}
 use Rattle.arith.specs.Bytes.{le64, read_all}
