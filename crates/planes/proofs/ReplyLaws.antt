@@ -7,7 +7,7 @@ use lib.ListN.{length}
 use lib.Seq.{sets}
 use Rattle.arith.specs.F64.{◌≺◌, ◌⊖◌, 0·0, word}
 use Rattle.arith.specs.declared.Vec2.{Vec2}
-use Rattle.reading.specs.Result.{Result, refused, fine, ◌>>=◌}
+use Rattle.reading.specs.Result.{refused, fine, ◌>>=◌}
 use Rattle.answers.specs.declared.Answered.{Answered}
 use Rattle.answers.specs.declared.Answered.TheVariants.{Words, Refused}
 use Rattle.answers.specs.Ensures.{answer_of, length_of, words_of}

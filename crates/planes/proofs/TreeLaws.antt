@@ -12,7 +12,7 @@ use Rattle.arith.specs.declared.Vec3.{Vec3}
 use Rattle.reading.specs.declared.Values.{Values}
 use Rattle.reading.specs.Result as result
 use Rattle.reading.specs.Result.{Result, refused, fine, refuse, steps}
-use Rattle.reading.specs.Asks.{give, run, reads, ◌>>=◌}
+use Rattle.reading.specs.Asks.{give, run, reads}
 use Rattle.reading.specs.Marks.{mark_all}
 use Rattle.reading.proofs.AsksLaws.{run_bind, reads-bind}
 use Rattle.mesh_area.specs.Tables.{Mesh}
