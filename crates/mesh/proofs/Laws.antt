@@ -16,7 +16,6 @@ use Rattle.case_definitions.specs.Definitions.{definitions}
 use Rattle.case_file.specs.Trailer.{opened, words_of}
 use Rattle.case_file.specs.declared.Counts.{Counts}
 use Rattle.case_file.specs.declared.Opened.{Opened}
-use Rattle.case_file.specs.declared.Opened.TheVariants as Opened
 use Rattle.mesh_area.specs.declared.Sizes.{Sizes}
 use Rattle.mesh_area.specs.Tables.{Face, Cell, Mesh}
 use Rattle.mesh_area.specs.Layout.{faces_in, cells_in, mesh_in, LentWords, LentFloats, points_in}
@@ -40,14 +39,11 @@ use Rattle.mesh_cells.specs.Ensures as cells
 use Rattle.mesh_cells.specs.Partial.{partial_cell_in, partial_cells_in}
 use Rattle.mesh_cells.specs.Ensures.{FaceLists, PartialMeshHeld, AddCellsExit, added}
 use Rattle.mesh_cells.specs.declared.CellsAdded.{CellsAdded}
-use Rattle.mesh_cells.specs.declared.CellsAdded.TheVariants as CellsAdded
 use Rattle.mesh_centres.specs.Finish.{finished, finished_as}
 use Rattle.mesh_centres.specs.declared.Finished.{Finished}
-use Rattle.mesh_centres.specs.declared.Finished.TheVariants as Finished
 use Rattle.mesh_coordinates.specs.Coordinates.{acceptable, accepted_as}
 use Rattle.mesh.specs.Mesh.{completed, filled, from_cells}
 use Rattle.mesh.specs.declared.Built.{Built}
-use Rattle.mesh.specs.declared.Built.TheVariants as Built
 
 -- ---- what the builder answers
 

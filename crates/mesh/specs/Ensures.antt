@@ -18,7 +18,6 @@ use Rattle.mesh_neighbours.specs.Ensures.{CellLists}
 use Rattle.mesh_cells.specs.Cells.{PartialMesh}
 use Rattle.mesh_cells.specs.Partial.{partial_cells_in}
 use Rattle.mesh_centres.specs.Ensures.{FinishCellsEntry}
-use Rattle.mesh.specs.declared.Built.TheVariants as Built
 
 -- what each answer of the builder stands for: the mesh that the area holds, or the refusal
 unfoldable pub built_as : List Vec3 → List ℕ → List Float → Built → Result Mesh

@@ -32,9 +32,7 @@ use Rattle.mesh_measure.specs.Ensures.{faces_at}
 use Rattle.mesh_cells.specs.Cells.{PartialCell}
 use Rattle.mesh_cells.specs.Partial.{partial_cell_in, partial_cells_in}
 use Rattle.mesh_centres.specs.declared.Finished.{Finished}
-use Rattle.mesh_centres.specs.declared.Finished.TheVariants as Finished
 use Rattle.mesh_centres.specs.declared.CellFinished.{CellFinished}
-use Rattle.mesh_centres.specs.declared.CellFinished.TheVariants as CellFinished
 use Rattle.mesh_centres.specs.Finish.{finished, finished_as, definitions_of}
 use Rattle.mesh_centres.specs.Ensures.{FinishCellsEntry, FinishCellsExit, cell_from, floats_of, geometry_at, FinishRecordExit, stored, FinishCellEntry, FinishCellExit, next}
 use Rattle.mesh_centres.proofs.Going.{first_cells, Going}

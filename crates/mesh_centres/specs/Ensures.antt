@@ -1,7 +1,7 @@
 -- The contracts of `finish_cells` and its parts.
 -- `finish_cells`: `FinishCellsEntry`, `FinishCellsExit`. `cell_from`, `floats_of`: a cell's floats. `geometry_at`: its geometry.
 -- `finish_record`: `FinishRecordEntry`, `FinishRecordExit`. `finish_cell`: `FinishCellEntry`, `FinishCellExit`.
-use Rattle.std.specs.Prelude.{ℕ, ◌*◌, ◌≤◌, ◌+◌, ◌-◌, ◌<◌, ◌≡◌, List, [], ◌∷◌, length, get_or, take, drop, Float}
+use Rattle.std.specs.Prelude.{ℕ, ◌*◌, ◌≤◌, ◌+◌, ◌<◌, ◌≡◌, List, [], ◌∷◌, length, get_or, take, drop, Float}
 use Rattle.std.specs.Float.{nan}
 use Rattle.arith.specs.declared.Vec3.{Vec3}
 use Rattle.reading.specs.Result.{Result, refused, fine, map_all}
@@ -14,7 +14,6 @@ use Rattle.mesh_coordinates.specs.Coordinates.{PointBytes}
 use Rattle.mesh_cells.specs.Partial.{partial_cells_in}
 use Rattle.mesh_cells.specs.Ensures.{FaceLists}
 use Rattle.mesh_centres.specs.declared.Finished.{Finished}
-use Rattle.mesh_centres.specs.declared.Finished.TheVariants.{Done, ZeroVolume}
 use Rattle.arith.specs.Records.{puts}
 use Rattle.case_definitions.specs.Ensures.{HeadAt, definition_at}
 use Rattle.case_definitions.specs.declared.Cursor.{Cursor}
@@ -22,8 +21,6 @@ use Rattle.case_definitions.specs.declared.Head.{Head}
 use Rattle.mesh_volumes.specs.declared.CellGeometry.{CellGeometry}
 use Rattle.mesh_centres.specs.Finish.{finished, definitions_of, finished_as}
 use Rattle.mesh_centres.specs.declared.CellFinished.{CellFinished}
-use Rattle.mesh_centres.specs.declared.Finished.TheVariants as Finished
-use Rattle.mesh_centres.specs.declared.CellFinished.TheVariants as CellFinished
 
 -- what the caller of `finish_cells` shows: the area holds the partial cells of the definitions
 pub record FinishCellsEntry (case : List ℕ) (points : ℕ) (ws words : List ℕ) (floats : List Float) (s : Sizes) : Type 0 where

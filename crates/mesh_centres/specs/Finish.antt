@@ -3,7 +3,6 @@ use Rattle.std.specs.Prelude.{ℕ, List, [], map}
 use Rattle.arith.specs.declared.Vec3.{Vec3}
 use Rattle.reading.specs.Result.{Result, refused, fine, ◌>>=◌}
 use Rattle.case_definitions.specs.Faces.{Definition, faces_of}
-use Rattle.case_definitions.specs.Definitions.{definitions}
 use Rattle.mesh_area.specs.Tables.{Cell}
 use Rattle.mesh_volumes.specs.Geometry.{cell_geometry}
 use Rattle.mesh_cells.specs.Cells.{PartialCell}

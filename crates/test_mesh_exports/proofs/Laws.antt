@@ -13,7 +13,6 @@ use Rattle.mesh_area.specs.Layout.{mesh_in}
 use Rattle.mesh_area.specs.declared.Sizes.{Sizes}
 use Rattle.mesh.specs.Ensures.{BuildExit, sizes_for}
 use Rattle.mesh.specs.declared.Built.{Built}
-use Rattle.mesh.specs.declared.Built.TheVariants as Built
 use Rattle.mesh.proofs.Laws.{Standing, building-refused, building-mesh, standing-sizes}
 use Rattle.test_mesh_exports.specs.Exported.{refusal_of, sizes_of, FromCellsExit}
 

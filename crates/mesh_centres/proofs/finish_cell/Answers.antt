@@ -2,9 +2,6 @@ use Rattle.mesh_centres.proofs.Laws.{one_Cell}
 use borrow.Author.Rules.{rules}
 use Rattle.mesh_centres.proofs.finish_cell.Goals as goal
 
-pub record_at-requires : goal.record_at-requires
-record_at-requires c = search (one_Cell, rules)
-
 pub finish_record-requires : goal.finish_record-requires
 finish_record-requires c = search (one_Cell, rules)
 

@@ -1,4 +1,3 @@
-use Prim.Native.Nat.{◌-◌}
 use Rattle.mesh_centres.proofs.Laws.{all-cells, go-stop}
 use borrow.Author.Rules.{rules}
 use Rattle.mesh_centres.proofs.finish_cells.Goals as goal
@@ -12,12 +11,6 @@ finish_cell-requires c = search (all-cells, rules)
 pub returns-in_default : goal.returns-in_default
 returns-in_default c =
     go-stop _ _ _ _ _ _ _ _ c.requires _ _ _ c.loop-i.invariant.2 c.loop-i-test.true c.loop-i.invariant.1 _ c.finish_cell.ensures c.in_default.is
-
-pub overflow_add-i : goal.overflow_add-i
-overflow_add-i c = search (all-cells, rules)
-
-pub loop-i-smaller : goal.loop-i-smaller
-loop-i-smaller c = search (all-cells, rules)
 
 pub loop-i-preserved : goal.loop-i-preserved
 loop-i-preserved c = search (all-cells, rules)
