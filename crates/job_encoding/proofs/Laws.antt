@@ -13,7 +13,6 @@ use Rattle.arith.specs.F64.{word}
 use Rattle.arith.specs.declared.Vec3.{Vec3}
 use Rattle.arith.proofs.All.{All, all_append}
 use Rattle.lines_locate.specs.declared.Search.{Search}
-use Rattle.lines_locate.specs.declared.Search.TheVariants as Search
 use Rattle.lines_step.specs.declared.StreamlineOptions.{StreamlineOptions}
 use Rattle.lines.specs.declared.StreamlineDirection.{StreamlineDirection}
 use Rattle.lines.specs.declared.StreamlineDirection.TheVariants.{Forward, Backward}
@@ -23,7 +22,7 @@ use Rattle.planes_cut.specs.declared.Plane.{Plane}
 use Rattle.answers.specs.Words.{vec_words}
 use Rattle.job_requests.specs.Requests.{requests_in}
 use Rattle.job_requests.specs.Encode.{bytes_of}
-use Rattle.job_requests.proofs.EncodeLaws.{Word, length-bytes_of, one-request}
+use Rattle.job_requests.proofs.EncodeLaws.{Word, one-request}
 use Rattle.job_encoding.specs.Single.{padded, code_by, sheet_code, direction_word, line_words, plane_words, locate_words, velocity_words, one_line_words, streamline_words, sheet_words, rake_words, section_words, statistics_words, integrals_words, probe_words}
 
 -- ---- the words that are stored
