@@ -5,18 +5,6 @@ use Rattle.mesh_connection.proofs.ensure_connected.Goals as goal
 pub returns-then-s-le1 : goal.returns-then-s-le1
 returns-then-s-le1 c = search (searches, rules)
 
-pub overflow_mul-base : goal.overflow_mul-base
-overflow_mul-base c = search (searches, rules)
-
-pub overflow_mul-base-2 : goal.overflow_mul-base-2
-overflow_mul-base-2 c = search (searches, rules)
-
-pub overflow_add-base : goal.overflow_add-base
-overflow_add-base c = search (searches, rules)
-
-pub start-requires : goal.start-requires
-start-requires c = search (searches, rules)
-
 pub reach-requires : goal.reach-requires
 reach-requires c = search (searches, rules)
 

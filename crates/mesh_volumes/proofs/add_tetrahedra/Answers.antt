@@ -5,18 +5,6 @@ use Rattle.mesh_volumes.proofs.add_tetrahedra.Goals as goal
 pub loop-j-init : goal.loop-j-init
 loop-j-init c = search (tetrahedra-start, tetrahedra-turn, tetrahedra-done, rules)
 
-pub overflow_add-j : goal.overflow_add-j
-overflow_add-j c = search (tetrahedra-start, tetrahedra-turn, tetrahedra-done, rules)
-
-pub add_tetrahedron-sum-requires : goal.add_tetrahedron-sum-requires
-add_tetrahedron-sum-requires c = search (tetrahedra-start, tetrahedra-turn, tetrahedra-done, rules)
-
-pub overflow_add-j-in-loop-j : goal.overflow_add-j-in-loop-j
-overflow_add-j-in-loop-j c = search (tetrahedra-start, tetrahedra-turn, tetrahedra-done, rules)
-
-pub loop-j-smaller : goal.loop-j-smaller
-loop-j-smaller c = search (tetrahedra-start, tetrahedra-turn, tetrahedra-done, rules)
-
 pub loop-j-preserved : goal.loop-j-preserved
 loop-j-preserved c = search (tetrahedra-start, tetrahedra-turn, tetrahedra-done, rules)
 
