@@ -15,7 +15,7 @@ ghost use Rattle.std.specs.Prelude.{◌≤◌, length};
 use arith::bytes;
 use case_file::Counts;
 use case_writer::Written;
-use libc::STDOUT_FILENO;
+use std::fs::File;
 use test_stored::fnv;
 
 // The longest text: a file of 1,048,577 words.
@@ -82,22 +82,22 @@ fn end_of(n: usize, from: usize, len: usize) -> usize
 }
 
 // Puts the u64 of the next text into the room from `from` on. Where they end.
-fn read_longs(fd: i32, text: &mut [u8], room: &mut [u64], from: usize) -> usize
+fn read_longs(file: &mut File, text: &mut [u8], room: &mut [u64], from: usize) -> usize
     requires { from ≤ length room.old }
     ensures { (from ≤ result) × (result ≤ length room.new) }
 {
-    let n = test_stored::assemble(fd, text);
+    let n = test_stored::assemble(file, text);
     let end = end_of(n / 8, from, room.len());
     put_longs(&text[..n], &mut room[from..end]);
     end
 }
 
 // Puts the u32 of the next text into the room from `from` on. Where they end.
-fn read_shorts(fd: i32, text: &mut [u8], room: &mut [u32], from: usize) -> usize
+fn read_shorts(file: &mut File, text: &mut [u8], room: &mut [u32], from: usize) -> usize
     requires { from ≤ length room.old }
     ensures { (from ≤ result) × (result ≤ length room.new) }
 {
-    let n = test_stored::assemble(fd, text);
+    let n = test_stored::assemble(file, text);
     let end = end_of(n / 4, from, room.len());
     put_shorts(&text[..n], &mut room[from..end]);
     end
@@ -122,20 +122,21 @@ fn hash_of(out: &[u8]) -> u64 {
 }
 
 // Ends the line of an input.
-fn show_written(w: Written, out: &[u8]) {
+fn show_written(rt: &impl Print, w: Written, out: &[u8]) {
     match w {
         Written::Length(n) => {
-            io::write_all(STDOUT_FILENO, b"done ");
-            io::print_decimal(STDOUT_FILENO, n as u64);
+            let _ = rt.write_all(b"done ");
+            let _ = rt.print(n as u64);
         }
         Written::Refused(k) => {
-            io::write_all(STDOUT_FILENO, b"refused ");
-            io::print_decimal(STDOUT_FILENO, k);
+            let _ = rt.write_all(b"refused ");
+            let _ = rt.print(k);
         }
     }
-    io::write_all(STDOUT_FILENO, b" ");
-    io::print_hex(STDOUT_FILENO, hash_of(out), 16);
-    io::write_all(STDOUT_FILENO, b"\n");
+    let _ = rt.write_all(b" ");
+    let hash = hash_of(out);
+    let _ = print!(rt; "{hash:016x}");
+    let _ = rt.write_all(b"\n");
 }
 
 fn wide(x: u64) -> usize {
@@ -153,19 +154,20 @@ fn counts_of(text: &[u8]) -> Counts {
 }
 
 // The counts of the next text.
-fn read_counts(fd: i32, text: &mut [u8]) -> Counts {
-    let n = test_stored::assemble(fd, text);
+fn read_counts(file: &mut File, text: &mut [u8]) -> Counts {
+    let n = test_stored::assemble(file, text);
     counts_of(&text[..n])
 }
 
 // The first u64 of the next text.
-fn read_edition(fd: i32, text: &mut [u8]) -> usize {
-    let n = test_stored::assemble(fd, text);
+fn read_edition(file: &mut File, text: &mut [u8]) -> usize {
+    let n = test_stored::assemble(file, text);
     wide(long_at(&text[..n], 0))
 }
 
 // Runs the writer over an output of bytes a5.
 fn write(
+    rt: &impl Print,
     n: Counts,
     points: &[u64],
     words: &[u32],
@@ -176,12 +178,13 @@ fn write(
 ) {
     fill(out);
     let w = case_writer::write_case(n, points, words, velocities, pressures, zones, out);
-    show_written(w, out);
+    show_written(rt, w, out);
 }
 
 // Runs the writer over parts that stand one after the other, and end at these places: points,
 // velocities and pressures among the u64, words and zones among the u32.
 fn write_parts(
+    rt: &impl Print,
     n: Counts,
     longs: &[u64],
     points: usize,
@@ -196,6 +199,7 @@ fn write_parts(
     requires words_le_zones { (words ≤ zones) × (zones ≤ length shorts.now) }
 {
     write(
+        rt,
         n,
         &longs[..points],
         &shorts[..words],
@@ -208,7 +212,8 @@ fn write_parts(
 
 // Runs the writer over the points and words that were read, and the next texts.
 fn show_fields(
-    fd: i32,
+    rt: &impl Print,
+    file: &mut File,
     n: Counts,
     points: usize,
     words: usize,
@@ -219,76 +224,89 @@ fn show_fields(
 )
     requires { (points ≤ length longs.old) × (words ≤ length shorts.old) }
 {
-    let velocities = read_longs(fd, text, longs, points);
-    let pressures = read_longs(fd, text, longs, velocities);
-    let zones = read_shorts(fd, text, shorts, words);
+    let velocities = read_longs(file, text, longs, points);
+    let pressures = read_longs(file, text, longs, velocities);
+    let zones = read_shorts(file, text, shorts, words);
     write_parts(
-        n, longs, points, velocities, pressures, shorts, words, zones, out,
+        rt, n, longs, points, velocities, pressures, shorts, words, zones, out,
     );
 }
 
 // Runs the writer over the next texts.
-fn show_write(fd: i32, text: &mut [u8], longs: &mut [u64], shorts: &mut [u32], out: &mut [u8]) {
-    let n = read_counts(fd, text);
-    let points = read_longs(fd, text, longs, 0);
-    let words = read_shorts(fd, text, shorts, 0);
-    show_fields(fd, n, points, words, text, longs, shorts, out);
+fn show_write(
+    rt: &impl Print,
+    file: &mut File,
+    text: &mut [u8],
+    longs: &mut [u64],
+    shorts: &mut [u32],
+    out: &mut [u8],
+) {
+    let n = read_counts(file, text);
+    let points = read_longs(file, text, longs, 0);
+    let words = read_shorts(file, text, shorts, 0);
+    show_fields(rt, file, n, points, words, text, longs, shorts, out);
 }
 
 // Runs the converter over an output of bytes a5.
-fn convert(case: &[u8], edition: usize, out: &mut [u8]) {
+fn convert(rt: &impl Print, case: &[u8], edition: usize, out: &mut [u8]) {
     fill(out);
     let w = case_writer::convert(case, edition, out);
-    show_written(w, out);
+    show_written(rt, w, out);
 }
 
 // Runs the converter over the next texts.
-fn show_convert(fd: i32, text: &mut [u8], out: &mut [u8]) {
-    let edition = read_edition(fd, text);
-    let n = test_stored::assemble(fd, text);
-    convert(&text[..n], edition, out);
+fn show_convert(rt: &impl Print, file: &mut File, text: &mut [u8], out: &mut [u8]) {
+    let edition = read_edition(file, text);
+    let n = test_stored::assemble(file, text);
+    convert(rt, &text[..n], edition, out);
 }
 
 // Shows the next input of the file.
-fn show(fd: i32, text: &mut [u8], longs: &mut [u64], shorts: &mut [u32], out: &mut [u8]) {
-    test_stored::show_name(fd, text);
-    let converter = test_stored::number(fd, 1) == 1;
-    let n = test_stored::number(fd, out.len());
+fn show(
+    rt: &impl Print,
+    file: &mut File,
+    text: &mut [u8],
+    longs: &mut [u64],
+    shorts: &mut [u32],
+    out: &mut [u8],
+) {
+    test_stored::show_name(rt, file, text);
+    let converter = test_stored::number(file, 1) == 1;
+    let n = test_stored::number(file, out.len());
     if converter {
-        show_convert(fd, text, &mut out[..n]);
+        show_convert(rt, file, text, &mut out[..n]);
         return;
     }
-    show_write(fd, text, longs, shorts, &mut out[..n]);
+    show_write(rt, file, text, longs, shorts, &mut out[..n]);
 }
 
 // Shows the inputs of the file; `text` is to read them into.
-fn show_each(fd: i32, text: &mut [u8]) {
+fn show_each(rt: &impl Print, file: &mut File, text: &mut [u8]) {
     let mut longs_room = [0u64; LONGS];
     let mut shorts_room = [0u32; SHORTS];
     let mut out_room = [0u8; OUTPUT];
     let longs: &mut [u64] = &mut longs_room;
     let shorts: &mut [u32] = &mut shorts_room;
     let out: &mut [u8] = &mut out_room;
-    let count = test_stored::number(fd, 65536);
+    let count = test_stored::number(file, 65536);
     let mut i = 0;
     while i < count {
-        show(fd, text, longs, shorts, out);
+        show(rt, file, text, longs, shorts, out);
         i += 1;
     }
 }
 
-fn show_all(fd: i32) {
+fn show_all(rt: &impl Print, file: &mut File) {
     let mut text = [0u8; TEXT];
-    show_each(fd, &mut text);
+    show_each(rt, file, &mut text);
 }
 
-fn main() {
-    let path = b"writings";
-    let fd = os::open_read(path);
-    if fd < 0 {
-        os::fail(path);
-        return;
+fn main(rt: HostRuntime) {
+    let path = "writings";
+    match File::open(&rt, path) {
+        Ok(mut file) => show_all(&rt, &mut file),
+        Err(e) => {
+            let _ = eprintln!(rt; "{path}: {e}");
+        }
     }
-    show_all(fd);
-    libc::close(fd);
 }

@@ -1,0 +1,6 @@
+use native.Mathlib.Omega.{arith}
+use lib.ListN.{length-take}
+use Rattle.test_case_writing.proofs.read_shorts.Goals as goal
+
+pub slice_bounds-put_shorts-end-2 : goal.slice_bounds-put_shorts-end-2
+slice_bounds-put_shorts-end-2 c = simp length-take (omega arith)
