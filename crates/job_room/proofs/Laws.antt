@@ -24,8 +24,6 @@ use Rattle.job_room.specs.Room.{Room, Lent, room_of, requests_wrong, shortage, p
 use Rattle.job_room.specs.Ensures.{room_in, RoomStands, PrepareExit, standing, barred}
 use Rattle.job_room.specs.declared.Place.{Place}
 use Rattle.job_room.specs.declared.Prepared.{Prepared}
-use Rattle.case_file.specs.declared.Opened.TheVariants as Opened
-use Rattle.job_room.specs.declared.Prepared.TheVariants as Prepared
 
 -- 5, 6 and 7 were not due
 pub record Fits (cells requests : ℕ) (lent : Lent) : Type 0 where

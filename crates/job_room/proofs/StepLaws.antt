@@ -1,5 +1,5 @@
 -- The ways out of the parts of `prepare`. Assumes nothing.
-use Prim.Native.Nat.{ℕ, zero, suc, ◌+◌, ◌*◌, ◌/◌, ◌%◌, ◌≤◌, ◌<◌}
+use Prim.Native.Nat.{ℕ, zero, suc, ◌*◌, ◌/◌, ◌%◌, ◌≤◌, ◌<◌}
 use native.Mathlib.Omega.{arith}
 use mathlib.Core.Path.{◌≡◌, refl, ap, sym, ◌∙◌, subst}
 use mathlib.Core.Bool.{Bool, true, false}
@@ -8,7 +8,6 @@ use lib.Dec.{ltb}
 use lib.ListN.{length}
 use lib.Ieee.{Float}
 use borrow.Author.Tests.{eq-eqb, ne_eqb, lt-ltb, le-ltb}
-use Rattle.arith.specs.declared.Vec3.{Vec3}
 use Rattle.reading.specs.Result.{Result, refused, fine, ◌>>=◌, refuse}
 use Rattle.reading.proofs.ResultLaws.{bound, not-due}
 use Rattle.case_definitions.specs.Faces.{Definition, faces_counted}
@@ -30,7 +29,6 @@ use Rattle.mesh.specs.Case.{area_short, mesh_of}
 use Rattle.mesh.specs.Ensures.{BuildExit, BuildEntry}
 use Rattle.mesh_coordinates.specs.Coordinates.{accepted_as}
 use Rattle.mesh.specs.declared.Built.{Built}
-use Rattle.mesh.specs.declared.Built.TheVariants as Built
 use Rattle.mesh.proofs.Laws.{area-long, building-refused, building-mesh}
 use Rattle.lines_locate.specs.declared.Search.TheVariants.{Bins}
 use Rattle.lines_locate.specs.declared.Grid.{Grid}
@@ -48,7 +46,6 @@ use Rattle.job_room.specs.Room.{Room, flat, solid, Lent, room_from, room_of, req
 use Rattle.job_room.specs.Ensures.{room_in, counts_in, Servable, RoomStands, PrepareExit, standing, barred, Shortage, AddFieldEntry}
 use Rattle.job_room.specs.declared.Place.TheVariants.{Flat, Solid}
 use Rattle.job_room.specs.declared.Prepared.{Prepared}
-use Rattle.job_room.specs.declared.Prepared.TheVariants as Prepared
 use Rattle.job_room.proofs.Laws.{prepared-then}
 use Rattle.job_room.proofs.MeshLaws.{mesh-count, mesh-few, mesh-within, mesh-bounded}
 use Rattle.job_room.proofs.WithinLaws.{vertex-within, field-within}

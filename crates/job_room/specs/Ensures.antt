@@ -21,7 +21,6 @@ use Rattle.lines_field.specs.Ensures.{VertexLimit}
 use Rattle.planes_crossings.specs.Ensures.{MeshLimits}
 use Rattle.mesh_coordinates.specs.Coordinates.{accepted_as}
 use Rattle.planes_samples.specs.Ensures as Planes
-use Rattle.job_room.specs.declared.Prepared.TheVariants as Prepared
 
 -- the room that stands at a place
 unfoldable pub room_in : List ℕ → List ℕ → List Float → Place → Room

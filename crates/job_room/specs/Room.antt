@@ -1,7 +1,7 @@
 -- The room that requests are served over, and the refusals 1 to 19 and 45.
 -- `Room`: the room. `Lent`: how much is lent.
 -- `room_from`, `room_of`: the room, or 8 to 19. `requests_wrong`: 6. `shortage`: 4 to 7. `prepared`: the room, or the first refusal of all.
-use Rattle.std.specs.Prelude.{ℕ, ◌+◌, ◌*◌, ◌/◌, ◌%◌, Bool, true, false, not, ◌||◌, List, ltb, eqb}
+use Rattle.std.specs.Prelude.{ℕ, ◌*◌, ◌/◌, ◌%◌, Bool, true, false, not, ◌||◌, List, ltb, eqb}
 use Rattle.reading.specs.Result.{Result, fine, ◌>>=◌, refuse}
 use Rattle.case_file.specs.Field.{zones_of}
 use Rattle.case_survey.specs.Survey.{CaseSurvey, survey_of}
