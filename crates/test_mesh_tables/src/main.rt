@@ -13,9 +13,10 @@
 ghost use Rattle.mesh_area.specs.Layout.{LentWords, LentFloats};
 
 use arith::{Found, Vec3, bytes};
-use libc::STDOUT_FILENO;
 use mesh::Built;
 use mesh_area::Sizes;
+use std::fs::File;
+use std::io::Read;
 use test_stored::fnv;
 
 // The longest case, and the longest areas that are lent.
@@ -32,10 +33,10 @@ struct Digest {
     shown: bool,
 }
 
-fn put(d: Digest, x: u64) -> Digest {
+fn put(rt: &impl Print, d: Digest, x: u64) -> Digest {
     if d.shown {
-        io::write_all(STDOUT_FILENO, b" ");
-        io::print_hex(STDOUT_FILENO, x, 16);
+        let _ = rt.write_all(b" ");
+        let _ = print!(rt; "{x:016x}");
     }
     let hash = fnv::word(d.hash, x);
     Digest {
@@ -44,201 +45,200 @@ fn put(d: Digest, x: u64) -> Digest {
     }
 }
 
-fn put_number(d: Digest, n: usize) -> Digest {
-    put(d, n as u64)
+fn put_number(rt: &impl Print, d: Digest, n: usize) -> Digest {
+    put(rt, d, n as u64)
 }
 
-fn put_float(d: Digest, x: f64) -> Digest {
-    put(d, bytes::bits_of(x))
+fn put_float(rt: &impl Print, d: Digest, x: f64) -> Digest {
+    put(rt, d, bytes::bits_of(x))
 }
 
-fn put_vec(d: Digest, v: Vec3) -> Digest {
-    let d = put_float(d, v.x);
-    let d = put_float(d, v.y);
-    put_float(d, v.z)
+fn put_vec(rt: &impl Print, d: Digest, v: Vec3) -> Digest {
+    let d = put_float(rt, d, v.x);
+    let d = put_float(rt, d, v.y);
+    put_float(rt, d, v.z)
 }
 
 // 1 and the number, or 0 for none.
-fn put_found(d: Digest, n: Found) -> Digest {
+fn put_found(rt: &impl Print, d: Digest, n: Found) -> Digest {
     match n {
-        Found::At(i) => put(put(d, 1), i as u64),
-        Found::Nothing => put(d, 0),
+        Found::At(i) => put(rt, put(rt, d, 1), i as u64),
+        Found::Nothing => put(rt, d, 0),
     }
 }
 
-fn end_line(d: Digest) {
+fn end_line(rt: &impl Print, d: Digest) {
     if d.shown {
-        io::write_all(STDOUT_FILENO, b"\n");
+        let _ = rt.write_all(b"\n");
     }
 }
 
-fn put_vertices(d: Digest, words: &[u32], s: Sizes, f: usize) -> Digest
+fn put_vertices(rt: &impl Print, d: Digest, words: &[u32], s: Sizes, f: usize) -> Digest
     requires { LentWords s words.now }
 {
     let n = mesh_area::vertex_count(words, s, f);
-    let mut out = put_number(d, n);
+    let mut out = put_number(rt, d, n);
     let mut k = 0;
     while k < n {
-        out = put_number(out, mesh_area::vertex(words, s, f, k));
+        out = put_number(rt, out, mesh_area::vertex(words, s, f, k));
         k += 1;
     }
     out
 }
 
-fn put_face_geometry(d: Digest, floats: &[f64], s: Sizes, f: usize) -> Digest
+fn put_face_geometry(rt: &impl Print, d: Digest, floats: &[f64], s: Sizes, f: usize) -> Digest
     requires { LentFloats s floats.now }
 {
-    let d = put_vec(d, mesh_area::face_centre(floats, s, f));
-    let d = put_float(d, mesh_area::face_area(floats, s, f));
-    let d = put_vec(d, mesh_area::face_normal(floats, s, f));
-    put_vec(d, mesh_area::area_vector(floats, s, f))
+    let d = put_vec(rt, d, mesh_area::face_centre(floats, s, f));
+    let d = put_float(rt, d, mesh_area::face_area(floats, s, f));
+    let d = put_vec(rt, d, mesh_area::face_normal(floats, s, f));
+    put_vec(rt, d, mesh_area::area_vector(floats, s, f))
 }
 
-fn put_face(d: Digest, words: &[u32], floats: &[f64], s: Sizes, f: usize) -> Digest
+fn put_face(rt: &impl Print, d: Digest, words: &[u32], floats: &[f64], s: Sizes, f: usize) -> Digest
     requires { LentWords s words.now × LentFloats s floats.now }
 {
-    let d = put_vertices(d, words, s, f);
-    let d = put_number(d, mesh_area::owner_of(words, s, f));
-    let d = put_found(d, mesh_area::neighbour_of(words, s, f));
-    let d = put_face_geometry(d, floats, s, f);
-    end_line(d);
+    let d = put_vertices(rt, d, words, s, f);
+    let d = put_number(rt, d, mesh_area::owner_of(words, s, f));
+    let d = put_found(rt, d, mesh_area::neighbour_of(words, s, f));
+    let d = put_face_geometry(rt, d, floats, s, f);
+    end_line(rt, d);
     d
 }
 
-fn put_face_table(d: Digest, words: &[u32], floats: &[f64], s: Sizes) -> Digest
+fn put_face_table(rt: &impl Print, d: Digest, words: &[u32], floats: &[f64], s: Sizes) -> Digest
     requires { LentWords s words.now × LentFloats s floats.now }
 {
     let mut out = d;
     let mut f = 0;
     while f < s.faces {
-        out = put_face(out, words, floats, s, f);
+        out = put_face(rt, out, words, floats, s, f);
         f += 1;
     }
     out
 }
 
-fn put_cell_faces(d: Digest, words: &[u32], s: Sizes, i: usize) -> Digest
+fn put_cell_faces(rt: &impl Print, d: Digest, words: &[u32], s: Sizes, i: usize) -> Digest
     requires { LentWords s words.now }
 {
     let n = mesh_area::face_count(words, s, i);
-    let mut out = put_number(d, n);
+    let mut out = put_number(rt, d, n);
     let mut k = 0;
     while k < n {
-        out = put_number(out, mesh_area::cell_face(words, s, i, k));
+        out = put_number(rt, out, mesh_area::cell_face(words, s, i, k));
         k += 1;
     }
     out
 }
 
-fn put_neighbours(d: Digest, words: &[u32], s: Sizes, i: usize) -> Digest
+fn put_neighbours(rt: &impl Print, d: Digest, words: &[u32], s: Sizes, i: usize) -> Digest
     requires { LentWords s words.now }
 {
     let n = mesh_area::neighbour_count(words, s, i);
-    let mut out = put_number(d, n);
+    let mut out = put_number(rt, d, n);
     let mut k = 0;
     while k < n {
-        out = put_number(out, mesh_area::neighbour(words, s, i, k));
+        out = put_number(rt, out, mesh_area::neighbour(words, s, i, k));
         k += 1;
     }
     out
 }
 
-fn put_cell(d: Digest, words: &[u32], floats: &[f64], s: Sizes, i: usize) -> Digest
+fn put_cell(rt: &impl Print, d: Digest, words: &[u32], floats: &[f64], s: Sizes, i: usize) -> Digest
     requires { LentWords s words.now × LentFloats s floats.now }
 {
-    let d = put_cell_faces(d, words, s, i);
-    let d = put_neighbours(d, words, s, i);
-    let d = put_vec(d, mesh_area::centre_of(floats, s, i));
-    let d = put_float(d, mesh_area::volume_of(floats, s, i));
-    end_line(d);
+    let d = put_cell_faces(rt, d, words, s, i);
+    let d = put_neighbours(rt, d, words, s, i);
+    let d = put_vec(rt, d, mesh_area::centre_of(floats, s, i));
+    let d = put_float(rt, d, mesh_area::volume_of(floats, s, i));
+    end_line(rt, d);
     d
 }
 
-fn put_cell_table(d: Digest, words: &[u32], floats: &[f64], s: Sizes) -> Digest
+fn put_cell_table(rt: &impl Print, d: Digest, words: &[u32], floats: &[f64], s: Sizes) -> Digest
     requires { LentWords s words.now × LentFloats s floats.now }
 {
     let mut out = d;
     let mut i = 0;
     while i < s.cells {
-        out = put_cell(out, words, floats, s, i);
+        out = put_cell(rt, out, words, floats, s, i);
         i += 1;
     }
     out
 }
 
-fn put_tables(shown: bool, words: &[u32], floats: &[f64], s: Sizes) -> u64
+fn put_tables(rt: &impl Print, shown: bool, words: &[u32], floats: &[f64], s: Sizes) -> u64
     requires { LentWords s words.now × LentFloats s floats.now }
 {
     let d = Digest {
         hash: fnv::EMPTY,
         shown,
     };
-    let d = put_face_table(d, words, floats, s);
-    let d = put_cell_table(d, words, floats, s);
+    let d = put_face_table(rt, d, words, floats, s);
+    let d = put_cell_table(rt, d, words, floats, s);
     d.hash
 }
 
 // The line of a mesh, and its tables.
-fn show_mesh(shown: bool, words: &[u32], floats: &[f64], s: Sizes)
+fn show_mesh(rt: &impl Print, shown: bool, words: &[u32], floats: &[f64], s: Sizes)
     requires { LentWords s words.now × LentFloats s floats.now }
 {
-    let hash = put_tables(false, words, floats, s);
-    io::print_decimal(STDOUT_FILENO, s.faces as u64);
-    io::write_all(STDOUT_FILENO, b" ");
-    io::print_decimal(STDOUT_FILENO, s.cells as u64);
-    io::write_all(STDOUT_FILENO, b" ");
-    io::print_hex(STDOUT_FILENO, hash, 16);
-    io::write_all(STDOUT_FILENO, b"\n");
+    let hash = put_tables(rt, false, words, floats, s);
+    let _ = rt.print(s.faces as u64);
+    let _ = rt.write_all(b" ");
+    let _ = rt.print(s.cells as u64);
+    let _ = rt.write_all(b" ");
+    let _ = print!(rt; "{hash:016x}");
+    let _ = rt.write_all(b"\n");
     if shown {
-        put_tables(true, words, floats, s);
+        put_tables(rt, true, words, floats, s);
     }
 }
 
 // Builds a case's mesh and shows it.
-fn show_case(shown: bool, case: &[u8], words: &mut [u32], floats: &mut [f64]) {
+fn show_case(rt: &impl Print, shown: bool, case: &[u8], words: &mut [u32], floats: &mut [f64]) {
     match mesh::from_cells(case, words, floats) {
         Built::Refused(k) => {
-            io::write_all(STDOUT_FILENO, b"refused ");
-            io::print_decimal(STDOUT_FILENO, k);
-            io::write_all(STDOUT_FILENO, b"\n");
+            let _ = rt.write_all(b"refused ");
+            let _ = rt.print(k);
+            let _ = rt.write_all(b"\n");
         }
-        Built::Mesh(s) => show_mesh(shown, words, floats, s),
+        Built::Mesh(s) => show_mesh(rt, shown, words, floats, s),
     }
 }
 
 // Prints what the next case is due.
-fn show(fd: i32, case: &mut [u8], words: &mut [u32], floats: &mut [f64]) {
-    test_stored::show_name(fd, case);
-    let shown = test_stored::number(fd, 1) == 1;
-    let w = test_stored::number(fd, words.len());
-    let f = test_stored::number(fd, floats.len());
-    let end = test_stored::number(fd, case.len());
-    io::read_full(fd, &mut case[..end]);
-    show_case(shown, &case[..end], &mut words[..w], &mut floats[..f]);
+fn show(rt: &impl Print, file: &mut File, case: &mut [u8], words: &mut [u32], floats: &mut [f64]) {
+    test_stored::show_name(rt, file, case);
+    let shown = test_stored::number(file, 1) == 1;
+    let w = test_stored::number(file, words.len());
+    let f = test_stored::number(file, floats.len());
+    let end = test_stored::number(file, case.len());
+    let _ = file.read_exact(&mut case[..end]);
+    show_case(rt, shown, &case[..end], &mut words[..w], &mut floats[..f]);
 }
 
-fn show_all(fd: i32) {
+fn show_all(rt: &impl Print, file: &mut File) {
     let mut case_room = [0u8; LONGEST];
     let mut words_room = [0u32; WORDS];
     let mut floats_room = [0.0; FLOATS];
     let case: &mut [u8] = &mut case_room;
     let words: &mut [u32] = &mut words_room;
     let floats: &mut [f64] = &mut floats_room;
-    let count = test_stored::number(fd, 65536);
+    let count = test_stored::number(file, 65536);
     let mut i = 0;
     while i < count {
-        show(fd, case, words, floats);
+        show(rt, file, case, words, floats);
         i += 1;
     }
 }
 
-fn main() {
-    let path = b"cases";
-    let fd = os::open_read(path);
-    if fd < 0 {
-        os::fail(path);
-        return;
+fn main(rt: HostRuntime) {
+    let path = "cases";
+    match File::open(&rt, path) {
+        Ok(mut file) => show_all(&rt, &mut file),
+        Err(e) => {
+            let _ = eprintln!(rt; "{path}: {e}");
+        }
     }
-    show_all(fd);
-    libc::close(fd);
 }
