@@ -37,7 +37,6 @@ use Rattle.lines.specs.Rake.{integrate_rake}
 use Rattle.planes.specs.Answers.{section_of, statistics_of, integrals_of, probe_of}
 use Rattle.answers.specs.Words.{vec_words}
 use Rattle.answers.specs.declared.Answered.{Answered}
-use Rattle.answers.specs.declared.Answered.TheVariants as Answered
 use Rattle.answers.specs.Ensures.{answer_of, length_of, decided, replied, Reply}
 use Rattle.planes_sums.specs.Words.{sample_words}
 use Rattle.planes_samples.specs.Ensures as Planes
