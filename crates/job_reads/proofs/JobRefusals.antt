@@ -11,7 +11,6 @@ use Rattle.reading.specs.Result.{Result, refused, fine, ◌>>=◌}
 use Rattle.mesh_area.specs.Tables.{Face, Cell, Mesh}
 use Rattle.case_file.specs.Trailer.{trailer_right, over_limit, counts_of, opened, opened_case}
 use Rattle.case_file.specs.declared.Opened.{Opened}
-use Rattle.case_file.specs.declared.Opened.TheVariants as Opened
 use Rattle.case_definitions.specs.Faces.{Definition}
 use Rattle.case_definitions.specs.Definitions.{Taken, numbers, counted, face_lists, made, kinds, definition, definitions}
 use Rattle.mesh_geometry.specs.Faces.{Oriented, enough, long_enough, face_area_vector, measured, turned_if, oriented_face}
@@ -19,7 +18,6 @@ use Rattle.mesh_volumes.specs.declared.Weight.{Weight}
 use Rattle.mesh_volumes.specs.Geometry.{centre_2d, tetrahedra_of, add_face_3d, centre_3d, geometry_in, cell_geometry}
 use Rattle.mesh_geometry.specs.declared.FaceGeometry.{FaceGeometry}
 use Rattle.mesh_faces.specs.declared.Added.{Added}
-use Rattle.mesh_faces.specs.declared.Added.TheVariants as Added
 use Rattle.mesh_faces.specs.Table.{numbered_face, add_face}
 use Rattle.mesh_cell_parts.specs.Parts.{add_face_of}
 use Rattle.mesh_cells.specs.Cells.{PartialCell, PartialMesh, add_cell, partial_mesh}
