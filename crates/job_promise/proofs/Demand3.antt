@@ -8,7 +8,8 @@ use lib.Seq.{ext_get_or, get_or-append-add, get_or-drop}
 use Rattle.arith.specs.Lists.{flatten}
 use Rattle.reading.specs.declared.Values.{Values}
 use Rattle.reading.specs.Result.{fine, ◌>>=◌}
-use Rattle.reading.specs.Asks.{Asks, reads}
+use Rattle.answers.specs.Answer.{fitting, answer_words}
+use Rattle.reading.specs.Asks.{Asks, run, reads}
 use Rattle.reading.specs.Marks.{cleared}
 use Rattle.reading.specs.After.{After, done, Named}
 use Rattle.reading.proofs.AsksLaws.{reads-bind}
@@ -33,7 +34,7 @@ use Rattle.job_promise.specs.Job.{job_of, lent_to, outcome}
 all-within : (room : Room) {n : ℕ} → ((q : Request) → Within n (serve room q)) → (left : ℕ) (rs : List (List ℕ)) → Within n (serve_all room left rs)
 unfolding serve_all reply_to
 all-within room h left [] = given
-all-within room h left (r ∷ rs) = within-bind (h _) (λ a. within-bind (all-within room h _ rs) (λ ws. given))
+all-within room h left (r ∷ rs) = within-bind (h _) (λ a. within-bind (all-within room h (left - length (answer_words (fitting left (length rs) a))) rs) (λ ws. given))
 
 -- and exactly what they read, one after another
 pub reads-each : (room : Room) (f : ℕ → Values) (left : ℕ) (rs : List (List ℕ)) → reads (serve_all room left rs) f ≡ flatten (map (λ r. reads (reply_to room r) f) rs)
@@ -41,7 +42,7 @@ unfolding serve_all flatten
 reads-each room f left [] = refl
 reads-each room f left (r ∷ rs) =
     reads-bind (reply_to room r) _ f
-    ∙ ap (λ l. reads (reply_to room r) f ++ l) (reads-bind (serve_all room _ rs) _ f ∙ append-nil _ ∙ reads-each room f _ rs)
+    ∙ ap (λ l. reads (reply_to room r) f ++ l) (reads-bind (serve_all room _ rs) _ f ∙ append-nil _ ∙ reads-each room f (left - length (answer_words (fitting left (length rs) (run (reply_to room r) f)))) rs)
 
 -- ---- two runs
 

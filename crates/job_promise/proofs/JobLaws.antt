@@ -13,7 +13,6 @@ use Rattle.job_requests.specs.Requests.{requests_in}
 use Rattle.job_room.specs.Room.{Lent, prepared}
 use Rattle.job_room.specs.declared.Place.{Place}
 use Rattle.job_room.specs.declared.Prepared.{Prepared}
-use Rattle.job_room.specs.declared.Prepared.TheVariants as Prepared
 use Rattle.job_room.specs.Ensures.{room_in, counts_in, RoomStands, PrepareExit}
 use Rattle.job_room.proofs.Laws.{prepared-outside, prepared-fits, counts-are, preparing-refused, preparing-ready}
 use Rattle.job_promise.specs.List.{serve_all}

@@ -23,7 +23,6 @@ use Rattle.job_requests.proofs.Laws.{requests-count, requests-at}
 use Rattle.job_room.specs.Room.{Room, Lent, prepared}
 use Rattle.job_room.specs.declared.Place.{Place}
 use Rattle.job_room.specs.declared.Prepared.{Prepared}
-use Rattle.job_room.specs.declared.Prepared.TheVariants as Prepared
 use Rattle.job_room.specs.Ensures.{room_in, counts_in, PrepareExit}
 use Rattle.job_room.proofs.Laws.{prepared-outside, preparing-refused}
 use Rattle.answers.specs.Answer.{fitting, answer_words}
