@@ -1,13 +1,13 @@
 -- How a room is computed. `outcome` walks the tree of a job for its answer and again for its cells, over the buffers that are lent; here both come of one
 -- pass, without the buffers.
-use Rattle.std.specs.Prelude.{ℕ, ◌-◌, ◌<◌, ◌≡◌, refl, Bool, true, false, ◌&&◌, List, [], ◌∷◌, ◌++◌, ltb, length, drop, set, replicate}
-use Rattle.std.proofs.Common.{ap, sym, ◌∙◌, length-set, ltb-true}
+use Rattle.std.specs.Prelude.{ℕ, ◌≡◌, refl, Bool, true, false, ◌&&◌, List, [], ◌∷◌, ◌++◌, ltb, length, drop, set, replicate}
+use Rattle.std.proofs.Common.{ap, ◌∙◌, length-set, ltb-true}
 use Rattle.std.proofs.lemmas.List.{length-replicate, set-append_left}
 use Rattle.reading.specs.declared.Values.{Values}
 use Rattle.reading.specs.Result.{Result, refused, fine}
 use Rattle.reading.specs.Asks.{Asks, give, ask, run, reads}
 use Rattle.reading.specs.Marks.{mark_all}
-use Rattle.reading.specs.After.{After, done}
+use Rattle.reading.specs.After.{done}
 use Rattle.case_file.specs.Field.{outside, cells_of, values_of}
 use Rattle.job_room.specs.Room.{Lent}
 use Rattle.job_promise.specs.Job.{job_of, outcome}
