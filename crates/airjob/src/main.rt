@@ -4,7 +4,9 @@
 
 ghost use Rattle.std.specs.Prelude.{◌≤◌, length};
 
-use libc::STDOUT_FILENO;
+use std::fs::File;
+use std::io::Read;
+use std::rt::Files;
 
 // One byte more than a file may have.
 const ROOM: usize = 65537;
@@ -13,37 +15,48 @@ const ROOM: usize = 65537;
 const TEXT: usize = 262144;
 
 // What was opened can be read: a folder cannot.
-fn is_readable(fd: i32) -> bool {
+fn is_readable(file: &mut File) -> bool {
     let mut byte = [0u8; 1];
-    libc::read(fd, &mut byte[..0]) >= 0
+    file.read(&mut byte[..0]).is_ok()
+}
+
+// Reads until the room is full, the file ends or a read fails; how many bytes were read.
+fn read_full(file: &mut File, room: &mut [u8]) -> usize
+    ensures { result ≤ length room.new }
+{
+    let mut done = 0;
+    while done < room.len() {
+        let n = file.read(&mut room[done..]).unwrap_or(0);
+        if n == 0 {
+            break;
+        }
+        done += n;
+    }
+    done
 }
 
 // Reads a file; how many bytes it has. All of the room for a file that is missing, cannot be read or
 // is too long.
-fn load(path: &[u8], room: &mut [u8]) -> usize
+fn load(files: &impl Files<File = File>, path: &str, room: &mut [u8]) -> usize
     ensures { result ≤ length room.new }
 {
-    let fd = os::open_read(path);
-    if fd < 0 {
+    let Ok(mut file) = File::open(files, path) else {
+        return room.len();
+    };
+    if !is_readable(&mut file) {
         return room.len();
     }
-    if !is_readable(fd) {
-        libc::close(fd);
-        return room.len();
-    }
-    let n = io::read_full(fd, room);
-    libc::close(fd);
-    n
+    read_full(&mut file, room)
 }
 
 // Prints the first n bytes, where there are so many.
-fn print(text: &[u8], n: usize) {
+fn print(rt: &impl Print, text: &[u8], n: usize) {
     if n <= text.len() {
-        io::write_all(STDOUT_FILENO, &text[..n]);
+        let _ = rt.write_all(&text[..n]);
     }
 }
 
-fn run(case: &[u8], requests: &[u8]) {
+fn run(rt: &impl Print, case: &[u8], requests: &[u8]) {
     let mut words = [0u32; 16384];
     let mut floats = [0.0; 8192];
     let mut marks = [0u8; 16384];
@@ -58,13 +71,13 @@ fn run(case: &[u8], requests: &[u8]) {
         &mut answers,
         &mut text,
     );
-    print(&text, n);
+    print(rt, &text, n);
 }
 
-fn main() {
+fn main(rt: HostRuntime) {
     let mut case = [0u8; ROOM];
     let mut requests = [0u8; ROOM];
-    let c = load(b"case.bin", &mut case);
-    let r = load(b"requests.bin", &mut requests);
-    run(&case[..c], &requests[..r]);
+    let c = load(&rt, "case.bin", &mut case);
+    let r = load(&rt, "requests.bin", &mut requests);
+    run(&rt, &case[..c], &requests[..r]);
 }

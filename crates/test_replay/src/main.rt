@@ -11,7 +11,7 @@
 #![tactic(auto)]
 
 use job_promise::Outcome;
-use libc::STDOUT_FILENO;
+use std::fs::File;
 use test_stored::fnv;
 
 // The longest case: 65,537 points.
@@ -69,42 +69,59 @@ fn fill_marks(marks: &mut [u8]) {
 }
 
 // Ends the line of a pair with the hashes of its buffers.
-fn show_hashes(answers: &[u64], marks: &[u8]) {
-    io::write_all(STDOUT_FILENO, b" ");
-    io::print_hex(STDOUT_FILENO, hash_of_answers(answers), 16);
-    io::write_all(STDOUT_FILENO, b" ");
-    io::print_hex(STDOUT_FILENO, hash_of_marks(marks), 16);
-    io::write_all(STDOUT_FILENO, b"\n");
+fn show_hashes(rt: &impl Print, answers: &[u64], marks: &[u8]) {
+    let _ = rt.write_all(b" ");
+    let hash_answers = hash_of_answers(answers);
+    let _ = print!(rt; "{hash_answers:016x}");
+    let _ = rt.write_all(b" ");
+    let hash_marks = hash_of_marks(marks);
+    let _ = print!(rt; "{hash_marks:016x}");
+    let _ = rt.write_all(b"\n");
 }
 
 // The first n bytes of the text, if there are as many.
-fn show_text(text: &[u8], n: usize) {
+fn show_text(rt: &impl Print, text: &[u8], n: usize) {
     if n <= text.len() {
-        io::write_all(STDOUT_FILENO, &text[..n]);
+        let _ = rt.write_all(&text[..n]);
     }
 }
 
-fn show_refusal(shown: bool, k: u64, marks: &[u8], answers: &[u64], text: &mut [u8]) {
-    io::write_all(STDOUT_FILENO, b"refused ");
-    io::print_decimal(STDOUT_FILENO, k);
-    show_hashes(answers, marks);
+fn show_refusal(
+    rt: &impl Print,
+    shown: bool,
+    k: u64,
+    marks: &[u8],
+    answers: &[u64],
+    text: &mut [u8],
+) {
+    let _ = rt.write_all(b"refused ");
+    let _ = rt.print(k);
+    show_hashes(rt, answers, marks);
     if shown {
         let n = listing::put_refusal(text, k);
-        show_text(text, n);
+        show_text(rt, text, n);
     }
 }
 
-fn show_done(shown: bool, count: usize, marks: &[u8], answers: &[u64], text: &mut [u8]) {
-    io::write_all(STDOUT_FILENO, b"done");
-    show_hashes(answers, marks);
+fn show_done(
+    rt: &impl Print,
+    shown: bool,
+    count: usize,
+    marks: &[u8],
+    answers: &[u64],
+    text: &mut [u8],
+) {
+    let _ = rt.write_all(b"done");
+    show_hashes(rt, answers, marks);
     if shown {
         let n = listing::put_done(text, answers, count, marks);
-        show_text(text, n);
+        show_text(rt, text, n);
     }
 }
 
 // Runs the job of a pair and shows it.
 fn show_job(
+    rt: &impl Print,
     shown: bool,
     case: &[u8],
     requests: &[u8],
@@ -117,14 +134,15 @@ fn show_job(
     fill_answers(answers);
     fill_marks(marks);
     match job::job(case, requests, words, floats, marks, answers) {
-        Outcome::Refused(k) => show_refusal(shown, k, marks, answers, text),
-        Outcome::Done => show_done(shown, requests.len() / 128, marks, answers, text),
+        Outcome::Refused(k) => show_refusal(rt, shown, k, marks, answers, text),
+        Outcome::Done => show_done(rt, shown, requests.len() / 128, marks, answers, text),
     }
 }
 
 // Shows the next pair of the file.
 fn show(
-    fd: i32,
+    rt: &impl Print,
+    file: &mut File,
     case: &mut [u8],
     requests: &mut [u8],
     words: &mut [u32],
@@ -133,15 +151,16 @@ fn show(
     answers: &mut [u64],
     text: &mut [u8],
 ) {
-    test_stored::show_name(fd, text);
-    let shown = test_stored::number(fd, 1) == 1;
-    let w = test_stored::number(fd, words.len());
-    let f = test_stored::number(fd, floats.len());
-    let m = test_stored::number(fd, marks.len());
-    let a = test_stored::number(fd, answers.len());
-    let c = test_stored::assemble(fd, case);
-    let r = test_stored::assemble(fd, requests);
+    test_stored::show_name(rt, file, text);
+    let shown = test_stored::number(file, 1) == 1;
+    let w = test_stored::number(file, words.len());
+    let f = test_stored::number(file, floats.len());
+    let m = test_stored::number(file, marks.len());
+    let a = test_stored::number(file, answers.len());
+    let c = test_stored::assemble(file, case);
+    let r = test_stored::assemble(file, requests);
     show_job(
+        rt,
         shown,
         &case[..c],
         &requests[..r],
@@ -153,7 +172,7 @@ fn show(
     );
 }
 
-fn show_all(fd: i32) {
+fn show_all(rt: &impl Print, file: &mut File) {
     let mut case_room = [0u8; CASE];
     let mut requests_room = [0u8; REQUESTS];
     let mut words_room = [0u32; WORDS];
@@ -168,21 +187,22 @@ fn show_all(fd: i32) {
     let marks: &mut [u8] = &mut marks_room;
     let answers: &mut [u64] = &mut answers_room;
     let text: &mut [u8] = &mut text_room;
-    let count = test_stored::number(fd, 65536);
+    let count = test_stored::number(file, 65536);
     let mut i = 0;
     while i < count {
-        show(fd, case, requests, words, floats, marks, answers, text);
+        show(
+            rt, file, case, requests, words, floats, marks, answers, text,
+        );
         i += 1;
     }
 }
 
-fn main() {
-    let path = b"pairs";
-    let fd = os::open_read(path);
-    if fd < 0 {
-        os::fail(path);
-        return;
+fn main(rt: HostRuntime) {
+    let path = "pairs";
+    match File::open(&rt, path) {
+        Ok(mut file) => show_all(&rt, &mut file),
+        Err(e) => {
+            let _ = eprintln!(rt; "{path}: {e}");
+        }
     }
-    show_all(fd);
-    libc::close(fd);
 }
