@@ -1,0 +1,5 @@
+use Rattle.capi.proofs.Laws.{number-promised}
+use Rattle.capi.proofs.alone.hookyellow_integrals.Goals as goal
+
+pub returns : goal.returns
+returns c = number-promised (rw c.plane.ensures at c.integrals.ensures.promise) c.number_of.ensures
