@@ -5,7 +5,7 @@ python3 oracle/rooms/computing.py, in the repository. A definition that is added
 import re
 from pathlib import Path
 
-KIT = "add sub mul div lt le eq ofBits toBits ofInt round toUnsigned isNan neg size odd".split()
+KIT = "add sub mul div lt le eq of_bits to_bits of_int round to_unsigned is_nan neg size odd".split()
 LEFT_OUT = {"test_rooms", "job_reads", "listing"}
 
 
@@ -33,9 +33,9 @@ def main():
                 found.append(name if alias == name else f"{name} as {alias}")
                 names.append(alias)
             if found:
-                uses.append(f"use Rattle·{crate}.specs.{path.stem}.{{{', '.join(found)}}}")
+                uses.append(f"use Rattle.{crate}.specs.{path.stem}.{{{', '.join(found)}}}")
     text = "-- One name for all that the rooms compute with: to unfold it is to unfold these.\n"
-    text += f"use lib.Ieee.{{{', '.join(KIT)}}}\n" + "\n".join(uses)
+    text += f"use Rattle.std.specs.Float.Ieee.{{{', '.join(KIT)}}}\n" + "\n".join(uses)
     text += "\n\nunfoldable pub computing : Unit {0}\nunfolding " + " ".join(KIT + names) + "\ncomputing = tt\n"
     Path("crates/test_rooms/specs/Computing.antt").write_text(text)
 
