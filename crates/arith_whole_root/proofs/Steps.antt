@@ -7,9 +7,9 @@ use mathlib.Core.Bool.{Bool, true, false}
 use mir.Syntax.{w64}
 use mir.Val.{Fits, bool_byte}
 use borrow.Author.Tests.{leb-true, leb-false}
-use lib.Dec.{leb}
 use lib.Pow.{pow-lt}
 use Rattle.arith_whole_root.specs.Whole.{WholeRoot}
+use Rattle.arith_whole_root.proofs.Takes.{takes}
 
 -- q has the first digits of the root of n, and k are to come: the square of q leaves y * 2 ^ k of n, and the root is below q + 2 ^ k.
 pub record Begun (n q y k : ℕ) : Type 0 where
@@ -46,10 +46,6 @@ taken q y p d e =
 
 left : (q y p : ℕ) → q * q + y * (p + p) ≡ q * q + 2 * y * p
 left q y p = omega (arith, mul-add y p p, mul_assoc 2 y p)
-
--- the next digit is 1: its step t is in what is left, z
-abbrev pub takes : ℕ → ℕ → Bool
-takes t z = leb t z
 
 takes-1 : (t z : ℕ) → takes t z ≡ true → t ≤ z
 takes-1 t z e = omega (arith, leb-true _ z e)

@@ -1,5 +1,6 @@
 pub mod LocateLaws
 pub mod IndexLaws
+pub mod IndexRises
 pub mod RangeLaws
 pub mod SearchLaws
 pub mod FoundLaws

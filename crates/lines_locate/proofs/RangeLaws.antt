@@ -1,29 +1,25 @@
 -- A polygon that contains a point has the point's bin of the index among those that its limits meet, so a cell that the index does not list there does
 -- not contain the point. Assumes nothing.
 use Prim.Native.Nat.{ℕ, ◌+◌, ◌≤◌, ◌<◌}
-use native.Mathlib.Nat.{le_refl, le_antisymm}
 use native.Mathlib.Omega.{arith}
 use mathlib.Core.Path.{◌≡◌, refl, sym, ◌∙◌}
-use mathlib.Core.Logic.{◌⊎◌, inl, inr}
-use mathlib.Core.Bool.{Bool, true, false, cond, true≢false, false≢true}
+use mathlib.Core.Bool.{Bool, true, false, cond, false≢true}
 use mathlib.Core.List.{List}
 use lib.Dec.{ltb}
 use lib.Ieee.{Float, nan, inf, fin, add, round, lt, le, eq, is_nan, of_bits, of_int, to_unsigned}
-use borrow.Author.Tests.{le-leb, lt-ltb, le-ltb, ltb-true, ltb-false}
+use borrow.Author.Tests.{le-leb, lt-ltb, le-ltb, ltb-true}
 use Rattle.arith.specs.Limits.{most_bins}
 use Rattle.arith.specs.F64.{◌⊕◌, ◌≺◌, ◌≼◌, 0·5, finite, ofℕ, floorℕ}
 use Rattle.arith.specs.declared.Vec2.{Vec2}
 use Rattle.arith.proofs.Floats.{nan-only}
-use Rattle.arith.proofs.RecordLaws.{lt-or-ge}
 use Rattle.mesh_area.specs.declared.Sizes.{Sizes}
 use Rattle.mesh_area.specs.Layout.{words_end}
 use Rattle.lines_bins.specs.Index.{reaches, in_bin}
 use Rattle.lines_polygon.specs.declared.Limits.{Limits}
 use Rattle.lines_polygon.specs.Contains.{contains}
 use Rattle.lines_polygon.specs.Extent.{LimitsHold}
-use Rattle.lines_polygon.proofs.OrderLaws.{most-through}
 use Rattle.lines_polygon.proofs.CrossLaws.{nought}
-use Rattle.lines_polygon.proofs.RiseLaws.{not-below, floor-order, along-rises, along-nan}
+use Rattle.lines_polygon.proofs.RiseLaws.{not-below, along-rises, along-nan}
 use Rattle.lines_locate.specs.declared.Bin.{Bin}
 use Rattle.lines_locate.specs.declared.Grid.{Grid}
 use Rattle.lines_locate.specs.declared.Search.{Search}
@@ -31,6 +27,7 @@ use Rattle.lines_locate.specs.Locate.{holds}
 use Rattle.lines_locate.specs.Layout.{polygon_in, cell_polygon_in}
 use Rattle.lines_locate.specs.Ranges.{index_at, index_along, index_bin, first_bin, last_bin, Ranged}
 use Rattle.lines_locate.specs.Ensures.{HasBins, LocateCellEntry}
+use Rattle.lines_locate.proofs.IndexRises.{index-at-rises}
 use Rattle.lines_locate.proofs.LocateLaws.{not-held}
 
 finite-real : (x : Float) → finite x ≡ true → is_nan x ≡ false
@@ -47,35 +44,6 @@ most-nan (inf false) = refl
 most-nan (fin s m e) = refl
 
 -- ---- the bin rises with the place
-
-index-at-rises : (n : ℕ) (x y : Float) → (x ≼ y) ≡ true → index_at n x ≤ index_at n y
-unfolding index_at
-index-at-rises n x y h = by (ltb (floorℕ x) n) refl (ltb (floorℕ y) n) refl (ofℕ (floorℕ x) ⊕ 0·5 ≼ x) refl (ofℕ (floorℕ y) ⊕ 0·5 ≼ y) refl
-  where
-    f : floorℕ x ≤ floorℕ y
-    f = floor-order x y h
-
-    -- a half of the same whole part
-    half : floorℕ x ≡ floorℕ y → (ofℕ (floorℕ x) ⊕ 0·5 ≼ x) ≡ true → (ofℕ (floorℕ y) ⊕ 0·5 ≼ y) ≡ true
-    half e k = rw (← e) (most-through (ofℕ (floorℕ x) ⊕ 0·5) x y k h)
-
-    by : (t : Bool) → ltb (floorℕ x) n ≡ t → (u : Bool) → ltb (floorℕ y) n ≡ u → (v : Bool) → (ofℕ (floorℕ x) ⊕ 0·5 ≼ x) ≡ v → (z : Bool) → (ofℕ (floorℕ y) ⊕ 0·5 ≼ y) ≡ z
-        → cond t (cond v (floorℕ x + 1) (floorℕ x)) n ≤ cond u (cond z (floorℕ y + 1) (floorℕ y)) n
-    by true et true eu true ev true ez = omega (arith, f)
-    by true et true eu true ev false ez = by_2 (lt-or-ge (floorℕ x) (floorℕ y))
-      where
-        by_2 : (floorℕ x < floorℕ y) ⊎ (floorℕ y ≤ floorℕ x) → floorℕ x + 1 ≤ floorℕ y
-        by_2 (inl k) = omega arith
-        by_2 (inr k) = absurd (true≢false (sym (half (le_antisymm f k) ev) ∙ ez))
-    by true et true eu false ev true ez = omega (arith, f)
-    by true et true eu false ev false ez = f
-    by true et false eu true ev z ez = let k = ltb-true (floorℕ x) n et in omega arith
-    by true et false eu false ev z ez = let k = ltb-true (floorℕ x) n et in omega arith
-    by false et true eu v ev z ez =
-        let k = ltb-false (floorℕ x) n et in
-        let j = ltb-true (floorℕ y) n eu in
-        absurd (omega (arith, f))
-    by false et false eu v ev z ez = le_refl n
 
 module _ (n : ℕ) (w : Float) (k : ℕ) (e : k ≡ floorℕ w) where
   pub index-half : k < n → (ofℕ k ⊕ 0·5 ≼ w) ≡ true → k + 1 ≡ index_at n w

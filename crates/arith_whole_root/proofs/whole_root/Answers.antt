@@ -3,7 +3,8 @@ use Prim.Native.Nat.{◌+◌, ◌*◌, ◌^◌}
 use native.Mathlib.Nat.{zero-add}
 use native.Mathlib.Omega.{arith}
 use mir.Val.{bool_byte}
-use Rattle.arith_whole_root.proofs.Steps.{Turn, place, takes, turn, no_more}
+use Rattle.arith_whole_root.proofs.Steps.{Turn, place, turn, no_more}
+use Rattle.arith_whole_root.proofs.Takes.{takes}
 use Rattle.arith_whole_root.proofs.whole_root.Goals as goal
 
 -- what a turn makes of its digit
