@@ -1,7 +1,7 @@
--- The ways out of `has_zones`, of `has_parts` and of `open`, and what a case that opened has. Assumes nothing.
+-- The ways out of `has_zones` and of `open`, and what a case that opened has. Assumes nothing.
 use Prim.Native.Nat.{ℕ, ◌+◌, ◌-◌, ◌*◌, ◌≤◌, ◌<◌}
 use native.Mathlib.Omega.{arith}
-use mathlib.Core.Path.{◌≡◌, refl, sym, ◌∙◌}
+use mathlib.Core.Path.{◌≡◌, refl, sym}
 use mathlib.Core.Bool.{Bool, true, false, ◌&&◌, ◌||◌}
 use mathlib.Core.List.{List}
 use lib.Dec.{leb, ltb, eqb}
@@ -10,11 +10,7 @@ use borrow.Author.Tests.{eq-eqb, ne_eqb, le-leb, lt-leb, eqb-true, ltb-false}
 use Rattle.arith.specs.Bytes.{le32}
 use Rattle.case_file.specs.declared.Counts.{Counts}
 use Rattle.case_file.specs.declared.Opened.TheVariants.{Case, Refused}
-use Rattle.case_file.specs.Trailer.{trailer_word, counts_of, words_from, field_from, pressures_from, zones_from, zone_bytes, trailer_from, is_dimension, has_offsets, has_zones, has_parts, trailer_right, over_limit, opened}
-
-and-false : (a b : Bool) → b ≡ false → false ≡ (a && b)
-and-false true b e = sym e
-and-false false b e = refl
+use Rattle.case_file.specs.Trailer.{counts_of, zones_from, zone_bytes, trailer_from, is_dimension, has_offsets, has_zones, has_parts, trailer_right, over_limit, opened}
 
 pub and_left : (a b : Bool) → (a && b) ≡ true → a ≡ true
 and_left true b e = refl
@@ -48,50 +44,6 @@ module _ (file : List ℕ) (n : Counts) where
     pub zones-placed : (r : ℕ) → 36 ≤ length file → r ≡ le32 file (length file - 36) → eqb r (24 * n.points + 4 * n.words + 32 * n.cells) ≡ has_zones file n
     unfolding has_zones zones_from
     zones-placed r h e = rw (eq-eqb n.edition 2 two, le-leb 36 (length file) h, e)
-
--- ---- the offsets and the length
-
-module _ (file : List ℕ) (n : Counts) where
-  differs : (k at r : ℕ) → r ≡ trailer_word file k → (r ≡ at → ⊥) → eqb (trailer_word file k) at ≡ false
-  differs k at r e d = ne_eqb (trailer_word file k) at (λ w. d (e ∙ w))
-
-  pub wrong_start : (r : ℕ) → r ≡ trailer_word file 4 → (r ≡ 0 → ⊥) → false ≡ has_parts file n
-  unfolding has_parts has_offsets
-  wrong_start r e d = rw (differs 4 0 r e d)
-
-  pub wrong-words : (r : ℕ) → r ≡ trailer_word file 5 → (r ≡ 24 * n.points → ⊥) → false ≡ has_parts file n
-  unfolding has_parts has_offsets words_from
-  wrong-words r e d =
-      rw (← and-false (eqb (trailer_word file 4) 0) (eqb (trailer_word file 5) (24 * n.points)) (differs 5 (24 * n.points) r e d))
-
-  pub wrong-velocities : (r : ℕ) → r ≡ trailer_word file 6 → (r ≡ 24 * n.points + 4 * n.words → ⊥) → false ≡ has_parts file n
-  unfolding has_parts has_offsets field_from
-  wrong-velocities r e d =
-      rw (← and-false
-      (eqb (trailer_word file 4) 0 && eqb (trailer_word file 5) (words_from n))
-      (eqb (trailer_word file 6) (24 * n.points + 4 * n.words))
-      (differs 6 (24 * n.points + 4 * n.words) r e d))
-
-  pub wrong-pressures : (r : ℕ) → r ≡ trailer_word file 7 → (r ≡ 24 * n.points + 4 * n.words + 24 * n.cells → ⊥) → false ≡ has_parts file n
-  unfolding has_parts has_offsets pressures_from
-  wrong-pressures r e d =
-      rw (← and-false
-      (eqb (trailer_word file 4) 0 && eqb (trailer_word file 5) (words_from n) && eqb (trailer_word file 6) (field_from n))
-      (eqb (trailer_word file 7) (24 * n.points + 4 * n.words + 24 * n.cells))
-      (differs 7 (24 * n.points + 4 * n.words + 24 * n.cells) r e d))
-
-  pub wrong-zones : has_zones file n ≡ false → false ≡ has_parts file n
-  unfolding has_parts
-  wrong-zones e = rw (← and-false (has_offsets file n) (has_zones file n) e)
-
-  pub right-offsets : (r4 r5 r6 r7 z : ℕ) → r4 ≡ trailer_word file 4 → r4 ≡ 0 → r5 ≡ trailer_word file 5 → r5 ≡ 24 * n.points →
-      r6 ≡ trailer_word file 6 → r6 ≡ 24 * n.points + 4 * n.words → r7 ≡ trailer_word file 7 → r7 ≡ 24 * n.points + 4 * n.words + 24 * n.cells →
-      z ≡ zone_bytes n → has_zones file n ≡ true →
-      eqb (length file) (24 * n.points + 4 * n.words + 24 * n.cells + 8 * n.cells + z + 32) ≡ has_parts file n
-  unfolding has_parts has_offsets words_from field_from pressures_from zones_from trailer_from
-  right-offsets r4 r5 r6 r7 z e4 h4 e5 h5 e6 h6 e7 h7 ez hz =
-      let end : 24 * n.points + 4 * n.words + 24 * n.cells + 8 * n.cells + z + 32 ≡ 24 * n.points + 4 * n.words + 32 * n.cells + zone_bytes n + 32 = omega arith in
-      rw (end, eq-eqb _ _ (sym e4 ∙ h4), eq-eqb _ _ (sym e5 ∙ h5), eq-eqb _ _ (sym e6 ∙ h6), eq-eqb _ _ (sym e7 ∙ h7), hz)
 
 -- ---- the answers of `open`
 

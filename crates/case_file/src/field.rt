@@ -5,7 +5,6 @@ ghost use Rattle.reading.specs.Asks.{ask, give};
 ghost use Rattle.reading.specs.Served.{Served};
 ghost use Rattle.case_file.specs.Trailer.{opened};
 ghost use Rattle.arith.specs.Lists.{all_of};
-ghost use Rattle.case_file.specs.Field as Field;
 ghost use Rattle.case_file.specs.Field.{values_of, zone_of, zones_of, is_at_most, zones_within};
 
 use crate::{Counts, Opened};
@@ -68,36 +67,12 @@ pub fn zone(case: &[u8], n: Counts, i: usize) -> u32
     bytes::word_at(case, zones + 4 * i)
 }
 
-// The larger of two numbers.
-pub fn larger(a: u32, b: u32) -> u32
-    ensures { result ≡ Field.larger a b }
-{
-    if a < b {
-        return b;
-    }
-    a
-}
-
-// The largest zone; 0 where there is no cell.
-fn largest_zone(case: &[u8], n: Counts) -> u32
-    requires { opened case.now ≡ Opened.Case n }
-    ensures { result ≡ Field.largest (zones_of case.now) }
-{
-    let mut most = 0;
-    let mut i = 0;
-    while i < n.cells {
-        most = larger(most, zone(case, n, i));
-        i += 1;
-    }
-    most
-}
-
 // No zone is above `most`.
 pub fn zones_at_most(case: &[u8], n: Counts, most: u32) -> bool
     requires { opened case.now ≡ Opened.Case n }
     ensures { result ≡ all_of (is_at_most most) (zones_of case.now) }
 {
-    largest_zone(case, n) <= most
+    (0..n.cells).all(|i| zone(case, n, i) <= most)
 }
 
 // No zone is above 255.

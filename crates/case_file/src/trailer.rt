@@ -20,25 +20,17 @@ fn trailer_word(case: &[u8], k: usize) -> usize
 fn edition(w: usize) -> usize
     ensures { result ≡ Trailer.edition_of w }
 {
-    if w == 102 {
-        return 2;
-    }
-    if w == 103 {
-        return 2;
-    }
-    1
+    if w == 102 || w == 103 { 2 } else { 1 }
 }
 
 fn dimension(w: usize) -> usize
     ensures { result ≡ Trailer.dimension_of w }
 {
-    if w == 102 {
-        return 2;
+    match w {
+        102 => 2,
+        103 => 3,
+        _ => w,
     }
-    if w == 103 {
-        return 3;
-    }
-    w
 }
 
 // The edition of a file that has a trailer.
@@ -67,10 +59,7 @@ fn counts(case: &[u8]) -> Counts
 pub fn is_dimension(d: usize) -> bool
     ensures { result ≡ Trailer.is_dimension d }
 {
-    if d == 2 {
-        return true;
-    }
-    d == 3
+    d == 2 || d == 3
 }
 
 // What edition 2 has between the pressures and the trailer: the zones and their offset.
@@ -109,35 +98,19 @@ fn has_parts(case: &[u8], n: Counts) -> bool
     let velocities = words + 4 * n.words;
     let pressures = velocities + 24 * n.cells;
     let end = pressures + 8 * n.cells + zone_bytes(n) + 32;
-    if trailer_word(case, 4) != 0 {
-        return false;
-    }
-    if trailer_word(case, 5) != words {
-        return false;
-    }
-    if trailer_word(case, 6) != velocities {
-        return false;
-    }
-    if trailer_word(case, 7) != pressures {
-        return false;
-    }
-    if !has_zones(case, n) {
-        return false;
-    }
-    case.len() == end
+    trailer_word(case, 4) == 0
+        && trailer_word(case, 5) == words
+        && trailer_word(case, 6) == velocities
+        && trailer_word(case, 7) == pressures
+        && has_zones(case, n)
+        && case.len() == end
 }
 
 // A count is over its limit.
 pub fn is_over(n: Counts) -> bool
     ensures { result ≡ Trailer.over_limit n }
 {
-    if n.points > 65536 {
-        return true;
-    }
-    if n.cells > 16384 {
-        return true;
-    }
-    n.words > 1048576
+    n.points > 65536 || n.cells > 16384 || n.words > 1048576
 }
 
 // The counts of a case, or refusal 1 or 2.

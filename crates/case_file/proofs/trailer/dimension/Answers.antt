@@ -1,15 +1,16 @@
-use borrow.Author.Tests.{eq-eqb, ne_eqb}
+use native.Mathlib.Omega.{arith}
+use Rattle.std.proofs.lemmas.Bool.Decides.{nat_tests}
 use Rattle.case_file.specs.Trailer.{dimension_of}
 use Rattle.case_file.proofs.trailer.dimension.Goals as goal
 
-pub returns-then-w-eq102 : goal.returns-then-w-eq102
+pub returns-in-102 : goal.returns-in-102
 unfolding dimension_of
-returns-then-w-eq102 c = rw (eq-eqb _ _ c.if-w-eq102.true)
+returns-in-102 c = rw c.in-102.is
 
-pub returns-then-w-eq103 : goal.returns-then-w-eq103
+pub returns-in-103 : goal.returns-in-103
 unfolding dimension_of
-returns-then-w-eq103 c = rw (ne_eqb _ _ c.if-w-eq102.false, eq-eqb _ _ c.if-w-eq103.true)
+returns-in-103 c = rw c.in-103.is
 
-pub returns : goal.returns
+pub returns-in_default : goal.returns-in_default
 unfolding dimension_of
-returns c = rw (ne_eqb _ _ c.if-w-eq102.false, ne_eqb _ _ c.if-w-eq103.false)
+returns-in_default c = grind (arith, nat_tests)

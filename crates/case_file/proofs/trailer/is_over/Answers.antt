@@ -1,15 +1,12 @@
-use borrow.Author.Tests.{lt-ltb, le-ltb}
+use native.Mathlib.Omega.{arith}
+use Rattle.std.proofs.lemmas.Bool.Decides.{nat_tests}
 use Rattle.case_file.specs.Trailer.{over_limit}
 use Rattle.case_file.proofs.trailer.is_over.Goals as goal
 
-pub returns-then-n-gt65536 : goal.returns-then-n-gt65536
-unfolding over_limit
-returns-then-n-gt65536 c = rw (lt-ltb _ _ c.if-n-gt65536.true)
-
 pub returns-then-n-gt16384 : goal.returns-then-n-gt16384
 unfolding over_limit
-returns-then-n-gt16384 c = rw (le-ltb _ _ c.if-n-gt65536.false, lt-ltb _ _ c.if-n-gt16384.true)
+returns-then-n-gt16384 c = grind (arith, nat_tests)
 
-pub returns : goal.returns
+pub returns-else-n-gt16384 : goal.returns-else-n-gt16384
 unfolding over_limit
-returns c = rw (le-ltb _ _ c.if-n-gt65536.false, le-ltb _ _ c.if-n-gt16384.false)
+returns-else-n-gt16384 c = grind (arith, nat_tests)
