@@ -3,7 +3,6 @@ use Prim.Native.Nat.{ℕ, suc, ◌+◌, ◌-◌, ◌*◌, ◌≤◌, ◌<◌}
 use native.Mathlib.Nat.{suc-mul, mul-suc, zero-mul, mul_comm, mul-le-mul_right}
 use native.Mathlib.Omega.{arith}
 use mathlib.Core.Path.{◌≡◌, refl, ap, sym, ◌∙◌}
-use mathlib.Core.Bool.{true, false}
 use mathlib.Core.List.{List, [], ◌∷◌, ◌++◌, append_assoc}
 use lib.ListN.{length, get_or, take, drop, length-drop, length-append}
 use lib.Seq.{length-take-le}
@@ -256,9 +255,6 @@ head-to ws at h c e =
     record { step = ap (step_at ws) a ∙ sym e }
 
 -- ---- `looks_like` and the loop of `run`
-
-pub looks-off : {A : Type 0} → false ≡ true → A
-looks-off q = absurd (let z : ◌≡◌ {A = ℕ} 0 1 = cc in omega arith)
 
 module _ (ws : List ℕ) (h : Head) (at p : ℕ) (t : HeadTo ws h at) where
   pub looks-so : p + (at - h.at) ≤ length ws → get_or ws p 0 ≡ h.kind → (h.kind ≡ 0 → get_or ws (p + 1) 0 ≡ h.faces) → Looks ws h.at (at - h.at) p

@@ -109,13 +109,11 @@ fn skip_faces(words: &[u8], first: usize, n: usize) -> Skipped
         (face_lists n (drop first (words_in words.now))) }
 {
     let mut at = first;
-    let mut i = 0;
-    while i < n {
+    for _ in 0..n {
         let Listed::Count(count) = list_at(words, at, 8) else {
             return Skipped::Short(3);
         };
-        at = at + 1 + count;
-        i += 1;
+        at += 1 + count;
     }
     Skipped::To(at)
 }
@@ -219,16 +217,9 @@ fn looks_like(words: &[u8], h: Head, at: usize, p: usize) -> bool
     requires { Ensures.HeadTo (words_in words.now) h at × (h.kind ≤ 4) × (p ≤ length (words_in words.now)) }
     ensures { result ≡ true → Ensures.Looks (words_in words.now) h.at (at - h.at) p }
 {
-    if total(words) - p < at - h.at {
-        return false;
-    }
-    if word_at(words, p) != h.kind {
-        return false;
-    }
-    if 0 < h.kind {
-        return true;
-    }
-    word_at(words, p + 1) as usize == h.faces
+    at - h.at <= total(words) - p
+        && word_at(words, p) == h.kind
+        && (0 < h.kind || word_at(words, p + 1) as usize == h.faces)
 }
 
 // How many records from `at` on, at most `left`, look like the one with the head h, which ends
@@ -241,16 +232,13 @@ fn run(words: &[u8], h: Head, at: usize, left: usize) -> usize
         return 0;
     }
     let mut p = at;
-    let mut k = 0;
-    while k < left {
-        if looks_like(words, h, at, p) {
-            p += at - h.at;
-        } else {
+    for k in 0..left {
+        if !looks_like(words, h, at, p) {
             return k;
         }
-        k += 1;
+        p += at - h.at;
     }
-    k
+    left
 }
 
 // The same, where it is time to look: where `wait` is 0.
@@ -283,6 +271,7 @@ pub fn walk(words: &[u8], cells: usize) -> Walked
     let mut faces = 0;
     let mut i = 0;
     let mut wait = 0;
+    // No `for`: a turn passes over a record and all that look like it.
     while i < cells {
         match record_at(words, Cursor { at }) {
             Step::Wrong(r) => return Walked::Refused(r),

@@ -102,10 +102,7 @@ fn place_after(n: usize, k: usize) -> usize
     requires { k < n }
     ensures { (result ≡ after n k) × (result < n) }
 {
-    if k + 1 == n {
-        return 0;
-    }
-    k + 1
+    if k + 1 == n { 0 } else { k + 1 }
 }
 
 // Face c of h, which is no polyhedron, was copied with its n point numbers: the next face has no place of its own.
@@ -183,10 +180,8 @@ fn copy_list(words: &[u8], h: Head, c: FaceCursor, out: &mut [u32; 8]) -> Copied
         result.count result.next }
 {
     let count = walker::word(words, c.at) as usize;
-    let mut j = 0;
-    while j < count {
+    for j in 0..count {
         out[j] = walker::word(words, c.at + 1 + j);
-        j += 1;
     }
     Copied {
         count,
@@ -203,8 +198,7 @@ pub fn copy_face(words: &[u8], h: Head, c: FaceCursor, out: &mut [u32; 8]) -> Co
     ensures { CopyFaceExit (words_in words.now) h c out.old out.new
         result.count result.next }
 {
-    let kind = h.kind;
-    match kind {
+    match h.kind {
         0 => copy_side(words, h, c, out),
         1 => copy_places(words, h, c, tetrahedron(c.face), out),
         2 => copy_places(words, h, c, hexahedron(c.face), out),

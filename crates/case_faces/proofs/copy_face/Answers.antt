@@ -5,9 +5,6 @@ use Rattle.case_faces.specs.Ensures.{table_of}
 use Rattle.case_faces.proofs.FaceLaws.{kind-few, solid-few, solid-ready}
 use Rattle.case_faces.proofs.copy_face.Goals as goal
 
-pub copy_side-requires : goal.copy_side-requires
-copy_side-requires c = let p = c.requires in (p.0, p.1, p.2, c.in-0.is)
-
 -- `case_faces::copy_face` meets its contract. Assumes nothing.
 pub tetrahedron-requires : goal.tetrahedron-requires
 unfolding table_of tetrahedron
@@ -48,30 +45,6 @@ unfolding table_of
 copy_places-requires-in-4 c =
     let p = c.requires in
     solid-ready _ _ _ p.0 p.1 c.args.out.now p.2 4 c.in-4.is (omega arith) (omega arith) _ c.pyramid.ensures
-
-pub copy_list-requires : goal.copy_list-requires
-copy_list-requires c = let p = c.requires in (p.0, p.1, p.2, c.in-5.is)
-
-pub passed-requires : goal.passed-requires
-passed-requires c = c.requires.1
-
-pub returns-in-0 : goal.returns-in-0
-returns-in-0 c = c.copy_side.ensures
-
-pub returns-in-1 : goal.returns-in-1
-returns-in-1 c = c.copy_places.ensures
-
-pub returns-in-2 : goal.returns-in-2
-returns-in-2 c = c.copy_places-in-2.ensures
-
-pub returns-in-3 : goal.returns-in-3
-returns-in-3 c = c.copy_places-in-3.ensures
-
-pub returns-in-4 : goal.returns-in-4
-returns-in-4 c = c.copy_places-in-4.ensures
-
-pub returns-in-5 : goal.returns-in-5
-returns-in-5 c = c.copy_list.ensures
 
 pub returns-in-6-to-4294967295 : goal.returns-in-6-to-4294967295
 returns-in-6-to-4294967295 c = let p = c.requires in absurd (omega (arith, kind-few _ _ _ p.0 p.1))

@@ -19,28 +19,13 @@ pub loop-j-init : goal.loop-j-init
 loop-j-init c =
     let p = c.requires in
     let f = face-of-polyhedron (words_in c.args.words.now) c.args.h c.args.c p.0 p.1 p.3 in
-    (omega arith, omega (arith, c.word-count.ensures, f.few), p.2, p.2, omega (arith, c.word-count.ensures, f.room), refl)
+    (omega (arith, c.word-count.ensures, f.few), p.2, p.2, omega (arith, c.word-count.ensures, f.room), refl)
 
 pub overflow_add-c : goal.overflow_add-c
 overflow_add-c c = omega (arith, length-words_in c.args.words.now)
 
 pub overflow_add-c-in-loop-j : goal.overflow_add-c-in-loop-j
 overflow_add-c-in-loop-j c = omega (arith, length-words_in c.args.words.now)
-
-pub word-requires : goal.word-requires
-word-requires c = omega arith
-
-pub offset_bounds-out-j : goal.offset_bounds-out-j
-offset_bounds-out-j c = omega arith
-
-pub bounds-out-j : goal.bounds-out-j
-bounds-out-j c = omega arith
-
-pub overflow_add-j : goal.overflow_add-j
-overflow_add-j c = omega arith
-
-pub loop-j-smaller : goal.loop-j-smaller
-loop-j-smaller c = omega arith
 
 pub loop-j-preserved : goal.loop-j-preserved
 loop-j-preserved c =
@@ -49,13 +34,12 @@ loop-j-preserved c =
     let n = c.word-count.result in
     let ws = words_in a.words.now in
     let f = part ws (a.c.at + 1) n in
-    let k : length f ≡ n = length_part ws (a.c.at + 1) n l.invariant.4 in (
-      omega arith,
+    let k : length f ≡ n = length_part ws (a.c.at + 1) n l.invariant.3 in (
+      l.invariant.0,
       l.invariant.1,
-      l.invariant.2,
       simp length-set (omega arith),
-      l.invariant.4,
-      copy-next a.out.now f l.out l.j c.word.result l.invariant.5 (omega arith) (omega arith)
+      l.invariant.3,
+      copy-next a.out.now f l.out l.j c.word.result l.invariant.4 (omega arith) (omega arith)
           (c.word.ensures ∙ sym (get_or_part ws (a.c.at + 1) n l.j 0 (omega arith))),
     )
 
@@ -69,4 +53,4 @@ pub returns : goal.returns
 returns c =
     let p = c.requires in
     let l = c.loop-j in
-    list_copied _ _ _ p.0 p.1 _ p.2 _ l.out l.j p.3 c.word-count.ensures l.invariant.5 l.invariant.0 (omega arith)
+    list_copied _ _ _ p.0 p.1 _ p.2 _ l.out l.j p.3 c.word-count.ensures l.invariant.4 (omega arith) (omega arith)

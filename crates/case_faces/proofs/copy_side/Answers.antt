@@ -1,4 +1,3 @@
-use native.Mathlib.Omega.{arith}
 use Rattle.case_faces.proofs.FaceLaws.{side-of-polygon, side-copied}
 use Rattle.case_faces.proofs.copy_side.Goals as goal
 
@@ -6,22 +5,10 @@ use Rattle.case_faces.proofs.copy_side.Goals as goal
 pub number_at-requires : goal.number_at-requires
 number_at-requires c = let p = c.requires in (side-of-polygon _ _ _ p.0 p.1 p.3).room _ p.1
 
-pub bounds-out-0 : goal.bounds-out-0
-bounds-out-0 c = omega arith
-
-pub place_after-requires : goal.place_after-requires
-place_after-requires c = c.requires.1
-
 pub number_at-requires-2 : goal.number_at-requires-2
 number_at-requires-2 c =
     let p = c.requires in
     (side-of-polygon _ _ _ p.0 p.1 p.3).room _ c.place_after.ensures.1
-
-pub bounds-out-1 : goal.bounds-out-1
-bounds-out-1 c = omega arith
-
-pub passed-requires : goal.passed-requires
-passed-requires c = c.requires.1
 
 pub returns : goal.returns
 returns c =

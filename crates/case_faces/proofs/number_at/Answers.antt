@@ -5,9 +5,3 @@ use Rattle.case_faces.proofs.number_at.Goals as goal
 -- `case_faces::number_at` meets its contract. Assumes nothing.
 pub overflow_add-first : goal.overflow_add-first
 overflow_add-first c = omega (arith, length-words_in c.args.words.now)
-
-pub word-requires : goal.word-requires
-word-requires c = c.requires
-
-pub returns : goal.returns
-returns c = c.word.ensures

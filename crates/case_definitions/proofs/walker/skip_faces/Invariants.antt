@@ -7,10 +7,7 @@ use Rattle.case_file.specs.Trailer.{words_in}
 use Rattle.case_definitions.proofs.walker.skip_faces.Given as goal
 
 -- `case_definitions::walker::skip_faces` meets its contract. Assumes nothing.
-abbrev pub invariant-loop-i : goal.invariant-loop-i
-invariant-loop-i l =
+abbrev pub invariant-loop : goal.invariant-loop
+invariant-loop l =
     (l.at ≤ length (words_in l.words))
-    × (skipped (words_in l.words) (face_lists (l.n - l.i) (drop l.at (words_in l.words))) ≡ skipped (words_in l.words) (face_lists l.n (drop l.first (words_in l.words))))
-
-abbrev pub decreases-loop-i : goal.decreases-loop-i
-decreases-loop-i l = l.n - l.i
+    × (skipped (words_in l.words) (face_lists (l.n - l.counter) (drop l.at (words_in l.words))) ≡ skipped (words_in l.words) (face_lists l.n (drop l.first (words_in l.words))))
