@@ -1,6 +1,5 @@
 -- Records that look alike, over the answers of `record_end`. Assumes nothing.
-use Prim.Native.Nat.{ℕ, suc, ◌+◌, ◌-◌, ◌*◌, ◌/◌, ◌≤◌, ◌<◌}
-use native.Mathlib.Nat.{le_trans, suc-mul, mul-le-mul_right, div-mul-le_self}
+use Prim.Native.Nat.{ℕ, ◌+◌, ◌-◌, ◌*◌, ◌≤◌, ◌<◌}
 use native.Mathlib.Omega.{arith}
 use mathlib.Core.Path.{◌≡◌, refl, ap, sym, ◌∙◌}
 use mathlib.Core.List.{List, ◌++◌}
@@ -38,21 +37,6 @@ module _ (ws : List ℕ) (from at : ℕ) (e : To at ≡ skipped ws (definition (
         let q : from + (at - from) ≡ at = omega arith in
         let a = alike ws from (at - from) p (definition_at ws from) few (rw q ends-told) l in
         running-next ws from at left (face_count (definition_at ws from)) p k r h a
-
--- ---- room_for
-
-pub room-divided : (room size left : ℕ) → room / size < left → (room / size ≤ left) × (room / size * size ≤ room)
-room-divided room size left h = (omega arith, div-mul-le_self room size)
-
-pub room-left : (room size left : ℕ) → left ≤ room / size → (left ≤ left) × (left * size ≤ room)
-room-left room size left h = (omega arith, le_trans (mul-le-mul_right size h) (div-mul-le_self room size))
-
--- one more record fits
-pub room-more : (size most k at p long : ℕ) → most * size ≤ long - at → at ≤ long → k < most → p ≡ at + k * size → p + size ≤ long
-room-more size most k at p long fits b h e =
-    let m : suc k * size ≤ most * size = mul-le-mul_right size h in
-    let s : suc k * size ≡ k * size + size = suc-mul k size in
-    omega arith
 
 -- ---- walk
 

@@ -3,7 +3,7 @@
 // at a position.
 #![tactic(auto)]
 
-ghost use Rattle.std.specs.Prelude.{◌≡◌, true, ◌+◌, ◌*◌, ◌≤◌, ◌<◌, length, get_or, drop};
+ghost use Rattle.std.specs.Prelude.{◌≡◌, true, ◌+◌, ◌*◌, ◌≤◌, length, drop};
 ghost use Rattle.case_definitions.specs.Definitions.{numbers, counted, face_lists, definition, definitions};
 ghost use Rattle.case_definitions.specs.Faces.{face_count};
 ghost use Rattle.case_definitions.specs.Ensures.{skipped, definition_at, Looks, RunExit};
@@ -16,14 +16,6 @@ use case_definitions::Skipped;
 pub enum Checked {
     Right,
     Wrong(u64),
-}
-
-// The word at a position.
-fn word_at(words: &[u32], at: usize) -> u32
-    requires { at < length words.now }
-    ensures { result ≡ get_or words.now at 0 }
-{
-    words[at]
 }
 
 // After n words.
@@ -44,7 +36,7 @@ fn list_end(words: &[u32], at: usize, limit: usize) -> Skipped
     if words.len() <= at {
         return Skipped::Short(3);
     }
-    let n = word_at(words, at) as usize;
+    let n = words[at] as usize;
     if limit < n {
         return Skipped::Short(3);
     }
@@ -57,15 +49,13 @@ fn skip_faces(words: &[u32], first: usize, n: usize) -> Skipped
     ensures { result ≡ skipped words.now (face_lists n (drop first words.now)) }
 {
     let mut at = first;
-    let mut i = 0;
-    while i < n {
+    for _ in 0..n {
         match list_end(words, at, 8) {
             Skipped::Short(r) => return Skipped::Short(r),
             Skipped::To(next) => {
                 at = next;
             }
         }
-        i += 1;
     }
     Skipped::To(at)
 }
@@ -77,7 +67,7 @@ fn faces_end(words: &[u32], at: usize) -> Skipped
     if words.len() <= at {
         return Skipped::Short(3);
     }
-    let n = word_at(words, at) as usize;
+    let n = words[at] as usize;
     if 24 < n {
         return Skipped::Short(3);
     }
@@ -91,7 +81,7 @@ fn record_end(words: &[u32], at: usize) -> Skipped
     if words.len() <= at {
         return Skipped::Short(3);
     }
-    match word_at(words, at) {
+    match words[at] {
         0 => list_end(words, at + 1, 24),
         1 => numbers_end(words, at + 1, 4),
         2 => numbers_end(words, at + 1, 8),
@@ -108,13 +98,7 @@ fn looks_like(words: &[u32], from: usize, size: usize, p: usize) -> bool
     requires { (from + size ≤ length words.now) × (2 ≤ size) × (p + size ≤ length words.now) }
     ensures { result ≡ true → Looks words.now from size p }
 {
-    if words[p] != words[from] {
-        return false;
-    }
-    if words[from] != 0 {
-        return true;
-    }
-    words[p + 1] == words[from + 1]
+    words[p] == words[from] && (words[from] != 0 || words[p + 1] == words[from + 1])
 }
 
 // How many records of `size` words there is room for in `room` words, at most `left`.
@@ -122,11 +106,7 @@ fn room_for(left: usize, room: usize, size: usize) -> usize
     requires { 2 ≤ size }
     ensures { (result ≤ left) × (result * size ≤ room) }
 {
-    let most = room / size;
-    if most < left {
-        return most;
-    }
-    left
+    left.min(room / size)
 }
 
 // How many records from `at` on, at most `left`, look like the one from `from` to `at`; 0 for a
@@ -136,27 +116,19 @@ fn run(words: &[u32], from: usize, at: usize, left: usize) -> usize
     ensures { RunExit words.now from at left
         (face_count (definition_at words.now from)) result }
 {
-    if at < 2 {
-        return 0;
-    }
-    if at - 2 < from {
-        return 0;
-    }
-    if word_at(words, from) > 4 {
-        return 0;
-    }
     let size = at - from;
+    if size < 2 || words[from] > 4 {
+        return 0;
+    }
     let most = room_for(left, words.len() - at, size);
     let mut p = at;
-    let mut k = 0;
-    while k < most {
+    for k in 0..most {
         if !looks_like(words, from, size, p) {
             return k;
         }
         p += size;
-        k += 1;
     }
-    k
+    most
 }
 
 // The same, but 0 while there is a wait.
@@ -193,6 +165,7 @@ pub fn walk(words: &[u32], cells: usize) -> Checked
     let mut at = 0;
     let mut i = 0;
     let mut wait = 0;
+    // No `for`: a turn passes over a record and all that look like it.
     while i < cells {
         match record_end(words, at) {
             Skipped::Short(r) => return Checked::Wrong(r),
