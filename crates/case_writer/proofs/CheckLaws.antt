@@ -1,59 +1,22 @@
 -- The ways out of the writer's tests. Assumes nothing.
-use Prim.Native.Nat.{ℕ, ◌+◌, ◌*◌, ◌/◌, ◌%◌, ◌≤◌, ◌<◌}
+use Prim.Native.Nat.{ℕ}
 use native.Mathlib.Omega.{arith}
-use mathlib.Core.Path.{◌≡◌, refl, ap, sym, ◌∙◌}
-use mathlib.Core.Bool.{Bool, true, false}
+use mathlib.Core.Path.{◌≡◌, refl, ap, sym}
+use mathlib.Core.Bool.{true, false}
 use mathlib.Core.List.{List}
-use lib.Dec.{eqb, leb}
-use lib.ListN.{length, get_or, drop, drop_of_length-le}
-use borrow.Author.Tests.{eqb-true, eqb-false, eq-eqb, ne_eqb, le-leb, lt-leb}
-use Rattle.arith.specs.Lists.{fold, all_of}
-use Rattle.arith.proofs.ListLaws.{foldl-next}
+use lib.ListN.{length}
+use borrow.Author.Tests.{eq-eqb, ne_eqb}
+use Rattle.arith.specs.Lists.{all_of}
 use Rattle.reading.specs.Result.{Result, refused, fine, ◌>>=◌, refuse}
 use Rattle.case_file.specs.declared.Counts.{Counts}
 use Rattle.case_file.specs.Trailer.{is_dimension, over_limit}
-use Rattle.case_file.specs.Field.{is_at_most, larger, largest}
-use Rattle.case_file.proofs.ZoneLaws.{at_most}
+use Rattle.case_file.specs.Field.{is_at_most}
 use Rattle.case_definitions.specs.Faces.{Definition}
 use Rattle.case_definitions.specs.Definitions.{definitions}
 use Rattle.case_records.specs.Ensures.{checked}
 use Rattle.case_records.specs.declared.Checked.TheVariants.{Right, Wrong}
 use Rattle.case_contents.specs.Refusals.{is_edition, long_as, parts_right, well_formed, loses_zones, writable}
 use Rattle.case_writer.specs.Ensures.{holding, zones_checked}
-
--- ---- is_threefold
-
-pub three-rest : (len n : ℕ) → (len % 3 ≡ 0 → ⊥) → false ≡ eqb len (3 * n)
-three-rest len n d = sym (ne_eqb len (3 * n) (λ e. d (omega arith)))
-
-pub three-whole : (len n : ℕ) → len % 3 ≡ 0 → eqb (len / 3) n ≡ eqb len (3 * n)
-three-whole len n z = by (eqb (len / 3) n) refl
-  where
-    by : (t : Bool) → eqb (len / 3) n ≡ t → t ≡ eqb len (3 * n)
-    by true e = sym (eq-eqb len (3 * n) (omega (arith, eqb-true (len / 3) n e)))
-    by false e = sym (ne_eqb len (3 * n) (λ f. eqb-false (len / 3) n e (omega arith)))
-
--- ---- largest_of
-
-module _ (zones : List ℕ) (i : ℕ) where
-  pub largest-on : (most : ℕ) → i < length zones → fold larger most (drop i zones) ≡ fold larger (larger most (get_or zones i 0)) (drop (i + 1) zones)
-  largest-on most h = foldl-next zones i 0 h larger most
-
-  pub largest-done : (most : ℕ) → length zones ≤ i → fold larger most (drop i zones) ≡ most
-  unfolding fold
-  largest-done most h = rw (drop_of_length-le zones {i = i} h)
-
--- what the largest tells of all
-module _ (zones : List ℕ) (most r : ℕ) (e : r ≡ largest zones) where
-  all-within : leb r most ≡ all_of (is_at_most most) zones
-  unfolding largest
-  all-within = rw e (at_most most 0 zones (omega arith))
-
-  pub some-above : most < r → all_of (is_at_most most) zones ≡ false
-  some-above h = sym all-within ∙ lt-leb r most h
-
-  pub none_above : r ≤ most → all_of (is_at_most most) zones ≡ true
-  none_above h = sym all-within ∙ le-leb r most h
 
 -- ---- check_zones
 

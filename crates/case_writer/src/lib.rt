@@ -74,10 +74,7 @@ fn loses_zones(case: &[u8], n: Counts, edition: usize) -> bool
     requires { opened case.now ≡ Opened.Case n }
     ensures { result ≡ loses_zones (in_edition edition (contents_of case.now)) }
 {
-    if edition != 1 {
-        return false;
-    }
-    !field::zones_at_most(case, n, 0)
+    edition == 1 && !field::zones_at_most(case, n, 0)
 }
 
 // The file of a case that was read, in this edition, if there is room: refusal 47.
@@ -86,13 +83,7 @@ fn put_copy(case: &[u8], n: Counts, edition: usize, out: &mut [u8]) -> Written
     ensures { FileExit (in_edition edition (contents_of case.now)) out.old
         out.new result }
 {
-    let to = Counts {
-        dimension: n.dimension,
-        points: n.points,
-        words: n.words,
-        cells: n.cells,
-        edition,
-    };
+    let to = Counts { edition, ..n };
     let length = parts::file_length(to);
     if out.len() < length {
         return Written::Refused(47);

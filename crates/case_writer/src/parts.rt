@@ -1,5 +1,5 @@
 // The parts of a file, stored at their places.
-ghost use Rattle.std.specs.Prelude.{◌≡◌, ◌++◌, ◌+◌, ◌*◌, ◌≤◌, length, take};
+ghost use Rattle.std.specs.Prelude.{◌≡◌, ◌++◌, ◌+◌, ◌*◌, ◌≤◌, length};
 ghost use Rattle.arith_bytes.specs.Stored.{all_bytes, stored};
 ghost use Rattle.case_file.specs.Trailer.{zones_from, trailer_from, opened};
 ghost use Rattle.case_file.specs.Field.{zones_of};
@@ -109,17 +109,9 @@ fn copy_zones(case: &[u8], n: Counts, out: &mut [u8])
         out.old }
 {
     let at = 24 * n.points + 4 * n.words + 32 * n.cells;
-    let mut i = 0;
-    while i < n.cells {
-        arith_bytes::put_number(out, at + 4 * i, wide(field::zone(case, n, i)), 4);
-        i += 1;
+    for i in 0..n.cells {
+        arith_bytes::put_number(out, at + 4 * i, u64::from(field::zone(case, n, i)), 4);
     }
-}
-
-fn wide(x: u32) -> u64
-    ensures { result ≡ x }
-{
-    x as u64
 }
 
 // What stands after the pressures in the file with counts `to` that is made of a case.

@@ -5,10 +5,10 @@ use Rattle.case_contents.specs.Contents.{contents_of, in_edition, with_edition}
 use Rattle.case_contents.specs.Refusals.{loses_zones}
 use Rattle.case_writer.proofs.loses_zones.Goals as goal
 
-pub returns-then-edition-ne1 : goal.returns-then-edition-ne1
+pub returns-then-edition-eq1 : goal.returns-then-edition-eq1
 unfolding loses_zones in_edition with_edition contents_of
-returns-then-edition-ne1 c = rw (ne_eqb _ _ c.if-edition-ne1.true)
+returns-then-edition-eq1 c = rw (eq-eqb _ _ c.if-edition-eq1.true) (ap not c.zones_at_most.ensures)
 
-pub returns : goal.returns
+pub returns-else-edition-eq1 : goal.returns-else-edition-eq1
 unfolding loses_zones in_edition with_edition contents_of
-returns c = rw (eq-eqb _ _ c.if-edition-ne1.false) (ap not c.zones_at_most.ensures)
+returns-else-edition-eq1 c = rw (ne_eqb _ _ c.if-edition-eq1.false)

@@ -22,9 +22,6 @@ overflow_mul-at-3 c = let o = opens _ _ c.requires.0 in search rules
 pub overflow_add-at-2 : goal.overflow_add-at-2
 overflow_add-at-2 c = let o = opens _ _ c.requires.0 in search rules
 
-pub overflow_mul-i : goal.overflow_mul-i
-overflow_mul-i c = let o = opens _ _ c.requires.0 in search rules
-
 pub overflow_add-at-in-loop-i : goal.overflow_add-at-in-loop-i
 overflow_add-at-in-loop-i c = let o = opens _ _ c.requires.0 in search rules
 
@@ -33,14 +30,11 @@ put_number-requires c =
     let k = zones-count _ _ c.requires.0 in
     listing-room c.loop-i.invariant (zones-room _ _ _ c.requires.0 c.requires.1) (rw k c.loop-i-test.true)
 
-pub overflow_add-i : goal.overflow_add-i
-overflow_add-i c = let o = opens _ _ c.requires.0 in search rules
-
 pub loop-i-preserved : goal.loop-i-preserved
 loop-i-preserved c =
     let k = zones-count _ _ c.requires.0 in
     listing-wide c.loop-i.invariant (zones-room _ _ _ c.requires.0 c.requires.1) _ (rw k c.loop-i-test.true)
-    (c.wide.ensures ∙ c.zone.ensures ∙ sym (get_or-zones _ _))
+    (c.from.ensures ∙ c.zone.ensures ∙ sym (get_or-zones _ _))
     c.put_number.ensures
 
 pub returns : goal.returns

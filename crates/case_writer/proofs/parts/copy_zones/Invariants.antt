@@ -1,10 +1,6 @@
-use Prim.Native.Nat.{◌-◌}
 use Rattle.arith_bytes.proofs.StoreLaws.{Listing}
 use Rattle.case_file.specs.Field.{zones_of}
 use Rattle.case_writer.proofs.parts.copy_zones.Given as goal
 
 abbrev pub invariant-loop-i : goal.invariant-loop-i
 invariant-loop-i l = Listing 4 l.initial.out l.at (zones_of l.case) l.out l.i
-
-abbrev pub decreases-loop-i : goal.decreases-loop-i
-decreases-loop-i l = l.n.cells - l.i
