@@ -8,7 +8,7 @@ use mathlib.Core.List.{List, ◌++◌, append_assoc, append-nil}
 use lib.ListN.{length, length-append}
 use borrow.Author.Tests.{eq-eqb, ne_eqb}
 use Rattle.arith_bytes.specs.Stored.{le_bytes, all_bytes, stored}
-use Rattle.arith_bytes.proofs.ByteLaws.{length-le_bytes, length-all_bytes, length-stored, stored_more}
+use Rattle.arith_bytes.proofs.ByteLaws.{length-le_bytes, length-all_bytes, stored_more}
 use Rattle.case_file.specs.declared.Counts.{Counts}
 use Rattle.case_file.specs.declared.Opened.TheVariants.{Case}
 use Rattle.case_file.specs.Trailer.{zones_from, zone_bytes, trailer_from, opened}
@@ -112,9 +112,6 @@ module _ (n : Counts) (zones out : List ℕ) where
       where
         one : length (offset_words n) ≡ 1
         one = rw (eq-eqb n.edition 2 two)
-
-    pub tail-room : {o1 : List ℕ} → o1 ≡ stored (24 * n.points + 4 * n.words + 32 * n.cells) (all_bytes 4 zones) out → length o1 ≡ length out
-    tail-room e = ap length e ∙ length-stored (24 * n.points + 4 * n.words + 32 * n.cells) out (all_bytes 4 zones) (omega (arith, zones-long, end_fits n out two p))
 
     pub tail-second : {o1 o2 : List ℕ} → o1 ≡ stored (24 * n.points + 4 * n.words + 32 * n.cells) (all_bytes 4 zones) out → o2 ≡ stored (end_from n) (end_bytes n) o1 →
         o2 ≡ stored (zones_from n) (all_bytes 4 (zone_words n zones) ++ end_bytes n) out

@@ -94,11 +94,9 @@ pub fn put_zones_and_end(n: Counts, zones: &[u32], out: &mut [u8])
     ensures { out.new ≡ stored (zones_from n)
         (all_bytes 4 (zone_words n zones.now) ++ end_bytes n) out.old }
 {
-    if n.edition != 2 {
-        put_end(n, out);
-        return;
+    if n.edition == 2 {
+        arith_bytes::put_u32s(out, 24 * n.points + 4 * n.words + 32 * n.cells, zones);
     }
-    arith_bytes::put_u32s(out, 24 * n.points + 4 * n.words + 32 * n.cells, zones);
     put_end(n, out);
 }
 
@@ -120,10 +118,8 @@ pub fn copy_zones_and_end(case: &[u8], n: Counts, to: Counts, out: &mut [u8])
     ensures { out.new ≡ stored (zones_from to)
         (all_bytes 4 (zone_words to (zones_of case.now)) ++ end_bytes to) out.old }
 {
-    if to.edition != 2 {
-        put_end(to, out);
-        return;
+    if to.edition == 2 {
+        copy_zones(case, n, out);
     }
-    copy_zones(case, n, out);
     put_end(to, out);
 }

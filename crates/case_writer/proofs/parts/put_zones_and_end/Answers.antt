@@ -1,19 +1,14 @@
+use mathlib.Core.Path.{◌∙◌}
 use native.Mathlib.Omega.{arith}
-use Rattle.case_writer.proofs.PartLaws.{end_fits, tail-first, tail-room, tail-second}
+use Rattle.case_writer.proofs.PartLaws.{end_fits, tail-first, tail-second}
 use Rattle.case_writer.proofs.parts.put_zones_and_end.Goals as goal
-
-pub returns-then-n-ne2 : goal.returns-then-n-ne2
-returns-then-n-ne2 c = tail-first _ _ _ c.if-n-ne2.true c.put_end.ensures
+use Rattle.case_writer.proofs.parts.put_zones_and_end.Goals.{then-n-eq2, else-n-eq2}
 
 pub put_u32s-requires : goal.put_u32s-requires
-put_u32s-requires c = omega (arith, end_fits _ c.args.out.now c.if-n-ne2.false c.requires.0, c.requires.1)
-
-pub put_end-requires-2 : goal.put_end-requires-2
-put_end-requires-2 c =
-    let p = c.requires in
-    let e = tail-room _ _ _ c.if-n-ne2.false p.1 p.0 c.put_u32s.ensures in
-    record { sized = p.0.sized; fits = rw e p.0.fits }
+put_u32s-requires c = omega (arith, end_fits _ c.args.out.now c.if-n-eq2.true c.requires.0, c.requires.1)
 
 pub returns : goal.returns
-returns c =
-    tail-second _ _ _ c.if-n-ne2.false c.requires.1 c.requires.0 c.put_u32s.ensures c.put_end-2.ensures
+returns c = elim c.if-n-eq2.branch [
+  | then-n-eq2 w ↦ tail-second _ _ _ w.if-n-eq2.true c.requires.1 c.requires.0 (w.out-is ∙ w.put_u32s.ensures) c.put_end.ensures
+  | else-n-eq2 w ↦ tail-first _ _ _ w.if-n-eq2.false (rw w.out-is at c.put_end.ensures)
+]
