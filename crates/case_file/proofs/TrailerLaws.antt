@@ -1,13 +1,12 @@
--- The ways out of `has_zones` and of `open`, and what a case that opened has. Assumes nothing.
-use Prim.Native.Nat.{ℕ, ◌+◌, ◌-◌, ◌*◌, ◌≤◌, ◌<◌}
+-- The ways out of `open`, and what a case that opened has. Assumes nothing.
+use Prim.Native.Nat.{ℕ, ◌+◌, ◌*◌, ◌≤◌, ◌<◌}
 use native.Mathlib.Omega.{arith}
 use mathlib.Core.Path.{◌≡◌, refl, sym}
 use mathlib.Core.Bool.{Bool, true, false, ◌&&◌, ◌||◌}
 use mathlib.Core.List.{List}
-use lib.Dec.{leb, ltb, eqb}
+use lib.Dec.{leb, ltb}
 use lib.ListN.{length}
 use borrow.Author.Tests.{eq-eqb, ne_eqb, le-leb, lt-leb, eqb-true, ltb-false}
-use Rattle.arith.specs.Bytes.{le32}
 use Rattle.case_file.specs.declared.Counts.{Counts}
 use Rattle.case_file.specs.declared.Opened.TheVariants.{Case, Refused}
 use Rattle.case_file.specs.Trailer.{counts_of, zones_from, zone_bytes, trailer_from, is_dimension, has_offsets, has_zones, has_parts, trailer_right, over_limit, opened}
@@ -30,20 +29,6 @@ zones-none n h = rw (ne_eqb n.edition 2 h)
 pub zones-some : (n : Counts) → n.edition ≡ 2 → 4 * n.cells + 4 ≡ zone_bytes n
 unfolding zone_bytes
 zones-some n h = rw (eq-eqb n.edition 2 h)
-
-module _ (file : List ℕ) (n : Counts) where
-  pub zones-first : (n.edition ≡ 2 → ⊥) → true ≡ has_zones file n
-  unfolding has_zones
-  zones-first h = rw (ne_eqb n.edition 2 h)
-
-  module _ (two : n.edition ≡ 2) where
-    pub zones-short : length file < 36 → false ≡ has_zones file n
-    unfolding has_zones
-    zones-short h = rw (eq-eqb n.edition 2 two, lt-leb 36 (length file) h)
-
-    pub zones-placed : (r : ℕ) → 36 ≤ length file → r ≡ le32 file (length file - 36) → eqb r (24 * n.points + 4 * n.words + 32 * n.cells) ≡ has_zones file n
-    unfolding has_zones zones_from
-    zones-placed r h e = rw (eq-eqb n.edition 2 two, le-leb 36 (length file) h, e)
 
 -- ---- the answers of `open`
 

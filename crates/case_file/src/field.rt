@@ -57,10 +57,7 @@ pub fn zone(case: &[u8], n: Counts, i: usize) -> u32
     requires { opened case.now ≡ Opened.Case n }
     ensures { result ≡ zone_of case.now i }
 {
-    if n.edition != 2 {
-        return 0;
-    }
-    if n.cells <= i {
+    if n.edition != 2 || n.cells <= i {
         return 0;
     }
     let zones = 24 * n.points + 4 * n.words + 32 * n.cells;

@@ -67,10 +67,7 @@ pub fn zone_bytes(n: Counts) -> usize
     requires { n.cells < 2^32 }
     ensures { (result ≡ Trailer.zone_bytes n) × (result ≤ 17179869184) }
 {
-    if n.edition != 2 {
-        return 0;
-    }
-    4 * n.cells + 4
+    if n.edition == 2 { 4 * n.cells + 4 } else { 0 }
 }
 
 // The offset of the zones is as the counts say, summed exactly, where there are zones.
@@ -78,15 +75,8 @@ fn has_zones(case: &[u8], n: Counts) -> bool
     requires { Ensures.CountsExit case.now n }
     ensures { result ≡ Trailer.has_zones case.now n }
 {
-    if n.edition != 2 {
-        return true;
-    }
-    if case.len() < 36 {
-        return false;
-    }
     let zones = 24 * n.points + 4 * n.words + 32 * n.cells;
-    let at = case.len() - 36;
-    bytes::word_at(case, at) as usize == zones
+    n.edition != 2 || (case.len() >= 36 && bytes::word_at(case, case.len() - 36) as usize == zones)
 }
 
 // The offsets and the file's length are as the counts say, summed exactly.

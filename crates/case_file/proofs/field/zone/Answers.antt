@@ -3,12 +3,13 @@ use native.Mathlib.Omega.{arith}
 use Rattle.case_file.proofs.ZoneLaws.{zone-there, zone-fits, zone-first, zone-none}
 use Rattle.case_file.proofs.TrailerLaws.{opens}
 use Rattle.case_file.proofs.field.zone.Goals as goal
+use Rattle.case_file.proofs.field.zone.Goals.{then-n-ne2-via-then-n-ne2, then-n-ne2-via-else-n-ne2+then-n-i}
 
 pub returns-then-n-ne2 : goal.returns-then-n-ne2
-returns-then-n-ne2 c = sym (zone-first _ _ c.requires _ c.if-n-ne2.true)
-
-pub returns-then-n-i : goal.returns-then-n-i
-returns-then-n-i c = sym (zone-none _ _ c.requires _ c.if-n-ne2.false c.if-n-i.true)
+returns-then-n-ne2 c = elim c.then-n-ne2.branch [
+  | then-n-ne2-via-then-n-ne2 w ↦ sym (zone-first _ _ c.requires _ w.if-n-ne2.true)
+  | then-n-ne2-via-else-n-ne2+then-n-i w ↦ sym (zone-none _ _ c.requires _ w.if-n-ne2.false w.if-n-i.true)
+]
 
 pub overflow_mul-zones : goal.overflow_mul-zones
 overflow_mul-zones c = omega (arith, (opens _ _ c.requires).whole)
