@@ -14,14 +14,12 @@ fn whole_root(d: u64) -> u64
 {
     let mut q = 0u64;
     let mut y = d;
-    let mut k = 54u64;
-    while k > 0 {
-        k = k - 1;
+    for k in (0u64..54).rev() {
         let b = 1u64 << k;
         let t = 2 * q + b;
         let z = 2 * y;
         let c = (t <= z) as u64;
-        q = q + c * b;
+        q += c * b;
         y = z - c * t;
     }
     q

@@ -4,6 +4,3 @@ use Rattle.arith_whole_root.proofs.whole_root.Given as goal
 
 abbrev pub invariant-loop-k : goal.invariant-loop-k
 invariant-loop-k l = Begun (l.d * 2 ^ 54) l.q l.y l.k
-
-abbrev pub decreases-loop-k : goal.decreases-loop-k
-decreases-loop-k l = l.k
