@@ -1,66 +1,16 @@
--- Floats to counts: what `floor_usize` and `ceil_usize` find by their tests. Assumes nothing.
-use Rattle.std.proofs.Common.{◌≡◌, ℕ, zero, suc, ◌+◌, ◌-◌, ◌*◌, ◌/◌, ◌%◌, ◌^◌, ◌<◌, ◌≤◌, min, Bool, true, false, ◌&&◌, T, eqb, ltb, leb, ℤ, pos, negsuc, sym, refl, ap, ◌∙◌, subst, true≢false, zero-le, add-zero, mul-le-mul_right, mod-lt, div-lt_iff_lt-mul, add-mul, mul-lt-mul_of_pos_right, one-mul, div-add-mod', le-div_iff_mul-le, mul-one, mul_right_comm, arith, le→leb, ltb→lt, lt→ltb, pow_pos, ltb-false, ltb-true, le-ltb, lt-ltb}
+-- Floats to counts: what `ceil_usize` finds by its tests. Assumes nothing.
+use Rattle.std.proofs.Common.{◌≡◌, ℕ, zero, suc, ◌+◌, ◌-◌, ◌*◌, ◌/◌, ◌%◌, ◌^◌, ◌<◌, ◌≤◌, min, Bool, true, false, ◌&&◌, T, eqb, ltb, leb, ℤ, pos, negsuc, sym, refl, ap, ◌∙◌, subst, true≢false, zero-le, add-zero, mul-le-mul_right, mod-lt, div-lt_iff_lt-mul, add-mul, mul-lt-mul_of_pos_right, one-mul, div-add-mod', mul-one, mul_right_comm, arith, le→leb, ltb→lt, pow_pos, ltb-false, ltb-true, le-ltb, lt-ltb}
 use mathlib.Core.Bool.{false≢true}
 use lib.Arith.{digits_div}
-use lib.Ieee.{Float, nan, inf, fin, binary64, up, down, below, lt, to_unsigned, of_int, in_float, is_nan, fits}
+use lib.Ieee.{Float, nan, inf, fin, binary64, up, down, below, lt, to_unsigned, of_int, in_float, fits}
 use lib.Ieee.Fits.{down_pos, and_l, and_r}
 use lib.Ieee.Exact.{HasValue}
 use lib.Ieee.Back.{round_whole}
 use Rattle.arith.specs.F64.{ceilℕ}
 
--- 0, 2^53 and 2^64
-abbrev pub nought : Float
-nought = fin false 0 (pos 0)
-
+-- 2^53
 abbrev pub cap : Float
 cap = fin false 1 (pos 53)
-
-abbrev pub top : Float
-top = fin false 1 (pos 64)
-
--- ---- the whole part
-
--- above 0 is above -1
-pub from_low : (x : Float) → lt nought x ≡ true → T (lt (fin true 1 (pos 0)) x)
-unfolding lt
-from_low nan h = absurd (false≢true h)
-from_low (inf true) h = absurd (false≢true h)
-from_low (inf false) h = tt
-from_low (fin true m e) h = absurd (false≢true h)
-from_low (fin false m e) h = let d = down_pos e in lt→ltb 0 (1 * 1 * down e + m * up e * 1) (omega arith)
-
--- what is not above 0 has no whole part
-pub floor-low : (x : Float) → lt nought x ≡ false → 0 ≡ to_unsigned 64 x
-unfolding lt to_unsigned
-floor-low nan h = refl
-floor-low (inf true) h = refl
-floor-low (inf false) h = absurd (true≢false h)
-floor-low (fin true m e) h = refl
-floor-low (fin false m e) h =
-    let k = ltb-false (0 * 1 * down e) (m * up e * 1) h in
-    let z : m * up e ≡ 0 * down e = omega arith in
-    let q : m * up e / down e ≡ 0 = ap (λ (n : ℕ). n / down e) (z ∙ sym (add-zero (0 * down e))) ∙ digits_div 0 (down_pos e) in
-    rw q
-
-pub floor-nan : (x : Float) → is_nan x ≡ true → 0 ≡ to_unsigned 64 x
-unfolding is_nan to_unsigned
-floor-nan nan h = refl
-floor-nan (inf s) h = absurd (false≢true h)
-floor-nan (fin s m e) h = absurd (false≢true h)
-
--- from 2^64 on it is the largest count
-pub floor-high : (x : Float) → lt x top ≡ false → is_nan x ≡ false → 18446744073709551615 ≡ to_unsigned 64 x
-unfolding lt is_nan to_unsigned
-floor-high nan h n = absurd (true≢false n)
-floor-high (inf true) h n = absurd (true≢false h)
-floor-high (inf false) h n = refl
-floor-high (fin true m e) h n =
-    let d = down_pos e in
-    absurd (true≢false (sym (lt-ltb 0 (m * up e * 1 + 18446744073709551616 * down e) (omega arith)) ∙ h))
-floor-high (fin false m e) h n =
-    let k = ltb-false (m * up e * 1) (18446744073709551616 * down e) h in
-    let q : 18446744073709551616 ≤ m * up e / down e = (le-div_iff_mul-le {k = down e} {x = 18446744073709551616} {y = m * up e} (down_pos e)).1 (omega arith) in
-    omega arith
 
 -- ---- the whole part of what is below 2^53
 

@@ -3,6 +3,7 @@ pub mod Counts
 pub mod ListLaws
 pub mod RecordLaws
 pub mod All
+pub mod InsertLaws
 pub mod SortLaws
 pub mod RootLaws
 pub mod RoundLaws

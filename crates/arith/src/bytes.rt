@@ -1,34 +1,16 @@
 // Little-endian numbers in bytes, and a float as its 64 bits.
-ghost use Rattle.std.specs.Prelude.{◌≡◌, ◌+◌, ◌<◌, ◌≤◌, length, slice_index};
+ghost use Rattle.std.specs.Prelude.{◌≡◌, ◌+◌, ◌≤◌, length};
 ghost use Rattle.arith.specs.F64.{float, word};
 ghost use Rattle.arith.specs.Bytes.{le32, le64, float_at, vec_at};
 
 use crate::Vec3;
-
-fn wide(x: u8) -> u32
-    ensures { (result ≡ x) × (result < 256) }
-{
-    x as u32
-}
-
-// The byte at `at`.
-fn byte_at(bytes: &[u8], at: usize) -> u32
-    requires { at < length bytes.now }
-    ensures { (result ≡ slice_index bytes.now at) × (result < 256) }
-{
-    wide(bytes[at])
-}
 
 // The u32 that starts at `at`.
 pub fn word_at(bytes: &[u8], at: usize) -> u32
     requires { at + 4 ≤ length bytes.now }
     ensures { result ≡ le32 bytes.now at }
 {
-    let a = byte_at(bytes, at);
-    let b = byte_at(bytes, at + 1);
-    let c = byte_at(bytes, at + 2);
-    let d = byte_at(bytes, at + 3);
-    a + b * 256 + c * 65536 + d * 16777216
+    u32::from_le_bytes([bytes[at], bytes[at + 1], bytes[at + 2], bytes[at + 3]])
 }
 
 // The u64 that starts at `at`.
@@ -38,7 +20,7 @@ pub fn u64_at(bytes: &[u8], at: usize) -> u64
 {
     let low = word_at(bytes, at);
     let high = word_at(bytes, at + 4);
-    (low as u64) + (high as u64) * 4294967296
+    u64::from(low) + u64::from(high) * 0x1_0000_0000
 }
 
 // The float whose bits are `n`; every NaN pattern gives the one NaN.
@@ -46,19 +28,21 @@ pub fn float_of(n: u64) -> f64
     ensures { result ≡ float n }
 {
     if n % 0x8000_0000_0000_0000 > 0x7ff0_0000_0000_0000 {
-        return 0.0 / 0.0;
+        f64::NAN
+    } else {
+        f64::from_bits(n)
     }
-    f64::from_bits(n)
 }
 
 // The bits of `x`, a NaN's as 7ff8000000000000.
 pub fn bits_of(x: f64) -> u64
     ensures { result ≡ word x }
 {
-    if x != x {
-        return 0x7ff8_0000_0000_0000;
+    if x.is_nan() {
+        0x7ff8_0000_0000_0000
+    } else {
+        x.to_bits()
     }
-    f64::to_bits(x)
 }
 
 // The float that starts at `at`.

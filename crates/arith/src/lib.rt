@@ -6,6 +6,7 @@ pub mod bytes;
 pub mod float;
 pub mod number;
 pub mod polygon;
+pub mod slices;
 mod vector;
 
 // A point or a vector of the room.

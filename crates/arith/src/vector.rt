@@ -88,29 +88,13 @@ impl Vec3 {
     pub fn is_finite(self) -> bool
         ensures { result ≡ Vec.each3 finite self }
     {
-        if float::is_finite(self.x) {
-            if float::is_finite(self.y) {
-                float::is_finite(self.z)
-            } else {
-                false
-            }
-        } else {
-            false
-        }
+        float::is_finite(self.x) && float::is_finite(self.y) && float::is_finite(self.z)
     }
 
     // No coordinate is beyond 1,048,576 in size.
     pub fn is_within(self) -> bool
         ensures { result ≡ Vec.each3 within self }
     {
-        if float::within(self.x) {
-            if float::within(self.y) {
-                float::within(self.z)
-            } else {
-                false
-            }
-        } else {
-            false
-        }
+        float::within(self.x) && float::within(self.y) && float::within(self.z)
     }
 }

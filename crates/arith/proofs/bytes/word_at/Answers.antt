@@ -1,7 +1,7 @@
 use Rattle.arith.specs.Bytes.{le32}
-use Rattle.std.proofs.Common.{rules}
+use Rattle.std.proofs.Common.{arith}
 use Rattle.arith.proofs.bytes.word_at.Goals as goal
 
 pub returns : goal.returns
 unfolding le32
-returns c = search rules
+returns c = omega (arith, c.from_le_bytes.ensures)

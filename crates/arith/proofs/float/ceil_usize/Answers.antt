@@ -5,6 +5,7 @@ use lib.Ieee.{Float}
 use mathlib.Core.Path.{◌≡◌}
 use mathlib.Core.Bool.{true}
 use Rattle.arith.proofs.float.ceil_usize.Goals as goal
+use Rattle.arith.proofs.float.ceil_usize.Goals.{else-x-via-then-x+else-whole-x, else-x-via-else-x}
 
 held : (x : Float) → fits binary64 x ≡ true → T (fits binary64 x)
 held x e = subst T (sym e) tt
@@ -21,10 +22,11 @@ pub returns-then-whole-x : goal.returns-then-whole-x
 unfolding of_bits
 returns-then-whole-x c = rw c.floor_usize-whole.ensures (ceil-up _ c.if-x.true (rw c.floor_usize-whole.ensures at c.if-whole-x.true))
 
-pub returns-else-whole-x : goal.returns-else-whole-x
-unfolding of_bits
-returns-else-whole-x c = rw c.floor_usize-whole.ensures (ceil-kept _ c.if-x.true (rw c.floor_usize-whole.ensures at c.if-whole-x.false))
-
 pub returns-else-x : goal.returns-else-x
 unfolding of_bits
-returns-else-x c = rw c.floor_usize-whole.ensures (ceil-high _ (held c.args.x c.well_formed.0.1) c.if-x.false)
+returns-else-x c =
+    rw c.floor_usize-whole.ensures
+    (elim c.else-x.branch [
+      | else-x-via-then-x+else-whole-x w ↦ ceil-kept _ w.if-x.true (rw c.floor_usize-whole.ensures at w.if-whole-x.false)
+      | else-x-via-else-x w ↦ ceil-high _ (held c.args.x c.well_formed.0.1) w.if-x.false
+    ])

@@ -1,14 +1,6 @@
 use Rattle.arith.specs.F64.{clamp}
 use Rattle.arith.proofs.float.clamp.Goals as goal
 
-pub returns-then-x : goal.returns-then-x
+pub returns : goal.returns
 unfolding clamp
-returns-then-x c = rw c.if-x.true
-
-pub returns-then-x-2 : goal.returns-then-x-2
-unfolding clamp
-returns-then-x-2 c = rw (c.if-x.false, c.if-x-2.true)
-
-pub returns-else-x-2 : goal.returns-else-x-2
-unfolding clamp
-returns-else-x-2 c = rw (c.if-x.false, c.if-x-2.false)
+returns c = c.clamp.ensures.value

@@ -1,21 +1,9 @@
-use Rattle.std.proofs.Common.{T, sym, subst}
-use lib.Ieee.{binary64, fits}
-use Rattle.arith.specs.F64.{signed}
-use Rattle.arith.proofs.Floats.{sign_bit, unequal-nan, equal-number}
-use lib.Ieee.{Float}
-use mathlib.Core.Path.{◌≡◌}
-use mathlib.Core.Bool.{true}
+use Rattle.std.proofs.Common.{sym, ◌∙◌}
+use Rattle.arith.proofs.Floats.{signed-is, signed-nan}
 use Rattle.arith.proofs.float.is_sign_negative.Goals as goal
 
-held : (x : Float) → fits binary64 x ≡ true → T (fits binary64 x)
-held x e = subst T (sym e) tt
+pub returns-then-not-is_nan : goal.returns-then-not-is_nan
+returns-then-not-is_nan c = c.is_sign_negative.ensures ∙ signed-is c.args.x
 
-pub returns-then-x : goal.returns-then-x
-unfolding signed
-returns-then-x c = rw (unequal-nan _ c.if-x.true)
-
-pub float_to_bits-result : goal.float_to_bits-result
-float_to_bits-result c = equal-number _ c.if-x.false
-
-pub returns : goal.returns
-returns c = sign_bit c.args.x (held c.args.x c.well_formed.0.1) (equal-number _ c.if-x.false)
+pub returns-else-not-is_nan : goal.returns-else-not-is_nan
+returns-else-not-is_nan c = rw c.if-not-is_nan.false (signed-nan c.args.x (sym c.is_nan.ensures.value ∙ c.if-not-is_nan.false))

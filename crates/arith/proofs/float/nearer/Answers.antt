@@ -6,10 +6,10 @@ pub returns-then-a-b : goal.returns-then-a-b
 unfolding nearer
 returns-then-a-b c = rw c.if-a-b.true
 
-pub returns-then-is_nan : goal.returns-then-is_nan
+pub returns-then-not-is_nan : goal.returns-then-not-is_nan
 unfolding nearer
-returns-then-is_nan c = rw (c.if-a-b.false, sym c.is_nan.ensures ∙ c.if-is_nan.true)
+returns-then-not-is_nan c = rw (c.if-a-b.false, sym c.is_nan.ensures.value ∙ c.if-not-is_nan.true) c.is_nan-then-not-is_nan.ensures.value
 
-pub returns-else-is_nan : goal.returns-else-is_nan
+pub returns-else-not-is_nan : goal.returns-else-not-is_nan
 unfolding nearer
-returns-else-is_nan c = rw (c.if-a-b.false, sym c.is_nan.ensures ∙ c.if-is_nan.false) c.is_nan-else-is_nan.ensures
+returns-else-not-is_nan c = rw (c.if-a-b.false, sym c.is_nan.ensures.value, c.if-not-is_nan.false)
