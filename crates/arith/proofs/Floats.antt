@@ -1,5 +1,5 @@
 -- What the tests and operators on floats say of the values, kind by kind. Assumes nothing.
-use Rattle.std.proofs.Common.{◌≡◌, ℕ, zero, suc, ◌+◌, ◌*◌, ◌%◌, ◌^◌, ◌<◌, ◌≤◌, Bool, true, false, not, ◌&&◌, ◌||◌, T, eqb, ltb, ℤ, pos, negsuc, sym, refl, ◌∙◌, subst, one-mul, mul-one, arith, eqb→eq, le-ltb, lt-ltb, eq-eqb, ne_eqb}
+use Rattle.std.proofs.Common.{◌≡◌, ℕ, zero, suc, ◌+◌, ◌*◌, ◌%◌, ◌^◌, ◌<◌, ◌≤◌, Bool, true, false, ◌&&◌, ◌||◌, T, eqb, ltb, ℤ, pos, negsuc, sym, refl, ◌∙◌, subst, one-mul, mul-one, arith, eqb→eq, le-ltb, lt-ltb, eq-eqb, ne_eqb}
 use native.Mathlib.Decide.{ℕ_discrete}
 use mathlib.Core.Bool.{false≢true}
 use lib.Ieee.{Float, nan, inf, fin, binary64, up, down, lt, eq, ne, le, neg, odd, fits, is_nan, of_bits}
@@ -120,10 +120,6 @@ pub signed_odd : (d : ℕ) (s : Bool) (q k l : ℕ) → signed (odd d s q k l) �
 unfolding odd signed
 signed_odd d s zero k l = refl
 signed_odd d s (suc q) k l = refl
-
-pub not-not : (b : Bool) → b ≡ not (not b)
-not-not true = refl
-not-not false = refl
 
 -- ---- bit patterns
 

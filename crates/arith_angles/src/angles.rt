@@ -9,21 +9,18 @@ use arith::{Vec2, float};
 fn leftward(d: Vec2) -> bool
     ensures { result ≡ Order.leftward d }
 {
-    if float::is_sign_negative(d.x) {
-        if d.x == 0.0 { d.y == 0.0 } else { true }
-    } else {
-        false
-    }
+    float::is_sign_negative(d.x) && !(d.x == 0.0 && d.y != 0.0)
 }
 
 // The quarter of d, from 0 to 3.
 fn quarter(d: Vec2) -> u64
     ensures { result ≡ Order.quarter d }
 {
-    if float::is_sign_negative(d.y) {
-        if leftward(d) { 0 } else { 1 }
-    } else {
-        if leftward(d) { 3 } else { 2 }
+    match (float::is_sign_negative(d.y), leftward(d)) {
+        (true, true) => 0,
+        (true, false) => 1,
+        (false, false) => 2,
+        (false, true) => 3,
     }
 }
 
@@ -31,12 +28,11 @@ fn quarter(d: Vec2) -> u64
 fn slope(d: Vec2) -> f64
     ensures { result ≡ Order.slope d }
 {
-    if d.y == 0.0 {
-        if d.x == 0.0 {
-            return 0.0;
-        }
+    if d.y == 0.0 && d.x == 0.0 {
+        0.0
+    } else {
+        float::abs(d.y) / float::abs(d.x)
     }
-    float::abs(d.y) / float::abs(d.x)
 }
 
 // What the order compares of d.
@@ -53,15 +49,11 @@ pub fn angle_of(d: Vec2) -> Angle
 pub fn precedes(a: Angle, b: Angle) -> bool
     ensures { result ≡ Order.precedes a b }
 {
-    if a.quarter < b.quarter {
-        true
-    } else if a.quarter == b.quarter {
-        if a.quarter % 2 == 0 {
-            a.slope < b.slope
-        } else {
-            b.slope < a.slope
-        }
+    if a.quarter != b.quarter {
+        a.quarter < b.quarter
+    } else if a.quarter % 2 == 0 {
+        a.slope < b.slope
     } else {
-        false
+        b.slope < a.slope
     }
 }

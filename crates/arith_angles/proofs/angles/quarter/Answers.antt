@@ -1,19 +1,19 @@
-use mathlib.Core.Path.{sym, ◌∙◌}
+use mathlib.Core.Path.{sym}
 use Rattle.arith_angles.specs.Angle.{quarter}
 use Rattle.arith_angles.proofs.angles.quarter.Goals as goal
 
-pub returns-then-leftward : goal.returns-then-leftward
+pub returns-in-true-true : goal.returns-in-true-true
 unfolding quarter
-returns-then-leftward c = rw (sym c.is_sign_negative.ensures ∙ c.if-is_sign_negative.true, sym c.leftward.ensures ∙ c.if-leftward.true)
+returns-in-true-true c = rw (sym c.in-true-true.ensures, sym c.in-true-true.ensures')
 
-pub returns-else-leftward : goal.returns-else-leftward
+pub returns-in-true-false : goal.returns-in-true-false
 unfolding quarter
-returns-else-leftward c = rw (sym c.is_sign_negative.ensures ∙ c.if-is_sign_negative.true, sym c.leftward.ensures ∙ c.if-leftward.false)
+returns-in-true-false c = rw (sym c.in-true-false.ensures, sym c.in-true-false.ensures')
 
-pub returns-then-leftward-2 : goal.returns-then-leftward-2
+pub returns-in-false-true : goal.returns-in-false-true
 unfolding quarter
-returns-then-leftward-2 c = rw (sym c.is_sign_negative.ensures ∙ c.if-is_sign_negative.false, sym c.leftward-else-is_sign_negative.ensures ∙ c.if-leftward-2.true)
+returns-in-false-true c = rw (sym c.in-false-true.ensures, sym c.in-false-true.ensures')
 
-pub returns-else-leftward-2 : goal.returns-else-leftward-2
+pub returns-in-false-false : goal.returns-in-false-false
 unfolding quarter
-returns-else-leftward-2 c = rw (sym c.is_sign_negative.ensures ∙ c.if-is_sign_negative.false, sym c.leftward-else-is_sign_negative.ensures ∙ c.if-leftward-2.false)
+returns-in-false-false c = rw (sym c.in-false-false.ensures, sym c.in-false-false.ensures')
