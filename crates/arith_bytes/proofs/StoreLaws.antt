@@ -1,45 +1,35 @@
 -- One turn of each loop that stores: what is left, stored from here, is the whole stored. Assumes nothing.
-use Prim.Native.Nat.{ℕ, suc, ◌+◌, ◌-◌, ◌*◌, ◌/◌, ◌%◌, ◌≤◌, ◌<◌}
-use native.Mathlib.Nat.{add-zero, zero-add, mul-suc, mul-add, mul-zero, sub-zero}
+use Prim.Native.Nat.{ℕ, ◌+◌, ◌-◌, ◌*◌, ◌/◌, ◌%◌, ◌≤◌, ◌<◌}
+use native.Mathlib.Nat.{zero-add, mul-suc, mul-add}
 use native.Mathlib.Numerals.{add-one}
 use native.Mathlib.Omega.{arith}
-use mathlib.Core.Path.{◌≡◌, refl, ap, sym, ◌∙◌}
-use mathlib.Core.List.{List, [], ◌∷◌, ◌++◌, append_assoc}
-use lib.ListN.{length, get_or, take, drop, set, length-set, length-drop}
-use lib.Seq.{length-take-le, paste, paste-zero, paste-suc, length-paste}
+use mathlib.Core.Path.{◌≡◌, ap, sym, ◌∙◌}
+use mathlib.Core.List.{List, ◌∷◌, ◌++◌, append_assoc, append-nil}
+use lib.ListN.{length, get_or, take, drop, set, length-drop}
+use borrow.Rule.Slice.PartMut.{put_mid, Post-is}
+use lib.Seq.{take-suc-set, take_all, length-take-le}
 use Rattle.arith.proofs.RecordLaws.{left-suc, stride-le, drop-next, drop-end}
 use Rattle.arith_bytes.specs.Stored.{le_bytes, all_bytes, stored}
-use Rattle.arith_bytes.proofs.ByteLaws.{length-le_bytes, length-all_bytes, stored-none, length-stored, stored_one, stored_more}
+use Rattle.arith_bytes.proofs.ByteLaws.{length-le_bytes, length-all_bytes, stored-none, length-stored, stored_more}
 
--- ---- one number: k bytes are stored, `left` has the others
+-- ---- one number: i bytes are stored, `left` has the others
 
-pub record Storing (out₀ : List ℕ) (at w size : ℕ) (out : List ℕ) (left k : ℕ) : Type 0 where
-  pub whole : stored (at + k) (le_bytes (size - k) left) out ≡ stored at (le_bytes size w) out₀
-  pub long : length out ≡ length out₀
-  pub within : k ≤ size
+pub storing-next : (items : List ℕ) (size left i : ℕ) (all : List ℕ) → take i items ++ le_bytes (size - i) left ≡ all → i < size → i < length items →
+    take (i + 1) (set items i (left % 256)) ++ le_bytes (size - (i + 1)) (left / 256) ≡ all
+unfolding le_bytes
+storing-next items size left i all inv h g =
+    rw (add-one i, take-suc-set items i (left % 256) g, append_assoc, ← add-one i) (rw (left-suc size i h) at inv)
 
-pub storing-starts : (out : List ℕ) (at w size : ℕ) → Storing out at w size out w 0
-storing-starts out at w size = record { whole = rw (add-zero at, sub-zero size); long = refl; within = omega arith }
-
-module _ {out₀ : List ℕ} {at w size : ℕ} {out : List ℕ} {left k : ℕ} (s : Storing out₀ at w size out left k) where
-  pub storing-next : k < size → at + size ≤ length out₀ → Storing out₀ at w size (set out (at + k) (left % 256)) (left / 256) (k + 1)
-  unfolding le_bytes
-  storing-next h room =
-      let inside : at + k < length out = omega (arith, s.long) in
-      let here : le_bytes (size - k) left ≡ (left % 256 ∷ []) ++ le_bytes (size - (k + 1)) (left / 256) = rw (left-suc size k h) in
-      let e : at + (k + 1) ≡ at + k + 1 = omega arith in
-      let more = stored_more (at + k) out (left % 256 ∷ []) (le_bytes (size - (k + 1)) (left / 256)) (omega (arith, s.long, length-le_bytes (size - (k + 1)) (left / 256))) in
-      record {
-        whole = rw (e, stored_one (at + k) out (left % 256) inside) (more ∙ rw here at s.whole);
-        long = length-set out (at + k) (left % 256) ∙ s.long;
-        within = omega arith;
-      }
-
-  pub storing-ends : size ≤ k → out ≡ stored at (le_bytes size w) out₀
-  unfolding le_bytes
-  storing-ends h =
-      let z : size - k ≡ 0 = omega arith in
-      sym (stored-none (at + k) out) ∙ rw z at s.whole
+-- the bytes put back in the place that was lent
+pub storing-ends : (out items : List ℕ) (at size w left i : ℕ) → take i items ++ le_bytes (size - i) left ≡ le_bytes size w → i ≡ size → length items ≡ size →
+    put_mid at (at + size - at) out items ≡ stored at (le_bytes size w) out
+unfolding le_bytes stored
+storing-ends out items at size w left i inv e long =
+    let z : size - i ≡ 0 = omega arith in
+    let all : length items ≤ i = omega arith in
+    let whole : items ≡ le_bytes size w = sym (append-nil items) ∙ rw (z, take_all i items all) at inv in
+    let n : length (le_bytes size w) ≡ size = length-le_bytes size w in
+    rw (Post-is at (at + size) out (omega arith), whole, n)
 
 -- ---- all numbers of a list, of s bytes each: i are stored
 
@@ -47,9 +37,6 @@ pub record Listing (s : ℕ) (out₀ : List ℕ) (at : ℕ) (ws out : List ℕ) 
   pub whole : stored (at + s * i) (all_bytes s (drop i ws)) out ≡ stored at (all_bytes s ws) out₀
   pub long : length out ≡ length out₀
   pub within : i ≤ length ws
-
-pub listing-starts : (s : ℕ) (out : List ℕ) (at : ℕ) (ws : List ℕ) → Listing s out at ws out 0
-listing-starts s out at ws = record { whole = rw (mul-zero s, add-zero at); long = refl; within = omega arith }
 
 module _ {s : ℕ} {out₀ : List ℕ} {at : ℕ} {ws out : List ℕ} {i : ℕ} (l : Listing s out₀ at ws out i) (room : at + s * length ws ≤ length out₀) where
   -- there is room for one more
@@ -84,26 +71,8 @@ module _ {s : ℕ} {out₀ : List ℕ} {at : ℕ} {ws out : List ℕ} {i : ℕ} 
   unfolding all_bytes
   listing-ends h = sym (stored-none (at + s * i) out) ∙ rw (drop-end ws i h) at l.whole
 
--- ---- bytes copied: i of them are
+-- ---- bytes copied to the front
 
-pub record Copying (from out₀ : List ℕ) (n : ℕ) (out : List ℕ) (i : ℕ) : Type 0 where
-  pub same : out ≡ paste out₀ 0 from i
-  pub long : length out ≡ length out₀
-  pub within : i ≤ n
-
-pub copying-starts : (from out : List ℕ) (n : ℕ) → Copying from out n out 0
-copying-starts from out n = record { same = paste-zero out 0 from; long = refl; within = omega arith }
-
-module _ {from out₀ : List ℕ} {n : ℕ} {out : List ℕ} {i : ℕ} (c : Copying from out₀ n out i) where
-  pub copying-next : n ≤ length from → n ≤ length out₀ → i < n → Copying from out₀ n (set out i (get_or from i 0)) (i + 1)
-  copying-next hc ho h =
-      let turn : set (paste out₀ 0 from i) i (get_or from i 0) ≡ paste out₀ 0 from (suc i) =
-      ap (λ (k : ℕ). set (paste out₀ 0 from i) k (get_or from i 0)) (sym (zero-add i)) ∙ paste-suc out₀ 0 from i 0 (omega arith) (omega arith) in
-      let e : set out i (get_or from i 0) ≡ paste out₀ 0 from (i + 1) = rw (c.same, add-one i) turn in
-      record { same = e; long = ap length e ∙ length-paste out₀ 0 from (i + 1) (omega arith) (omega arith); within = omega arith }
-
-  pub copying-ends : n ≤ length from → n ≤ i → out ≡ stored 0 (take n from) out₀
-  unfolding stored
-  copying-ends hc h =
-      let e : i ≡ n = omega (arith, c.within) in
-      rw (length-take-le n from hc) (c.same ∙ rw e (append_assoc (take 0 out₀) (take n from) (drop (0 + n) out₀)))
+pub copied : (from out front : List ℕ) (n : ℕ) → front ≡ take n from → n ≤ length from → front ++ drop n out ≡ stored 0 (take n from) out
+unfolding stored
+copied from out front n e h = rw (length-take-le n from h, zero-add, e)

@@ -9,12 +9,10 @@ pub fn put_number(out: &mut [u8], at: usize, w: u64, size: usize)
     requires { at + size ≤ length out.old }
     ensures { out.new ≡ stored at (le_bytes size w) out.old }
 {
-    let mut k = 0;
     let mut left = w;
-    while k < size {
-        out[at + k] = (left % 256) as u8;
-        left = left / 256;
-        k += 1;
+    for byte in &mut out[at..at + size] {
+        *byte = (left % 256) as u8;
+        left /= 256;
     }
 }
 
@@ -23,17 +21,9 @@ pub fn put_u64s(out: &mut [u8], at: usize, numbers: &[u64])
     requires { at + 8 * length numbers.now ≤ length out.old }
     ensures { out.new ≡ stored at (all_bytes 8 numbers.now) out.old }
 {
-    let mut i = 0;
-    while i < numbers.len() {
-        put_number(out, at + 8 * i, numbers[i], 8);
-        i += 1;
+    for (i, number) in numbers.iter().enumerate() {
+        put_number(out, at + 8 * i, *number, 8);
     }
-}
-
-fn wide(x: u32) -> u64
-    ensures { result ≡ x }
-{
-    x as u64
 }
 
 // Stores numbers of four bytes, one after the other.
@@ -41,10 +31,8 @@ pub fn put_u32s(out: &mut [u8], at: usize, numbers: &[u32])
     requires { at + 4 * length numbers.now ≤ length out.old }
     ensures { out.new ≡ stored at (all_bytes 4 numbers.now) out.old }
 {
-    let mut i = 0;
-    while i < numbers.len() {
-        put_number(out, at + 4 * i, wide(numbers[i]), 4);
-        i += 1;
+    for (i, number) in numbers.iter().enumerate() {
+        put_number(out, at + 4 * i, u64::from(*number), 4);
     }
 }
 
@@ -53,9 +41,5 @@ pub fn copy(from: &[u8], n: usize, out: &mut [u8])
     requires { (n ≤ length from.now) × (n ≤ length out.old) }
     ensures { out.new ≡ stored 0 (take n from.now) out.old }
 {
-    let mut i = 0;
-    while i < n {
-        out[i] = from[i];
-        i += 1;
-    }
+    out[..n].copy_from_slice(&from[..n]);
 }

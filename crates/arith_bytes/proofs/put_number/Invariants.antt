@@ -1,10 +1,10 @@
 use Prim.Native.Nat.{◌-◌}
-use Rattle.arith_bytes.proofs.StoreLaws.{Storing}
+use mathlib.Core.Path.{◌≡◌}
+use mathlib.Core.List.{◌++◌}
+use lib.ListN.{take}
+use Rattle.arith_bytes.specs.Stored.{le_bytes}
 use Rattle.arith_bytes.proofs.put_number.Given as goal
 
--- `arith_bytes::put_number` meets its contract. Assumes nothing.
-abbrev pub invariant-loop-k : goal.invariant-loop-k
-invariant-loop-k l = Storing l.initial.out l.at l.w l.size l.out l.left l.k
-
-abbrev pub decreases-loop-k : goal.decreases-loop-k
-decreases-loop-k l = l.size - l.k
+-- the bytes that are stored, and those that `left` has
+abbrev pub invariant-loop-byte : goal.invariant-loop-byte
+invariant-loop-byte l = take l.byte-index l.byte-items ++ le_bytes (l.size - l.byte-index) l.left ≡ le_bytes l.size l.w

@@ -1,11 +1,6 @@
-use Prim.Native.Nat.{◌-◌}
-use lib.ListN.{length}
 use Rattle.arith_bytes.proofs.StoreLaws.{Listing}
 use Rattle.arith_bytes.proofs.put_u64s.Given as goal
 
 -- `arith_bytes::put_u64s` meets its contract. Assumes nothing.
 abbrev pub invariant-loop-i : goal.invariant-loop-i
 invariant-loop-i l = Listing 8 l.initial.out l.at l.numbers l.out l.i
-
-abbrev pub decreases-loop-i : goal.decreases-loop-i
-decreases-loop-i l = length l.numbers - l.i
