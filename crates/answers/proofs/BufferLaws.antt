@@ -1,57 +1,19 @@
--- The words of one answer, and buffers that are cleared. Assumes nothing.
+-- The words of one answer. Assumes nothing.
 use Prim.Native.Nat.{ℕ, suc, ◌+◌, ◌-◌, ◌*◌, ◌≤◌, ◌<◌}
 use native.Mathlib.Omega.{arith}
 use mathlib.Core.Path.{◌≡◌, refl, ap, sym, ◌∙◌}
 use mathlib.Core.Bool.{Bool, true, false, cond}
-use mathlib.Core.List.{List, [], ◌∷◌, ◌++◌, append_assoc, append-nil}
+use mathlib.Core.List.{List, [], ◌∷◌, ◌++◌, append_assoc}
 use lib.Dec.{leb}
-use lib.ListN.{length, get_or, set, take, drop, replicate, length-append, length-drop, length-set, length-replicate, replicate-append-replicate, take-append-drop}
-use lib.Seq.{length-take-le, drop-cons, drop-length, split_at, set_at, take-append-add}
+use lib.ListN.{length, get_or, set, take, drop, length-append, length-set}
+use lib.Seq.{length-take-le, drop-cons, split_at, set_at, take-append-add}
 use borrow.Author.Tests.{le-leb, lt-leb, leb-true}
 use Rattle.reading.specs.Result.{Result, refused, fine}
-use Rattle.reading.specs.Marks.{cleared}
 use Rattle.answers.specs.declared.Answered.{Answered}
 use Rattle.answers.specs.declared.Answered.TheVariants.{Words, Refused}
 use Rattle.answers.specs.Ensures.{answer_of, length_of, StoredWords, CloseExit}
 use Rattle.answers.proofs.Behind.{Behind}
 use Rattle.answers.specs.Answer.{fitting, answer_words, header_of}
-
--- ---- zeros
-
--- the words from a up to i are cleared
-abbrev pub zeroed : ℕ → ℕ → List ℕ → List ℕ
-zeroed a i l = take a l ++ replicate (i - a) 0 ++ drop i l
-
-pub zeroed-none : (a : ℕ) (l : List ℕ) → l ≡ zeroed a a l
-zeroed-none a l = sym (ap (λ k. take a l ++ replicate k 0 ++ drop a l) minus ∙ ap (λ t. t ++ drop a l) (append-nil (take a l)) ∙ take-append-drop a l)
-  where
-    minus : a - a ≡ 0
-    minus = omega arith
-
-pub zeroed-long : (a i : ℕ) (l : List ℕ) → a ≤ i → i ≤ length l → length (zeroed a i l) ≡ length l
-zeroed-long a i l h k = simp (length-append, length-replicate, length-drop) (omega (arith, length-take-le a l (omega arith)))
-
-pub zeroed-next : (a i : ℕ) (l : List ℕ) → a ≤ i → i < length l → set (zeroed a i l) i 0 ≡ zeroed a (suc i) l
-zeroed-next a i l h k =
-    ap (λ t. set (take a l ++ replicate (i - a) 0 ++ t) i 0) (drop-cons l i 0 k)
-    ∙ set_at (take a l ++ replicate (i - a) 0) (get_or l i 0) (drop (suc i) l) 0 i n
-    ∙ sym (append_assoc (take a l ++ replicate (i - a) 0) (0 ∷ []) (drop (suc i) l))
-    ∙ ap (λ t. t ++ drop (suc i) l) (append_assoc (take a l) (replicate (i - a) 0) (0 ∷ []) ∙ ap (λ t. take a l ++ t) more)
-  where
-    n : length (take a l ++ replicate (i - a) 0) ≡ i
-    n = simp (length-append, length-replicate) (omega (arith, length-take-le a l (omega arith)))
-
-    step : (i - a) + 1 ≡ suc i - a
-    step = omega arith
-
-    more : ◌++◌ {A = ℕ} (replicate (i - a) 0) (0 ∷ []) ≡ replicate (suc i - a) 0
-    more = replicate-append-replicate (i - a) 1 0 ∙ ap (λ (k : ℕ). replicate k 0) step
-
-pub zeroed-all : (a : ℕ) (l : List ℕ) → zeroed a (length l) l ≡ take a l ++ replicate (length l - a) 0
-zeroed-all a l = ap (λ t. take a l ++ replicate (length l - a) 0 ++ t) (drop-length l) ∙ append-nil (take a l ++ replicate (length l - a) 0)
-
-pub zeroed-cleared : (i : ℕ) (m : List ℕ) → zeroed 0 i m ≡ cleared i m
-zeroed-cleared i m = ap (λ (k : ℕ). replicate k 0 ++ drop i m) (let e : i - 0 ≡ i = omega arith in e)
 
 -- ---- one answer
 
@@ -111,39 +73,6 @@ placed-words o o' ws at later k r c h w e s =
       room = omega arith;
       long = ap length s ∙ set_long o at (at + 1) 0 k;
     }
-
--- ---- the loops that clear
-
--- the words from a up to i are cleared
-pub record Zeroing (a i : ℕ) (l x : List ℕ) : Type 0 where
-  pub now-is : x ≡ zeroed a i l
-  pub from : a ≤ i
-  pub to : i ≤ length l
-  pub long : length x ≡ length l
-
-pub zeroing-start : (a : ℕ) (l : List ℕ) → a ≤ length l → Zeroing a a l l
-zeroing-start a l h = record { now-is = zeroed-none a l; from = omega arith; to = h; long = refl }
-
-pub zeroing-next : {a i : ℕ} {l x : List ℕ} → Zeroing a i l x → i < length x → Zeroing a (i + 1) l (set x i 0)
-zeroing-next {a} {i} {l} {x} z h =
-    let below : i < length l = omega (arith, z.long) in
-    let one : suc i ≡ i + 1 = omega arith in
-    record {
-      now-is = ap (λ t. set t i 0) z.now-is ∙ zeroed-next a i l z.from below ∙ ap (λ (k : ℕ). zeroed a k l) one;
-      from = omega (arith, z.from);
-      to = omega arith;
-      long = length-set x i 0 ∙ z.long;
-    }
-
-pub zeroing-end : {a i : ℕ} {l x : List ℕ} → Zeroing a i l x → length x ≤ i → x ≡ take a l ++ replicate (length l - a) 0
-zeroing-end {a} {i} {l} {x} z h =
-    let e : i ≡ length l = omega (arith, z.long, z.to) in
-    z.now-is ∙ ap (λ (k : ℕ). zeroed a k l) e ∙ zeroed-all a l
-
-pub zeroing-cleared : {i : ℕ} {l x : List ℕ} (n : ℕ) → Zeroing 0 i l x → n ≤ i → i ≤ n → x ≡ cleared n l
-zeroing-cleared {i} {l} n z h k =
-    let e : i ≡ n = omega arith in
-    z.now-is ∙ zeroed-cleared i l ∙ ap (λ (k : ℕ). cleared k l) e
 
 -- ---- the three ends of `close`
 

@@ -40,11 +40,7 @@ pub fn clear_marks(marks: &mut [u8], cells: usize)
     requires { cells ≤ length marks.old }
     ensures { marks.new ≡ cleared cells marks.old }
 {
-    let mut i = 0;
-    while i < cells {
-        marks[i] = 0;
-        i += 1;
-    }
+    marks[..cells].fill(0);
 }
 
 // Zeros from `at` on.
@@ -53,9 +49,5 @@ pub fn clear_from(answers: &mut [u64], at: usize)
     ensures { answers.new ≡ take at answers.old ++ replicate
         (length answers.old - at) 0 }
 {
-    let mut i = at;
-    while i < answers.len() {
-        answers[i] = 0;
-        i += 1;
-    }
+    answers[at..].fill(0);
 }
