@@ -158,8 +158,10 @@ module _ (l : List ℕ) (count i from n : ℕ) (below : i < count) (two : 2 ≤ 
 
   pub answers-turn : {o₀ o o' : List ℕ} {at to r : ℕ} {whole : List ℕ} → Left o₀ at whole o to (answers_text (count - i) (drop from l)) →
       PutExit (answer_text (get_or l from 0) (take (from + 2 + n - (from + 2)) (drop (from + 2) l))) o o' to r →
-      Left o₀ at whole o' r (answers_text (count - (i + 1)) (drop (from + 2 + n) l))
-  answers-turn left w = part (answer_text (get_or l from 0) (take (from + 2 + n - (from + 2)) (drop (from + 2) l))) _ (rw answers_next at left) w
+      Left o₀ at whole o' r (answers_text (count - (i + 1)) (drop (from + (2 + n)) l))
+  answers-turn left w =
+      let e : from + (2 + n) ≡ from + 2 + n = omega arith in
+      rw e (part (answer_text (get_or l from 0) (take (from + 2 + n - (from + 2)) (drop (from + 2) l))) _ (rw answers_next at left) w)
 
 -- ---- the marks
 

@@ -23,10 +23,8 @@ fn put_all(text: &mut [u8], at: usize, bytes: &[u8]) -> usize
     ensures { PutExit bytes.now text.old text.new at result }
 {
     let mut to = at;
-    let mut i = 0;
-    while i < bytes.len() {
-        to = put(text, to, bytes[i]);
-        i += 1;
+    for b in bytes {
+        to = put(text, to, *b);
     }
     to
 }
@@ -54,11 +52,9 @@ fn put_words(text: &mut [u8], at: usize, words: &[u64]) -> usize
     ensures { PutExit (words_text words.now) text.old text.new at result }
 {
     let mut to = at;
-    let mut i = 0;
-    while i < words.len() {
-        to = put(text, to, 32);
-        to = put_hex(text, to, words[i]);
-        i += 1;
+    for word in words {
+        to = put(text, to, b' ');
+        to = put_hex(text, to, *word);
     }
     to
 }
@@ -68,17 +64,17 @@ fn put_answer(text: &mut [u8], at: usize, refusal: u64, words: &[u64]) -> usize
     ensures { PutExit (answer_text refusal words.now) text.old text.new at result }
 {
     let to = put_decimal(text, at, refusal);
-    let to = put(text, to, 32);
+    let to = put(text, to, b' ');
     let to = put_decimal(text, to, words.len() as u64);
     let to = put_words(text, to, words);
-    put(text, to, 10)
+    put(text, to, b'\n')
 }
 
 // How many words of an answer there are: its count, but not more than those that are left.
 fn count_of(n: u64, left: usize) -> usize
     ensures { result ≡ min n left }
 {
-    if n < (left as u64) { n as usize } else { left }
+    n.min(left as u64) as usize
 }
 
 // A line for each of `count` answers.
@@ -87,15 +83,13 @@ fn put_answers(text: &mut [u8], at: usize, answers: &[u64], count: usize) -> usi
 {
     let mut to = at;
     let mut from = 0;
-    let mut i = 0;
-    while i < count {
+    for _ in 0..count {
         if answers.len() - from < 2 {
             return to;
         }
         let n = count_of(answers[from + 1], answers.len() - from - 2);
         to = put_answer(text, to, answers[from], &answers[from + 2..from + 2 + n]);
-        from = from + 2 + n;
-        i += 1;
+        from += 2 + n;
     }
     to
 }
@@ -105,13 +99,11 @@ fn put_marks(text: &mut [u8], at: usize, marks: &[u8]) -> usize
     ensures { PutExit (marks_text marks.now) text.old text.new at result }
 {
     let mut to = at;
-    let mut i = 0;
-    while i < marks.len() {
-        if marks[i] == 1 {
-            to = put(text, to, 32);
+    for (i, mark) in marks.iter().enumerate() {
+        if *mark == 1 {
+            to = put(text, to, b' ');
             to = put_decimal(text, to, i as u64);
         }
-        i += 1;
     }
     to
 }
@@ -122,7 +114,7 @@ pub fn put_refusal(text: &mut [u8], k: u64) -> usize
 {
     let to = put_all(text, 0, b"refused ");
     let to = put_decimal(text, to, k);
-    put(text, to, 10)
+    put(text, to, b'\n')
 }
 
 // The text of a job that was done. How long it is, or one more than the room for it.
@@ -133,5 +125,5 @@ pub fn put_done(text: &mut [u8], answers: &[u64], count: usize, marks: &[u8]) ->
     let to = put_answers(text, 0, answers, count);
     let to = put_all(text, to, b"read");
     let to = put_marks(text, to, marks);
-    put(text, to, 10)
+    put(text, to, b'\n')
 }

@@ -1,6 +1,6 @@
 use Rattle.listing.proofs.TextLaws.{marks-left, marked, unmarked, marks-over, over}
 use Rattle.listing.proofs.put_marks.Goals as goal
-use Rattle.listing.proofs.put_marks.Goals.{then-marks-i-eq1, else-marks-i-eq1}
+use Rattle.listing.proofs.put_marks.Goals.{then-mark-eq1, else-mark-eq1}
 
 pub loop-i-init : goal.loop-i-init
 loop-i-init c = marks-left _ _ _
@@ -9,9 +9,9 @@ pub loop-i-preserved : goal.loop-i-preserved
 loop-i-preserved c =
     let below = c.loop-i-test.true in
     let left = c.loop-i.invariant in
-    elim c.if-marks-i-eq1.branch [
-      | then-marks-i-eq1 w ↦ rw (w.text-is, w.to-is) (marked _ _ below left w.if-marks-i-eq1.true w.put-to.ensures w.put_decimal-to.ensures)
-      | else-marks-i-eq1 w ↦ rw (w.text-is, w.to-is) (unmarked _ _ below left w.if-marks-i-eq1.false)
+    elim c.if-mark-eq1.branch [
+      | then-mark-eq1 w ↦ rw (w.text-is, w.to-is) (marked _ _ below left w.if-mark-eq1.true w.put-to.ensures w.put_decimal-to.ensures)
+      | else-mark-eq1 w ↦ rw (w.text-is, w.to-is) (unmarked _ _ below left w.if-mark-eq1.false)
     ]
 
 pub returns : goal.returns
