@@ -12,12 +12,10 @@ fn measure(dx: &[f64], dy: &[f64], quarters: &mut [u64], slopes: &mut [f64])
         (length dx.now) }
     ensures slopes_after { slopes.new ≡ Spec.slopes dx.now dy.now (length dx.now) }
 {
-    let mut i = 0;
-    while i < dx.len() {
+    for i in 0..dx.len() {
         let angle = angles::angle_of(Vec2 { x: dx[i], y: dy[i] });
         quarters[i] = angle.quarter;
         slopes[i] = angle.slope;
-        i += 1;
     }
 }
 

@@ -9,18 +9,14 @@ pub const EMPTY: u64 = 0xcbf2_9ce4_8422_2325;
 fn times_prime(h: u64) -> u64
     ensures { result ≡ Fnv.times_prime h }
 {
-    let low = h % 4294967296 * 435;
-    let high = h / 4294967296 * 435 % 4294967296 * 4294967296;
-    let top = h % 16777216 * 1099511627776;
-    let sum = std::num::wrapping_add_u64(low, high);
-    std::num::wrapping_add_u64(sum, top)
+    h.wrapping_mul(0x100_0000_01b3)
 }
 
 // The hash h, one byte further.
 pub fn byte(h: u64, b: u8) -> u64
     ensures { result ≡ Fnv.hash_byte h b }
 {
-    times_prime(h ^ (b as u64))
+    times_prime(h ^ u64::from(b))
 }
 
 // The hash h, further by the eight bytes of x, the low one first.
@@ -28,12 +24,8 @@ pub fn word(h: u64, x: u64) -> u64
     ensures { result ≡ Fnv.hash_bytes 8 h x }
 {
     let mut hash = h;
-    let mut left = x;
-    let mut k = 0usize;
-    while k < 8 {
-        hash = times_prime(hash ^ (left % 256));
-        left = left / 256;
-        k += 1;
+    for b in x.to_le_bytes() {
+        hash = byte(hash, b);
     }
     hash
 }

@@ -24,7 +24,7 @@ pub fn number(file: &mut File, most: usize) -> usize
     let mut four = [0u8; 4];
     let _ = file.read_exact(&mut four);
     let n = bytes::word_at(&four, 0) as usize;
-    if n < most { n } else { most }
+    n.min(most)
 }
 
 // Prints the next name of the file; `room` is to read it into.
@@ -42,10 +42,8 @@ fn repeat(room: &mut [u8], n: usize, from: usize, end: usize)
     requires { (n ≤ from) × (end ≤ length room.old) }
     ensures { room.new ≡ repeated (end - from) n from room.old }
 {
-    let mut k = from;
-    while k < end {
+    for k in from..end {
         room[k] = room[k - n];
-        k += 1;
     }
 }
 
@@ -59,7 +57,7 @@ pub fn piece(file: &mut File, room: &mut [u8], from: usize) -> usize
     let copied = from + n;
     let _ = file.read_exact(&mut room[from..copied]);
     repeat(room, n, copied, end);
-    if copied < end { end } else { copied }
+    copied.max(end)
 }
 
 // Puts the next pieces of the file together, and answers how many bytes they are.
@@ -68,10 +66,8 @@ pub fn assemble(file: &mut File, room: &mut [u8]) -> usize
 {
     let pieces = number(file, 65536);
     let mut end = 0;
-    let mut i = 0;
-    while i < pieces {
+    for _ in 0..pieces {
         end = piece(file, room, end);
-        i += 1;
     }
     end
 }

@@ -1,10 +1,8 @@
-use Rattle.std.proofs.Common.{◌≡◌, ◌-◌, ◌≤◌}
-use Rattle.test_stored.specs.Fnv.{hash_bytes}
+use Rattle.std.proofs.Common.{◌≡◌, drop}
+use Rattle.arith.specs.Lists.{fold}
+use Rattle.test_stored.specs.Fnv.{hash_byte}
 use Rattle.test_stored.proofs.fnv.word.Given as goal
 
--- `test_stored::fnv::word`: the bytes that are left, from the hash so far on, give the hash of all eight. Assumes nothing.
-abbrev pub invariant-loop-k : goal.invariant-loop-k
-invariant-loop-k l = (l.k ≤ 8) × (hash_bytes (8 - l.k) l.hash l.left ≡ hash_bytes 8 l.h l.x)
-
-abbrev pub decreases-loop-k : goal.decreases-loop-k
-decreases-loop-k l = 8 - l.k
+-- `test_stored::fnv::word`: the bytes that are left, from the hash so far on, give the hash of all. Assumes nothing.
+abbrev pub invariant-loop-b : goal.invariant-loop-b
+invariant-loop-b l = fold hash_byte l.hash (drop l.b-index l.b-items) ≡ fold hash_byte l.h l.b-items
