@@ -1,4 +1,3 @@
-pub mod SliceLaws
 pub mod FaceLaws
 pub mod LengthLaws
 pub mod AnswerLaws

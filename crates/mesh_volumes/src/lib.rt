@@ -136,10 +136,8 @@ pub fn add_tetrahedra(
         vertices.now }
 {
     let mut sum = weight;
-    let mut j = 0;
-    while j + 2 < vertices.len() {
+    for j in 0..vertices.len().saturating_sub(2) {
         sum = add_tetrahedron(case, points, reference, sum, vertices, j);
-        j += 1;
     }
     sum
 }

@@ -2,11 +2,11 @@ use Rattle.mesh_averages.proofs.Laws.{sum-turn, fold_done}
 use borrow.Author.Rules.{rules}
 use Rattle.mesh_averages.proofs.point_sum.Goals as goal
 
-pub loop-i-init : goal.loop-i-init
-loop-i-init c = (search rules, rw c.new-sum.ensures)
+pub loop-v-init : goal.loop-v-init
+loop-v-init c = rw c.new-sum.ensures
 
-pub loop-i-preserved : goal.loop-i-preserved
-loop-i-preserved c = search (sum-turn, fold_done, rules)
+pub loop-v-preserved : goal.loop-v-preserved
+loop-v-preserved c = search (sum-turn, rules)
 
 pub returns : goal.returns
-returns c = search (sum-turn, fold_done, rules)
+returns c = search (fold_done, rules)

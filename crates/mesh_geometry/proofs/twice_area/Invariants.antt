@@ -1,6 +1,5 @@
-use Prim.Native.Nat.{◌-◌, ◌≤◌}
 use mathlib.Core.Path.{◌≡◌}
-use lib.ListN.{length, drop}
+use lib.ListN.{drop}
 use Rattle.arith.specs.Lists.{fold, sides}
 use Rattle.arith.specs.Vec.{origin}
 use Rattle.mesh_area.specs.Layout.{points_in}
@@ -9,7 +8,4 @@ use Rattle.mesh_geometry.proofs.twice_area.Given as goal
 
 abbrev pub invariant-loop-i : goal.invariant-loop-i
 invariant-loop-i l =
-    (l.i ≤ length l.vertices) × (fold (add_cross (points_in l.case l.points)) l.sum (drop l.i (sides l.vertices)) ≡ fold (add_cross (points_in l.case l.points)) origin (sides l.vertices))
-
-abbrev pub decreases-loop-i : goal.decreases-loop-i
-decreases-loop-i l = length l.vertices - l.i
+    (fold (add_cross (points_in l.case l.points)) l.sum (drop l.i (sides l.vertices)) ≡ fold (add_cross (points_in l.case l.points)) origin (sides l.vertices))
