@@ -2,15 +2,14 @@
 use mathlib.Core.Path.{◌≡◌, refl, sym, ap, ◌∙◌}
 use mathlib.Core.Bool.{Bool, false}
 use mathlib.Core.Logic.{◌≢◌}
-use mathlib.Core.List.{List, [], ◌∷◌, ◌++◌}
+use mathlib.Core.List.{List, [], ◌∷◌, ◌++◌, append_assoc}
 use Prim.Native.Nat.{ℕ, zero, suc, ◌+◌, ◌-◌, ◌*◌, ◌<◌, ◌≤◌}
-use native.Mathlib.Nat.{add-sub_cancel_left, le_antisymm}
-use native.Mathlib.Numerals.{add-one}
+use native.Mathlib.Nat.{add-sub_cancel_left}
 use native.Mathlib.Omega.{arith}
 use borrow.Author.Tests.{eqb-false}
 use lib.Dec.{eqb, lit≤}
 use lib.ListN.{length, get_or, take, drop, set, length-set, length-drop, take-append-drop}
-use lib.Seq.{sets, length-sets, sets-eq, take-suc, drop-set-lt, drop-set-add, take-set-le, take-set-lt, take-length, take-take, take_at, length-take-le, get_or-set_same, get_or-set_other, get_or-drop, drop-drop}
+use lib.Seq.{sets, length-sets, sets-eq, take-suc, drop-set-lt, drop-set-add, take-set-le, take-set-lt, take-take, take_at, get_or-set_same, get_or-set_other, get_or-drop, drop-drop}
 use lib.Ieee.{Float, nan}
 use Rattle.arith.specs.Lists.{same, sorted}
 use Rattle.arith.specs.Records.{part, patch, chunk, tab}
@@ -31,11 +30,6 @@ fresh vertices cell link = record { count = length vertices; vertices = vertices
 -- ---- a run of stores
 
 module _ {A : Type 0} where
-  -- one store more at its end
-  pub sets-snoc : (vs l : List A) (i : ℕ) (a : A) → sets l i (vs ++ a ∷ []) ≡ set (sets l i vs) (i + length vs) a
-  sets-snoc [] l i a = let z : i + 0 ≡ i = omega arith in rw z
-  sets-snoc (v ∷ vs) l i a = let e : i + suc (length vs) ≡ suc i + length vs = omega arith in rw e (sets-snoc vs (set l i v) (suc i) a)
-
   -- what stands before it, and what it leaves from there on
   pub sets-before : (b : ℕ) (vs l : List A) (k : ℕ) → take b (sets l (b + k) vs) ≡ take b l
   sets-before b [] l k = refl
@@ -57,6 +51,12 @@ module _ {A : Type 0} where
   pub sets_behind : (n : ℕ) (vs l : List A) (k : ℕ) → k + length vs ≤ n → drop n (sets l k vs) ≡ drop n l
   sets_behind n [] l k h = refl
   sets_behind n (v ∷ vs) l k h = sets_behind n vs (set l k v) (suc k) (omega arith) ∙ drop-set-lt n l k v (omega arith)
+
+  -- a part that is replaced is a run of stores
+  pub patch-sets : (vs l : List A) (i n : ℕ) → length vs ≡ n → i + n ≤ length l → patch i (i + n - i) l vs ≡ sets l i vs
+  patch-sets vs l i n long room =
+      let fits : i + length vs ≤ length l = omega arith in
+      rw (add-sub_cancel_left i n, drop-drop n i l, ← long) (sym (append_assoc (take i l) vs (drop (i + length vs) l)) ∙ sym (sets-eq vs l i fits))
 
 -- ---- has_key
 
@@ -85,17 +85,14 @@ unfolding face_words_of
 other-put r other long =
     rw (keep r 10 other 0 refl, keep r 10 other 9 refl, keep r 10 other 11 refl, get_or-set_same r 10 other 0 (omega arith), keep-numbers r 9 other (lit≤ tt))
 
--- one vertex more
-pub copy-turn : (r r₀ vertices : List ℕ) (j : ℕ) → r ≡ sets r₀ 1 (take j vertices) → j < length vertices
-    → set r (1 + j) (get_or vertices j 0) ≡ sets r₀ 1 (take (j + 1) vertices)
-copy-turn r r₀ vertices j inv more =
-    let k : length (take j vertices) ≡ j = length-take-le j vertices (omega arith) in
-    rw (inv, add-one j, take-suc vertices j 0 more, sets-snoc (take j vertices) r₀ 1 (get_or vertices j 0), k)
-
-pub face-put : (r r₀ vertices : List ℕ) (j n cell link : ℕ) → r ≡ sets (set r₀ 0 n) 1 (take j vertices) → j ≤ length vertices → length vertices ≤ j → n ≡ length vertices
-    → set (set (set r 9 cell) 10 0) 11 link ≡ new_face_at r₀ 0 vertices cell link
+-- the count, the vertices behind it, and the three words at the end
+pub face-put : (r vertices m : List ℕ) (cell link : ℕ) → m ≡ vertices → length r ≡ 12 → length vertices ≤ 8
+    → set (set (set (patch 1 (1 + length vertices - 1) (set r 0 (length vertices)) m) 9 cell) 10 0) 11 link ≡ new_face_at r 0 vertices cell link
 unfolding new_face_at
-face-put r r₀ vertices j n cell link e le ge en = rw (e, en, le_antisymm le ge, take-length vertices)
+face-put r vertices m cell link e long few =
+    let n = length vertices in
+    let room : 1 + n ≤ length (set r 0 n) = simp length-set (omega arith) in
+    rw (e, patch-sets vertices (set r 0 n) 1 n refl room)
 
 body-fresh : (r vertices : List ℕ) (cell link : ℕ) → length r ≡ 12 → length vertices ≤ 8 → face_words_of (new_face_at r 0 vertices cell link) ≡ fresh vertices cell link
 unfolding face_words_of new_face_at
@@ -150,7 +147,7 @@ measured-put r m long =
     at : (k : ℕ) → k < 10 → get_or (sets r 0 (floats_of m)) k nan ≡ get_or (floats_of m) k nan
     at k h = let z : 0 + k ≡ k = omega arith in rw z at (get_or-puts-at r 0 (floats_of m) k nan h (omega arith))
 
-pub ruleset records = (numbers-long, key-same, copy-turn, face-put)
+pub ruleset records = (numbers-long, key-same)
 
 -- ---- a record that was lent and is back: the stores of the part, over the whole
 

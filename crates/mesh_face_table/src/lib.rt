@@ -9,7 +9,6 @@ ghost use Rattle.mesh_face_table.specs.Records.{face_words_of, face_words_in, he
 ghost use Rattle.mesh_face_table.specs.Chains.{last, key_at};
 ghost use Rattle.mesh_face_table.specs.Ensures.{FindEntry};
 
-use arith::number::{narrow, wide};
 use mesh_geometry::FaceGeometry;
 
 // ---- one record of 12 words, of 12 floats
@@ -19,7 +18,7 @@ fn has_key(r: &[u32], key: &[u32]) -> bool
     requires { (length r.now ≡ 12) × (get_or r.now 0 0 ≤ 8) }
     ensures { result ≡ Lists.same (sorted (face_words_of r.now).vertices) key.now }
 {
-    let n = wide(r[0]);
+    let n = r[0] as usize;
     let end = 1 + n;
     let mut own = [0u32; 8];
     mesh_keys::sort_into(&mut own, &r[1..end]);
@@ -31,12 +30,9 @@ fn put_face(r: &mut [u32], vertices: &[u32], cell: u32, link: u32)
     requires { (length r.old ≡ 12) × (length vertices.now ≤ 8) }
     ensures { r.new ≡ new_face_at r.old 0 vertices.now cell link }
 {
-    r[0] = narrow(vertices.len());
-    let mut j = 0;
-    while j < vertices.len() {
-        r[1 + j] = vertices[j];
-        j += 1;
-    }
+    let n = vertices.len();
+    r[0] = n as u32;
+    r[1..1 + n].copy_from_slice(vertices);
     r[9] = cell;
     r[10] = 0;
     r[11] = link;
@@ -128,7 +124,8 @@ fn walk(words: &[u32], slots: usize, n: usize, key: &[u32]) -> usize
     ensures { result ≡ last (key_at (face_words_in words.now) key.now) n }
 {
     let b = mesh_keys::sum(key) % slots;
-    let mut at = wide(head_of(words, slots, b));
+    let mut at = head_of(words, slots, b) as usize;
+    // No `for`: which face is next stands in the record of this one.
     while at != 0 {
         let f = at - 1;
         let s = 12 * f;
@@ -136,7 +133,7 @@ fn walk(words: &[u32], slots: usize, n: usize, key: &[u32]) -> usize
         if has_key(&words[s..e], key) {
             return at;
         }
-        at = wide(link_of(words, f));
+        at = link_of(words, f) as usize;
     }
     0
 }
