@@ -1,21 +1,21 @@
 -- Laws of the table in the lent area: the mesh's part lent and back, an empty table, and what leaves a table as it is. Assumes nothing.
 use mathlib.Core.Path.{◌≡◌, refl, sym, ap, ◌∙◌}
 use mathlib.Core.List.{List, ◌++◌}
-use Prim.Native.Nat.{ℕ, ◌+◌, ◌*◌, ◌<◌, ◌≤◌}
-use native.Mathlib.Nat.{le_antisymm, mod-lt, not-suc-le-zero}
+use Prim.Native.Nat.{ℕ, ◌+◌, ◌-◌, ◌*◌, ◌<◌, ◌≤◌}
+use native.Mathlib.Nat.{mod-lt, not-suc-le-zero}
 use native.Mathlib.Omega.{arith}
-use lib.ListN.{length, get_or, take, drop, set, replicate, length-replicate, get_or-replicate, replicate-append-replicate, length-append, take-append-drop, get_or-append}
+use lib.ListN.{length, get_or, take, drop, replicate, length-replicate, get_or-replicate, length-append, take-append-drop, get_or-append}
 use lib.Seq.{sets, length-sets, sets-eq, take_at, take-take, take-set-lt, drop-set-lt, length-take-le, get_or-take, get_or-append-add}
 use lib.Ieee.{Float}
-use Rattle.arith.specs.Records.{chunk}
-use Rattle.arith.proofs.RecordLaws.{tab-same, take-drop-take, same-below}
+use Rattle.arith.specs.Records.{chunk, patch}
+use Rattle.arith.proofs.RecordLaws.{length_part, tab-same, take-drop-take, same-below}
 use Rattle.mesh_area.specs.Layout.{faces_in, face_in, mesh_words, mesh_floats, LentWords}
 use Rattle.mesh_area.specs.declared.Sizes.{Sizes}
 use Rattle.mesh_geometry.specs.declared.FaceGeometry.{FaceGeometry}
 use Rattle.mesh_keys.specs.Keys.{total}
 use Rattle.mesh_face_table.specs.Records.{face_words_of, face_words_in, measured_of, measured_in, face_of, table_in, head_in, new_face_at, floats_of}
 use Rattle.mesh_face_table.specs.Chains.{last, bucket_of, Chains, Chained}
-use Rattle.mesh_face_table.proofs.RecordParts.{face-parts, fresh-take, fresh-drop, sets-front, sets_behind, sets-snoc}
+use Rattle.mesh_face_table.proofs.RecordParts.{face-parts, fresh-take, fresh-drop, sets-front, sets_behind, patch-sets}
 use Rattle.mesh_face_table.proofs.ChainLaws.{chains-same}
 use Rattle.mesh_faces.specs.declared.Added.{Added}
 use Rattle.mesh_faces.specs.declared.Added.TheVariants.{New, Second, Third}
@@ -143,20 +143,15 @@ pub ruleset uses = (part-words, part-floats, part-ready, part-used)
 abbrev zeros : ℕ → List ℕ
 zeros n = replicate n 0
 
-pub clear-turn : (words words₀ words' : List ℕ) (slots b : ℕ) → words ≡ sets words₀ (12 * slots) (zeros b) → words' ≡ set words (12 * slots + b) 0
-    → words' ≡ sets words₀ (12 * slots) (zeros (b + 1))
-clear-turn words words₀ words' slots b inv e =
-    let k : length (zeros b) ≡ b = length-replicate b 0 in
-    rw (e, inv, ← replicate-append-replicate {A = ℕ} b 1 0, sets-snoc (zeros b) words₀ (12 * slots) 0, k)
-
-pub clear_room : (words words₀ : List ℕ) (s : Sizes) (b : ℕ) → length words ≡ length words₀ → b < s.slots → LentWords s words₀ → 12 * s.slots + b < length words
-clear_room words words₀ s b long more lent = let g = lent.long in omega arith
-
-pub clear-done : (words words₀ : List ℕ) (slots b : ℕ) → words ≡ sets words₀ (12 * slots) (zeros b) → b ≤ slots → slots ≤ b
-    → words ≡ sets words₀ (12 * slots) (zeros slots)
-clear-done words words₀ slots b inv le ge = rw (le_antisymm le ge) at inv
-
-pub ruleset clears = (clear-turn, clear_room, clear-done)
+pub clear-heads : (words m : List ℕ) (s : Sizes) → LentWords s words
+    → m ≡ zeros (length (take (12 * s.slots + s.slots - 12 * s.slots) (drop (12 * s.slots) words)))
+    → patch (12 * s.slots) (12 * s.slots + s.slots - 12 * s.slots) words m ≡ sets words (12 * s.slots) (zeros s.slots)
+clear-heads words m s lent e =
+    let g = lent.long in
+    let n : 12 * s.slots + s.slots - 12 * s.slots ≡ s.slots = omega arith in
+    let many : length (take s.slots (drop (12 * s.slots) words)) ≡ s.slots = length_part words (12 * s.slots) s.slots (omega arith) in
+    let all : m ≡ zeros s.slots = rw (n, many) at e in
+    rw all (patch-sets (zeros s.slots) words (12 * s.slots) s.slots (length-replicate s.slots 0) (omega arith))
 
 -- no bucket has a face
 pub cleared : (words₀ words : List ℕ) (s : Sizes) → LentWords s words₀ → words ≡ sets words₀ (12 * s.slots) (zeros s.slots) → Chained (with_faces s 0) words

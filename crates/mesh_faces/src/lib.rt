@@ -101,10 +101,6 @@ pub fn clear(words: &mut [u32], s: Sizes)
     requires { LentWords s words.old }
     ensures { words.new ≡ sets words.old (12 * s.slots) (replicate s.slots 0) }
 {
-    let slots = s.slots;
-    let mut b = 0;
-    while b < slots {
-        mesh_face_table::store_head(words, slots, b, 0);
-        b += 1;
-    }
+    let heads = 12 * s.slots;
+    words[heads..heads + s.slots].fill(0);
 }

@@ -1,6 +1,5 @@
-use Rattle.mesh_faces.proofs.AreaLaws.{clears}
-use borrow.Author.Rules.{rules}
+use Rattle.mesh_faces.proofs.AreaLaws.{clear-heads}
 use Rattle.mesh_faces.proofs.clear.Goals as goal
 
-pub loop-b-preserved : goal.loop-b-preserved
-loop-b-preserved c = search (clears, rules)
+pub returns : goal.returns
+returns c = clear-heads _ _ _ c.requires (c.fill.ensures.after (λ y e. e))
