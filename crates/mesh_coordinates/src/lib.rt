@@ -16,14 +16,7 @@ fn all_finite(case: &[u8], points: usize) -> bool
     requires { PointBytes case.now points }
     ensures { result ≡ all_of (each3 finite) (points_in case.now points) }
 {
-    let mut i = 0;
-    while i < points {
-        if !mesh_area::point_at(case, points, i).is_finite() {
-            return false;
-        }
-        i += 1;
-    }
-    true
+    (0..points).all(|i| mesh_area::point_at(case, points, i).is_finite())
 }
 
 // No coordinate is beyond 1,048,576 in size.
@@ -31,14 +24,7 @@ fn all_within(case: &[u8], points: usize) -> bool
     requires { PointBytes case.now points }
     ensures { result ≡ all_of (each3 within) (points_in case.now points) }
 {
-    let mut i = 0;
-    while i < points {
-        if !mesh_area::point_at(case, points, i).is_within() {
-            return false;
-        }
-        i += 1;
-    }
-    true
+    (0..points).all(|i| mesh_area::point_at(case, points, i).is_within())
 }
 
 // Refusal 8, 9 or 10, or 0.

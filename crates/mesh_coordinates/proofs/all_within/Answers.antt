@@ -1,22 +1,15 @@
-use mathlib.Core.Path.{refl, sym, ap, ◌∙◌}
+use Rattle.std.proofs.Common.{◌≡◌, ℕ, true, false, rules, refl}
+use native.Mathlib.Nat.{sub-zero}
+use Rattle.std.proofs.lemmas.Iterator.{cases_from_all, YieldsList-from_range}
 use Rattle.arith.specs.F64.{within}
 use Rattle.arith.specs.Vec.{each3}
-use Rattle.mesh_coordinates.proofs.Laws.{points-next, points-bad, points-end}
-use borrow.Author.Rules.{rules}
+use Rattle.mesh_area.specs.Tables.{point_at}
+use Rattle.mesh_area.specs.Layout.{points_in}
+use Rattle.mesh_coordinates.proofs.Laws.{all-points}
 use Rattle.mesh_coordinates.proofs.all_within.Goals as goal
 
-pub loop-i-init : goal.loop-i-init
-loop-i-init c = (search rules, refl)
-
-pub returns-then-not-is_within : goal.returns-then-not-is_within
-returns-then-not-is_within c =
-    let test = ap (each3 within) (sym c.point_at.ensures) ∙ sym c.is_within.ensures ∙ c.if-not-is_within.true in
-    sym (points-bad _ _ _ (each3 within) c.loop-i-test.true test) ∙ c.loop-i.invariant.1
-
-pub loop-i-preserved : goal.loop-i-preserved
-loop-i-preserved c =
-    let test = ap (each3 within) (sym c.point_at.ensures) ∙ sym c.is_within.ensures ∙ c.if-not-is_within.false in
-    (search rules, sym (points-next _ _ _ (each3 within) c.loop-i-test.true test) ∙ c.loop-i.invariant.1)
-
 pub returns : goal.returns
-returns c = sym (points-end _ _ _ (each3 within) c.loop-i-test.false) ∙ c.loop-i.invariant.1
+returns c =
+    let p = λ (i : ℕ). each3 within (point_at (points_in c.args.case.now c.args.points) i) in
+    all-points _ _ (each3 within) c.all.result
+    (cases_from_all _ _ c.all.result (λ i. p i ≡ true) (λ i. p i ≡ false) c.all.ensures.ran (YieldsList-from_range 0 c.args.points c.args.points refl (sub-zero c.args.points)) (λ i q k. search rules) (λ i q k. search rules))
