@@ -139,12 +139,8 @@ pub fn vertex(words: &[u32], s: Sizes, f: usize, k: usize) -> usize
     ensures { ((floats : List Float) → result ≡ get_or (face_at (faces_in s words.now floats) f).vertices k 0)
         × (result < 2^32) }
 {
-    if f < s.faces {
-        if k < face_word(words, s, f, VERTEX_COUNT) {
-            face_word(words, s, f, FIRST_VERTEX + k)
-        } else {
-            0
-        }
+    if f < s.faces && k < face_word(words, s, f, VERTEX_COUNT) {
+        face_word(words, s, f, FIRST_VERTEX + k)
     } else {
         0
     }
@@ -255,13 +251,9 @@ pub fn cell_face(words: &[u32], s: Sizes, i: usize, k: usize) -> usize
     ensures { ((floats : List Float) → result ≡ get_or (cell_at (cells_in s words.now floats) i).faces k 0)
         × (result < 2^32) }
 {
-    if i < s.cells {
-        if k < cell_word(words, s, i, FACE_COUNT) {
-            let first = cell_word(words, s, i, LIST_START);
-            word_in(words, words_end(s), 13 * s.slots + first + k)
-        } else {
-            0
-        }
+    if i < s.cells && k < cell_word(words, s, i, FACE_COUNT) {
+        let first = cell_word(words, s, i, LIST_START);
+        word_in(words, words_end(s), 13 * s.slots + first + k)
     } else {
         0
     }
@@ -286,13 +278,9 @@ pub fn neighbour(words: &[u32], s: Sizes, i: usize, k: usize) -> usize
     ensures { ((floats : List Float) → result ≡ get_or (cell_at (cells_in s words.now floats) i).neighbours k
         0) × (result < 2^32) }
 {
-    if i < s.cells {
-        if k < cell_word(words, s, i, NEIGHBOUR_COUNT) {
-            let first = cell_word(words, s, i, LIST_START);
-            word_in(words, words_end(s), 14 * s.slots + first + k)
-        } else {
-            0
-        }
+    if i < s.cells && k < cell_word(words, s, i, NEIGHBOUR_COUNT) {
+        let first = cell_word(words, s, i, LIST_START);
+        word_in(words, words_end(s), 14 * s.slots + first + k)
     } else {
         0
     }
