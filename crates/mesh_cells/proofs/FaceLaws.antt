@@ -1,5 +1,5 @@
 -- One face of a cell, and all of them: what the parts of `add_face` and `add_faces` leave, put together. Assumes nothing.
-use Prim.Native.Nat.{ℕ, ◌+◌, ◌-◌, ◌*◌, ◌≤◌, ◌<◌}
+use Prim.Native.Nat.{ℕ, ◌+◌, ◌*◌, ◌≤◌, ◌<◌}
 use native.Mathlib.Omega.{arith}
 use mathlib.Core.Path.{◌≡◌, refl, ap, ap₂, sym, ◌∙◌}
 use mathlib.Core.List.{List, [], ◌∷◌, ◌++◌}
@@ -218,12 +218,12 @@ module _ (d : ℕ) (ps : List Vec3) (ws : List ℕ) (cell : NewCell) (s : Sizes)
                     rw f' (sym (steps_next (faces_of (definition_at ws cell.head.at)) c.face [] there (add_face_of d ps cell.number cell.reference) _ _ (rw zm at e)) ∙ g.rest);
               }
 
-      pub going_less : (q : FaceCursor) (m : ℕ) → r ≡ FaceAdded.Next q m → cell.head.faces - q.face < cell.head.faces - c.face
-      going_less q m er = by r a er
+      pub going_face : (q : FaceCursor) (m : ℕ) → r ≡ FaceAdded.Next q m → q.face ≡ c.face + 1
+      going_face q m er = by r a er
         where
-          by : (r : FaceAdded) → AddFaceExit d ps ws cell (with_faces s n) words words' floats floats' c r → r ≡ FaceAdded.Next q m → cell.head.faces - q.face < cell.head.faces - c.face
+          by : (r : FaceAdded) → AddFaceExit d ps ws cell (with_faces s n) words words' floats floats' c r → r ≡ FaceAdded.Next q m → q.face ≡ c.face + 1
           by r (Ensures.AddFaceExit.refusing j e) er = absurd (let z : ◌≡◌ {A = ℕ} 0 1 = cc in omega arith)
-          by r (Ensures.AddFaceExit.next q' m' e f p l) er = let zq : q' ≡ q = cc in let f' : q.face ≡ c.face + 1 = rw zq at f in omega arith
+          by r (Ensures.AddFaceExit.next q' m' e f p l) er = let zq : q' ≡ q = cc in rw zq at f
 
     pub going_done : cell.head.faces ≤ c.face → AddFacesExit d ps ws cell s words₀ words floats₀ floats (CellsAdded.Faces n)
     unfolding steps

@@ -118,7 +118,7 @@ fn add_faces(
     let h = cell.head;
     let mut n = s.faces;
     let mut c = case_faces::first_face(h);
-    while c.face < h.faces {
+    for _ in 0..h.faces {
         let t = Sizes {
             slots: s.slots,
             faces: n,
@@ -267,14 +267,12 @@ fn fill_cells(
         first: 0,
         faces: 0,
     };
-    let mut i = 0;
-    while i < s.cells {
+    for i in 0..s.cells {
         let added = add_cell(case, points, dimension, ws, words, floats, s, i, p);
         match added {
             CellAdded::Refused(k) => return CellsAdded::Refused(k),
             CellAdded::Next(q) => p = q,
         }
-        i += 1;
     }
     CellsAdded::Faces(p.faces)
 }

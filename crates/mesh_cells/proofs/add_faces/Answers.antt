@@ -1,25 +1,31 @@
-use Rattle.mesh_cells.proofs.FaceLaws.{going_start, going-ready, going-refused, going_next, going_less, going_done}
+use Prim.Native.Nat.{◌≤◌, ◌<◌}
+use native.Mathlib.Omega.{arith}
+use Rattle.mesh_cells.proofs.FaceLaws.{going_start, going-ready, going-refused, going_next, going_face, going_done}
 use Rattle.mesh_cells.proofs.add_faces.Goals as goal
 
-pub loop-c-init : goal.loop-c-init
-loop-c-init c = going_start _ _ _ _ _ _ _ c.requires.0 _ c.first_face-c.ensures
+pub loop-init : goal.loop-init
+loop-init c = (c.first_face-c.ensures.0, going_start _ _ _ _ _ _ _ c.requires.0 _ c.first_face-c.ensures)
 
 pub add_face-added-requires : goal.add_face-added-requires
 add_face-added-requires c =
     let p = c.requires in
-    (going-ready _ _ _ _ _ _ _ p.0 _ _ _ _ c.loop-c.invariant c.loop-c-test.true, p.1, p.2)
+    let more : c.loop.c.face < c.args.cell.head.faces = omega arith in
+    (going-ready _ _ _ _ _ _ _ p.0 _ _ _ _ c.loop.invariant.1 more, p.1, p.2)
 
 pub returns-in-Refused : goal.returns-in-Refused
 returns-in-Refused c =
-    going-refused _ _ _ _ _ _ _ c.requires.0 _ _ _ _ c.loop-c.invariant c.loop-c-test.true _ _ _ c.add_face-added.ensures _ c.in-Refused.is
+    let more : c.loop.c.face < c.args.cell.head.faces = omega arith in
+    going-refused _ _ _ _ _ _ _ c.requires.0 _ _ _ _ c.loop.invariant.1 more _ _ _ c.add_face-added.ensures _ c.in-Refused.is
 
-pub loop-c-smaller : goal.loop-c-smaller
-loop-c-smaller c =
-    going_less _ _ _ _ _ _ _ c.requires.0 _ _ _ _ c.loop-c.invariant c.loop-c-test.true _ _ _ c.add_face-added.ensures _ _ c.in-Next.is
-
-pub loop-c-preserved : goal.loop-c-preserved
-loop-c-preserved c =
-    going_next _ _ _ _ _ _ _ c.requires.0 _ _ _ _ c.loop-c.invariant c.loop-c-test.true _ _ _ c.add_face-added.ensures _ _ c.in-Next.is
+pub loop-preserved : goal.loop-preserved
+loop-preserved c =
+    let more : c.loop.c.face < c.args.cell.head.faces = omega arith in
+    let turn = c.loop.invariant in (
+      omega (arith, turn.0, going_face _ _ _ _ _ _ _ c.requires.0 _ _ _ _ turn.1 more _ _ _ c.add_face-added.ensures _ _ c.in-Next.is),
+      going_next _ _ _ _ _ _ _ c.requires.0 _ _ _ _ turn.1 more _ _ _ c.add_face-added.ensures _ _ c.in-Next.is,
+    )
 
 pub returns : goal.returns
-returns c = going_done _ _ _ _ _ _ _ c.requires.0 _ _ _ _ c.loop-c.invariant c.loop-c-test.false
+returns c =
+    let all : c.args.cell.head.faces ≤ c.loop.c.face = omega arith in
+    going_done _ _ _ _ _ _ _ c.requires.0 _ _ _ _ c.loop.invariant.1 all

@@ -1,12 +1,10 @@
-use Prim.Native.Nat.{◌-◌}
+use mathlib.Core.Path.{◌≡◌}
 use Rattle.case_file.specs.Trailer.{words_in}
 use Rattle.mesh_area.specs.Layout.{points_in}
 use Rattle.mesh_cells.proofs.FaceLaws.{Going}
 use Rattle.mesh_cells.proofs.add_faces.Given as goal
 
-abbrev pub invariant-loop-c : goal.invariant-loop-c
-invariant-loop-c l =
-    Going l.dimension (points_in l.case l.points) (words_in l.ws) l.cell l.s l.initial.words l.words l.initial.floats l.floats l.n l.c
-
-abbrev pub decreases-loop-c : goal.decreases-loop-c
-decreases-loop-c l = l.cell.head.faces - l.c.face
+abbrev pub invariant-loop : goal.invariant-loop
+invariant-loop l =
+    (l.c.face ≡ l.counter)
+    × Going l.dimension (points_in l.case l.points) (words_in l.ws) l.cell l.s l.initial.words l.words l.initial.floats l.floats l.n l.c

@@ -1,36 +1,28 @@
 use mathlib.Core.Path.{refl, ◌∙◌}
-use native.Mathlib.Omega.{arith}
 use Rattle.mesh_cells.proofs.CellLaws.{filled-start, addable-kept, added-refused, added_next, drafts-refused, drafts-done}
 use Rattle.mesh_cells.proofs.fill_cells.Goals as goal
 
 pub loop-i-init : goal.loop-i-init
-loop-i-init c = (omega arith, refl, refl, filled-start _ _ _ _ _ _ _ _ c.requires.0 c.requires.1)
+loop-i-init c = (refl, refl, filled-start _ _ _ _ _ _ _ _ c.requires.0 c.requires.1)
 
 pub add_cell-added-requires : goal.add_cell-added-requires
 add_cell-added-requires c =
     let v = c.loop-i.invariant in
-    record { addable = addable-kept _ _ _ _ _ _ _ _ c.requires.0 v.1 v.2; cell = c.loop-i-test.true; filled = v.3 }
+    record { addable = addable-kept _ _ _ _ _ _ _ _ c.requires.0 v.0 v.1; cell = c.loop-i-test.true; filled = v.2 }
 
 pub returns-in-Refused : goal.returns-in-Refused
 returns-in-Refused c =
     λ defs e. drafts-refused _ _ _ _ _ _ _ _ c.requires.0 defs e _ _ _ (added-refused _ _ _ _ _ _ _ _ _ c.add_cell-added.ensures c.in-Refused.is)
 
-pub overflow_add-i : goal.overflow_add-i
-overflow_add-i c = omega (arith, c.loop-i-test.true, c.requires.0.lent-words.few-cells)
-
-pub loop-i-smaller : goal.loop-i-smaller
-loop-i-smaller c = omega (arith, c.loop-i-test.true)
-
 pub loop-i-preserved : goal.loop-i-preserved
 loop-i-preserved c =
     let v = c.loop-i.invariant in (
-      omega (arith, c.loop-i-test.true),
-      c.add_cell-added.auto.words ∙ v.1,
-      c.add_cell-added.auto.floats ∙ v.2,
+      c.add_cell-added.auto.words ∙ v.0,
+      c.add_cell-added.auto.floats ∙ v.1,
       added_next _ _ _ _ _ _ _ _ _ c.add_cell-added.ensures c.in-Next.is,
     )
 
 pub returns : goal.returns
 returns c =
     let v = c.loop-i.invariant in
-    λ defs e. drafts-done _ _ _ _ _ _ _ _ c.requires.0 defs e _ _ _ _ v.1 v.3 v.0 c.loop-i-test.false
+    λ defs e. drafts-done _ _ _ _ _ _ _ _ c.requires.0 defs e _ _ _ _ v.0 v.2 c.loop-i.auto.i-end c.loop-i-test.false

@@ -1,4 +1,3 @@
-use Prim.Native.Nat.{◌-◌, ◌≤◌}
 use mathlib.Core.Path.{◌≡◌}
 use lib.ListN.{length}
 use Rattle.case_file.specs.Trailer.{words_in}
@@ -8,8 +7,5 @@ use Rattle.mesh_cells.proofs.fill_cells.Given as goal
 
 abbrev pub invariant-loop-i : goal.invariant-loop-i
 invariant-loop-i l =
-    (l.i ≤ l.s.cells) × (length l.words ≡ length l.initial.words) × (length l.floats ≡ length l.initial.floats)
+    (length l.words ≡ length l.initial.words) × (length l.floats ≡ length l.initial.floats)
     × CellsSoFar l.dimension (points_in l.case l.points) (words_in l.ws) (defined_in l.s (words_in l.ws)) l.s l.words l.floats l.i l.p
-
-abbrev pub decreases-loop-i : goal.decreases-loop-i
-decreases-loop-i l = l.s.cells - l.i
