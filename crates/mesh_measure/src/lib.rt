@@ -42,7 +42,7 @@ enum CellWeight {
 fn number(face: &[u32], k: usize) -> usize
     ensures { result ≡ get_or face.now k 0 }
 {
-    if k < face.len() { face[k] as usize } else { 0 }
+    face.get(k).map_or(0, |x| *x as usize)
 }
 
 // One edge of a cell in 2D.
@@ -79,7 +79,7 @@ fn add_edges(case: &[u8], points: usize, words: &[u8], h: Head, reference: Vec3)
 {
     let mut sum = mesh_volumes::no_weight();
     let mut c = case_faces::first_face(h);
-    while c.face < h.faces {
+    for _ in 0..h.faces {
         let t = add_edge(case, points, words, h, c, reference, sum);
         sum = t.weight;
         c = t.next;
@@ -142,7 +142,7 @@ fn add_faces_3d(case: &[u8], points: usize, words: &[u8], h: Head, reference: Ve
 {
     let mut sum = mesh_volumes::no_weight();
     let mut c = case_faces::first_face(h);
-    while c.face < h.faces {
+    for _ in 0..h.faces {
         let FaceWeight::Added(t) = add_face_3d(case, points, words, h, c, reference, sum) else {
             return CellWeight::Degenerate;
         };

@@ -1,3 +1,4 @@
+use Prim.Native.Nat.{◌≤◌, ◌<◌}
 use native.Mathlib.Omega.{arith}
 use mathlib.Core.Path.{sym, ◌∙◌}
 use Rattle.case_faces.proofs.FaceLaws.{at_first}
@@ -7,35 +8,35 @@ use Rattle.mesh_measure.proofs.Laws.{steps_on, steps-stop, faces_at-end, fan-deg
 use borrow.Author.Rules.{rules}
 use Rattle.mesh_measure.proofs.add_faces_3d.Goals as goal
 
-pub loop-c-init : goal.loop-c-init
-loop-c-init c =
+pub loop-init : goal.loop-init
+loop-init c =
     let first = c.first_face-c.ensures in
-    (at_first _ _ _ c.requires.head_at first.0 first.1, rw first.0 (search rules), rw (first.0, c.no_weight-sum.ensures))
+    (at_first _ _ _ c.requires.head_at first.0 first.1, first.0, rw (first.0, c.no_weight-sum.ensures))
 
 pub add_face_3d-requires : goal.add_face_3d-requires
-add_face_3d-requires c = record { point_bytes = search rules; face_entry = record { at-face = c.loop-c.invariant.0; more = c.loop-c-test.true } }
+add_face_3d-requires c =
+    let more : c.loop.c.face < c.args.h.faces = omega arith in
+    record { point_bytes = search rules; face_entry = record { at-face = c.loop.invariant.0; more = more } }
 
 pub returns-in_default : goal.returns-in_default
 unfolding weight_of
 returns-in_default c =
-    let i = c.loop-c.invariant in
+    let i = c.loop.invariant in
+    let more : c.loop.c.face < c.args.h.faces = omega arith in
     let e = fan-degenerate c.add_face_3d.ensures c.in_default.is in
-    sym (steps-stop _ _ c.requires.head_at _ c.loop-c-test.true _ _ 15 e) ∙ i.2
+    sym (steps-stop _ _ c.requires.head_at _ more _ _ 15 e) ∙ i.2
 
-pub loop-c-smaller : goal.loop-c-smaller
-loop-c-smaller c =
-    let n = fan-next _ c.add_face_3d.ensures c.in-Added.is in
-    rw n.face (omega arith)
-
-pub loop-c-preserved : goal.loop-c-preserved
-loop-c-preserved c =
-    let i = c.loop-c.invariant in
+pub loop-preserved : goal.loop-preserved
+loop-preserved c =
+    let i = c.loop.invariant in
+    let more : c.loop.c.face < c.args.h.faces = omega arith in
     let e = fan-sum _ c.add_face_3d.ensures c.in-Added.is in
     let n = fan-next _ c.add_face_3d.ensures c.in-Added.is in
-    (n.at-face, rw n.face (omega arith), rw n.face (sym (steps_on _ _ c.requires.head_at _ c.loop-c-test.true _ _ _ e) ∙ i.2))
+    (n.at-face, rw n.face (omega arith), rw n.face (sym (steps_on _ _ c.requires.head_at _ more _ _ _ e) ∙ i.2))
 
 pub returns : goal.returns
 unfolding weight_of steps
 returns c =
-    let i = c.loop-c.invariant in
-    rw (faces_at-end _ _ _ c.requires.head_at c.loop-c-test.false) at i.2
+    let i = c.loop.invariant in
+    let all : c.args.h.faces ≤ c.loop.c.face = omega arith in
+    rw (faces_at-end _ _ _ c.requires.head_at all) at i.2
