@@ -115,14 +115,12 @@ pub fn finish_cells(
         words.now floats.old floats.new result }
 {
     let mut c = Cursor { at: 0 };
-    let mut i = 0;
-    while i < s.cells {
+    for i in 0..s.cells {
         let CellFinished::Next(next) = finish_cell(case, points, dimension, ws, floats, s, i, c)
         else {
             return Finished::ZeroVolume;
         };
         c = next;
-        i += 1;
     }
     Finished::Done
 }

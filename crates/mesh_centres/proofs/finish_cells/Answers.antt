@@ -10,7 +10,7 @@ finish_cell-requires c = search (all-cells, rules)
 
 pub returns-in_default : goal.returns-in_default
 returns-in_default c =
-    go-stop _ _ _ _ _ _ _ _ c.requires _ _ _ c.loop-i.invariant.2 c.loop-i-test.true c.loop-i.invariant.1 _ c.finish_cell.ensures c.in_default.is
+    go-stop _ _ _ _ _ _ _ _ c.requires _ _ _ c.loop-i.invariant.1 c.loop-i-test.true c.loop-i.invariant.0 _ c.finish_cell.ensures c.in_default.is
 
 pub loop-i-preserved : goal.loop-i-preserved
 loop-i-preserved c = search (all-cells, rules)

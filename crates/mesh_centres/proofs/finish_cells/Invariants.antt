@@ -1,4 +1,3 @@
-use Prim.Native.Nat.{◌≤◌, ◌-◌}
 use mathlib.Core.Path.{◌≡◌}
 use lib.ListN.{length}
 use Rattle.case_file.specs.Trailer.{words_in}
@@ -8,7 +7,4 @@ use Rattle.mesh_centres.proofs.finish_cells.Given as goal
 
 abbrev pub invariant-loop-i : goal.invariant-loop-i
 invariant-loop-i l =
-    (l.i ≤ l.s.cells) × (length l.floats ≡ length l.initial.floats) × Going l.dimension (points_in l.case l.points) (words_in l.ws) l.s l.words l.initial.floats l.floats l.i l.c.at
-
-abbrev pub decreases-loop-i : goal.decreases-loop-i
-decreases-loop-i l = l.s.cells - l.i
+    (length l.floats ≡ length l.initial.floats) × Going l.dimension (points_in l.case l.points) (words_in l.ws) l.s l.words l.initial.floats l.floats l.i l.c.at
