@@ -1,13 +1,17 @@
 -- Faces of the table: a face between its cells, and none that is misplaced. Assumes nothing.
-use Prim.Native.Nat.{ℕ, ◌+◌, ◌≤◌, ◌<◌}
-use mathlib.Core.Path.{◌≡◌}
+use Prim.Native.Nat.{ℕ, zero, suc, ◌+◌, ◌<◌}
+use native.Mathlib.Omega.{arith}
+use Rattle.std.specs.Prelude.{◌||◌}
+use Rattle.std.specs.List.{list_any, range_with_len}
+use Rattle.std.proofs.Common.{zero-add}
+use mathlib.Core.Path.{◌≡◌, refl, sym, ◌∙◌}
 use mathlib.Core.Bool.{Bool, true, false}
 use mathlib.Core.List.{List}
-use lib.ListN.{drop, drop_of_length-le}
+use lib.ListN.{length, get_or, drop, drop_of_length-le}
 use lib.Ieee.{Float}
 use Rattle.arith.specs.Lists.{any_of}
 use Rattle.arith.specs.declared.Vec3.{Vec3}
-use Rattle.arith.proofs.ListLaws.{any_here, any_next}
+use Rattle.arith.proofs.ListLaws.{left_at}
 use Rattle.mesh_area.specs.Tables.{Face, face_at as table_at, no_face}
 use Rattle.mesh_area.specs.Layout.{faces_in}
 use Rattle.mesh_area.specs.declared.Sizes.{Sizes}
@@ -18,18 +22,23 @@ use Rattle.mesh_orientation.specs.Orientation.{behind, misplaced, neighbour_behi
 
 -- ---- faces of the table: none is misplaced
 
-module _ (s : Sizes) (words : List ℕ) (floats : List Float) (f : ℕ) (p : Face → Bool) where
-  pub faces-next : f < s.faces → p (table_at (faces_in s words floats) f) ≡ false → any_of p (drop f (faces_in s words floats)) ≡ any_of p (drop (f + 1) (faces_in s words floats))
-  unfolding table_at
-  faces-next h e = any_next (faces_in s words floats) f no_face (rw (length-faces_in s words floats) h) p e
+-- a test of the elements by their numbers, from i on, is the test of what is left at i
+any_numbered : {A : Type 0} (p : A → Bool) (l : List A) (d : A) (i n : ℕ) → i + n ≡ length l
+    → list_any (λ k. p (get_or l k d)) (range_with_len i n) ≡ any_of p (drop i l)
+unfolding any_of
+any_numbered p l d i zero e = rw (drop_of_length-le l {i = i} (omega arith), any_of)
+any_numbered p l d i (suc n) e =
+    let more : i < length l = omega arith in
+    rw (left_at l i d more, any_of) (step (p (get_or l i d)) (any_numbered p l d (i + 1) n (omega arith)))
+  where
+    step : (b : Bool) {x y : Bool} → x ≡ y → (b || x) ≡ elim b [ true ↦ true | false ↦ y ]
+    step true e = refl
+    step false e = e
 
-  pub faces-bad : f < s.faces → p (table_at (faces_in s words floats) f) ≡ true → any_of p (drop f (faces_in s words floats)) ≡ true
-  unfolding table_at
-  faces-bad h e = any_here (faces_in s words floats) f no_face (rw (length-faces_in s words floats) h) p e
-
-  pub faces-end : s.faces ≤ f → any_of p (drop f (faces_in s words floats)) ≡ false
-  unfolding any_of
-  faces-end h = rw (drop_of_length-le (faces_in s words floats) {i = f} (rw (length-faces_in s words floats) h))
+pub faces_by_number : (s : Sizes) (words : List ℕ) (floats : List Float) (p : Face → Bool)
+    → list_any (λ f. p (table_at (faces_in s words floats) f)) (range_with_len 0 s.faces) ≡ any_of p (faces_in s words floats)
+unfolding table_at
+faces_by_number s words floats p = any_numbered p (faces_in s words floats) no_face 0 s.faces (zero-add s.faces ∙ sym (length-faces_in s words floats))
 
 -- ---- a face between its cells
 

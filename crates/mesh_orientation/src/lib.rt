@@ -27,13 +27,11 @@ fn is_misplaced(words: &[u32], floats: &[f64], s: Sizes, f: usize) -> bool
     let centre = mesh_area::face_centre(floats, s, f);
     let normal = mesh_area::face_normal(floats, s, f);
     let owner = mesh_area::owner_of(words, s, f);
-    if behind(centre, mesh_area::centre_of(floats, s, owner), normal) {
-        return true;
-    }
-    match mesh_area::neighbour_of(words, s, f) {
-        Found::Nothing => false,
-        Found::At(n) => behind(mesh_area::centre_of(floats, s, n), centre, normal),
-    }
+    behind(centre, mesh_area::centre_of(floats, s, owner), normal)
+        || match mesh_area::neighbour_of(words, s, f) {
+            Found::Nothing => false,
+            Found::At(n) => behind(mesh_area::centre_of(floats, s, n), centre, normal),
+        }
 }
 
 // Some face does not lie between the centres of its cells.
@@ -43,12 +41,5 @@ pub fn any_misplaced(words: &[u32], floats: &[f64], s: Sizes) -> bool
     ensures { result ≡ any_of (Orientation.misplaced (cells_in s words.now floats.now))
         (faces_in s words.now floats.now) }
 {
-    let mut f = 0;
-    while f < s.faces {
-        if is_misplaced(words, floats, s, f) {
-            return true;
-        }
-        f += 1;
-    }
-    false
+    (0..s.faces).any(|f| is_misplaced(words, floats, s, f))
 }

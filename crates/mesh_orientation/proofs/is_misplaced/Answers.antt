@@ -15,7 +15,7 @@ returns-then-behind c =
     let centre = c.face_centre-centre.ensures words in
     let normal = c.face_normal-normal.ensures words in
     let owner = c.centre_of.ensures words ∙ ap (λ (o : ℕ). (cell_at (cells_in a.s words floats) o).centre) (c.owner_of-owner.ensures.0 floats) in
-    owner-behind (cells_in a.s words floats) _ _ _ _ centre normal owner (sym c.behind.ensures ∙ c.if-behind.true)
+    c.if-behind.true ∙ owner-behind (cells_in a.s words floats) _ _ _ _ centre normal owner (sym c.behind.ensures ∙ c.if-behind.true)
 
 pub returns-in-Nothing : goal.returns-in-Nothing
 returns-in-Nothing c =
