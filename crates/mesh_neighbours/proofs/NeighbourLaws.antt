@@ -1,7 +1,7 @@
 -- The neighbour lists, from one face to all cells. Assumes nothing.
 use mathlib.Core.Path.{◌≡◌, refl, sym, ap, ◌∙◌}
 use mathlib.Core.Bool.{Bool, true, false, cond}
-use mathlib.Core.List.{List, []}
+use mathlib.Core.List.{List, [], ◌∷◌}
 use mathlib.Core.Logic.{◌⊎◌, inl, inr, ◌≢◌, ⊎_elim}
 use Prim.Native.Nat.{ℕ, zero, suc, ◌+◌, ◌-◌, ◌*◌, ◌<◌, ◌≤◌}
 use native.Mathlib.Nat.{le_of_suc-le-suc, eq-or-lt_of_le, not-suc-le-zero}
@@ -12,13 +12,16 @@ use mir.Val.{Fits}
 use borrow.Author.Tests.{eq-eqb, ne_eqb}
 use lib.Dec.{eqb}
 use lib.Ieee.{Float}
-use lib.ListN.{length, get_or, set, drop}
-use lib.Seq.{get_or-set_same, get_or-set_other, get_or-take}
+use lib.ListN.{length, get_or, set, take, drop, length-drop}
+use lib.Seq.{get_or-set_same, get_or-set_other, get_or-take, get_or-drop}
+use Rattle.std.specs.Prelude.{◌||◌}
+use Rattle.std.specs.List.{list_any}
+use Rattle.std.proofs.lemmas.List.{same_lists, get_or_default, length-take}
 use Rattle.arith.specs.Lists.{any_of, fold, add_new}
 use Rattle.arith.specs.Records.{tab}
 use Rattle.arith.specs.declared.Found.{Found}
 use Rattle.arith.specs.declared.Found.TheVariants.{At, Nothing}
-use Rattle.arith.proofs.ListLaws.{any_here, any_next, foldl-next}
+use Rattle.arith.proofs.ListLaws.{foldl-next}
 use Rattle.arith.proofs.RecordLaws.{tab-same, tab-next, drop-end, lt-or-ge}
 use Rattle.mesh_area.specs.declared.Sizes.{Sizes}
 use Rattle.mesh_area.specs.Tables.{Face, Cell, face_at, cell_at}
@@ -29,30 +32,31 @@ use Rattle.mesh_neighbours.specs.Ensures.{CellLists, OutsideList, FillNeighbours
 
 -- ---- is it listed
 
-abbrev pub LeftListed : List ℕ → ℕ → ℕ → ℕ → ℕ → Type 0
-LeftListed w at n d k = any_of (eqb d) (drop k (list_at w at n)) ≡ any_of (eqb d) (list_at w at n)
+any-same : (p : ℕ → Bool) (l : List ℕ) → list_any p l ≡ any_of p l
+unfolding any_of
+any-same p [] = refl
+any-same p (x ∷ l) = step (p x) (any-same p l)
+  where
+    step : (b : Bool) {x y : Bool} → x ≡ y → (b || x) ≡ elim b [ true ↦ true | false ↦ y ]
+    step true e = refl
+    step false e = e
 
-module _ (w : List ℕ) (at n d k : ℕ) (left : LeftListed w at n d k) where
-  here : k < n → get_or (list_at w at n) k 0 ≡ get_or w (at + k) 0
-  here h = list_at-in w at n k h
+-- the n words from a place on are the list there
+words-listed : (w : List ℕ) (at n : ℕ) → at + n ≤ length w → take (at + n - at) (drop at w) ≡ list_at w at n
+words-listed w at n room =
+    let e : at + n - at ≡ n = omega arith in
+    let there : length (take n (drop at w)) ≡ n = simp (length-take, length-drop) (omega arith) in
+    rw e
+    (same_lists (take n (drop at w)) (list_at w at n) (there ∙ sym (length-list_at w at n))
+    (λ k d h.
+    let b : k < n = rw there at h in
+    get_or_default (take n (drop at w)) k d 0 h
+    ∙ get_or-take n (drop at w) k 0 b
+    ∙ get_or-drop at w k 0
+    ∙ sym (get_or_default (list_at w at n) k d 0 (rw (length-list_at w at n) b) ∙ list_at-in w at n k b)))
 
-  low : k < n → k < length (list_at w at n)
-  low h = rw (length-list_at w at n) h
-
-  pub listed_here : (x : ℕ) → k < n → x ≡ get_or w (at + k) 0 → d ≡ x → true ≡ any_of (eqb d) (list_at w at n)
-  listed_here x h ex e = sym (sym left ∙ any_here (list_at w at n) k 0 (low h) (eqb d) (eq-eqb _ _ (e ∙ ex ∙ sym (here h))))
-
-  pub listed_next : (x : ℕ) → k < n → x ≡ get_or w (at + k) 0 → (d ≡ x → ⊥) → LeftListed w at n d (k + 1)
-  listed_next x h ex ne = sym (any_next (list_at w at n) k 0 (low h) (eqb d) (ne_eqb _ _ (λ e. ne (e ∙ here h ∙ sym ex)))) ∙ left
-
-  pub listed-done : n ≤ k → false ≡ any_of (eqb d) (list_at w at n)
-  unfolding any_of
-  listed-done h = rw (drop-end (list_at w at n) k (rw (length-list_at w at n) h)) at left
-
-pub listed_start : (w : List ℕ) (at n d : ℕ) → LeftListed w at n d 0
-listed_start w at n d = refl
-
-pub ruleset listing = (listed_start, listed_here, listed_next, listed-done)
+pub any_listed : (w : List ℕ) (at n : ℕ) (p : ℕ → Bool) → at + n ≤ length w → list_any p (take (at + n - at) (drop at w)) ≡ any_of p (list_at w at n)
+any_listed w at n p room = any-same p _ ∙ ap (any_of p) (words-listed w at n room)
 
 -- ---- one more
 

@@ -9,7 +9,7 @@ ghost use Rattle.mesh_neighbours.specs.Neighbours.{first_in};
 ghost use Rattle.mesh_neighbours.specs.Ensures.{CellLists, FillNeighboursExit, BeyondExit, AddNewExit, AddBeyondExit, ListAtExit, FillCellExit};
 
 use arith::Found;
-use arith::number::{narrow, wide};
+use arith::number::narrow;
 use mesh_area::Sizes;
 
 // The cell on the other side of face f, seen from one of its cells.
@@ -32,14 +32,7 @@ fn listed(words: &[u32], at: usize, n: usize, d: usize) -> bool
     requires { (at + n ≤ length words.now) × (n < 2^32) }
     ensures { result ≡ any_of (eqb d) (list_at words.now at n) }
 {
-    let mut k = 0;
-    while k < n {
-        if d == wide(words[at + k]) {
-            return true;
-        }
-        k += 1;
-    }
-    false
+    words[at..at + n].iter().any(|x| d == *x as usize)
 }
 
 // Adds d to the list of n words at a place, unless it is there; how many words it has then.
@@ -73,11 +66,9 @@ fn list_at(words: &mut [u32], s: Sizes, i: usize, at: usize) -> usize
 {
     let end = mesh_area::face_count(words, s, i);
     let mut n = 0;
-    let mut k = 0;
-    while k < end {
+    for k in 0..end {
         let f = mesh_area::cell_face(words, s, i, k);
         n = add_beyond(words, s, i, f, at, n);
-        k += 1;
     }
     n
 }
@@ -88,7 +79,7 @@ fn fill_cell(words: &mut [u32], s: Sizes, i: usize)
     ensures { FillCellExit s words.old words.new i }
 {
     let at = 16 * s.slots + 8 * i;
-    let first = wide(words[at + 1]);
+    let first = words[at + 1] as usize;
     let n = list_at(words, s, i, 14 * s.slots + first);
     words[at + 3] = narrow(n);
 }
@@ -99,9 +90,7 @@ pub fn fill_neighbours(words: &mut [u32], s: Sizes)
     requires cell_lists { CellLists s words.old }
     ensures { FillNeighboursExit s words.old words.new }
 {
-    let mut i = 0;
-    while i < s.cells {
+    for i in 0..s.cells {
         fill_cell(words, s, i);
-        i += 1;
     }
 }
