@@ -6,7 +6,7 @@ ghost use Rattle.arith.specs.Limits.{2^32};
 ghost use Rattle.mesh_area.specs.Layout.{words_end, LentWords};
 ghost use Rattle.mesh_connection.specs.Ensures.{visited_in, queue_in, ClearExit, MarkExit, MeetExit, SearchState, EnsureConnectedExit};
 
-use arith::number::{narrow, wide};
+use arith::number::narrow;
 use mesh_area::Sizes;
 
 fn visited(words: &[u32], base: usize, i: usize) -> bool
@@ -20,7 +20,7 @@ fn queue_at(words: &[u32], base: usize, k: usize) -> usize
     requires { base + 2 * k + 1 < length words.now }
     ensures { (result ≡ queue_in words.now base k) × (result < 2^32) }
 {
-    wide(words[base + 2 * k + 1])
+    words[base + 2 * k + 1] as usize
 }
 
 // Cell d is visited, and goes to the queue's end.
@@ -39,10 +39,7 @@ fn meet(words: &mut [u32], base: usize, n: usize, d: usize, tail: usize) -> usiz
     requires tail_lt_n { d < n → visited_in words.old base d ≡ false → tail < n }
     ensures { MeetExit words.old words.new base n d tail result }
 {
-    if d >= n {
-        return tail;
-    }
-    if visited(words, base, d) {
+    if d >= n || visited(words, base, d) {
         return tail;
     }
     mark(words, base, d, tail);
@@ -57,11 +54,9 @@ fn spread(words: &mut [u32], s: Sizes, base: usize, head: usize, tail: usize) ->
     let c = queue_at(words, base, head);
     let end = mesh_area::neighbour_count(words, s, c);
     let mut last = tail;
-    let mut m = 0;
-    while m < end {
+    for m in 0..end {
         let d = mesh_area::neighbour(words, s, c, m);
         last = meet(words, base, s.cells, d, last);
-        m += 1;
     }
     last
 }
@@ -71,10 +66,8 @@ fn clear(words: &mut [u32], base: usize, n: usize)
     requires { base + 2 * n ≤ length words.old }
     ensures { ClearExit words.old words.new base n }
 {
-    let mut i = 0;
-    while i < n {
+    for i in 0..n {
         words[base + 2 * i] = 0;
-        i += 1;
     }
 }
 
@@ -94,6 +87,7 @@ fn reach(words: &mut [u32], s: Sizes, base: usize) -> usize
 {
     let mut tail = 1;
     let mut head = 0;
+    // No `for`: the queue grows while it is walked.
     while head < tail {
         tail = spread(words, s, base, head, tail);
         head += 1;
