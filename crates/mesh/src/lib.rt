@@ -36,10 +36,7 @@ pub fn is_short(n: Counts, faces: usize, words: usize, floats: usize) -> bool
     ensures { (defs : List Definition) → faces ≡ faces_counted defs → result ≡ area_short
         (record { counts = n; definitions = defs }) words floats }
 {
-    if words < 16 * faces + 96 * n.cells {
-        return true;
-    }
-    floats < 12 * faces + 64 * n.cells
+    words < 16 * faces + 96 * n.cells || floats < 12 * faces + 64 * n.cells
 }
 
 // 16, then the neighbours of each cell, then 17.
