@@ -1,5 +1,5 @@
 -- The words of a request, one turn over its unused words, and what the refusals leave. Assumes nothing.
-use Prim.Native.Nat.{ℕ, ◌+◌, ◌*◌, ◌/◌, ◌≤◌, ◌<◌}
+use Prim.Native.Nat.{ℕ, zero, suc, ◌+◌, ◌-◌, ◌*◌, ◌/◌, ◌<◌}
 use native.Mathlib.Nat.{zero-add}
 use native.Mathlib.Omega.{arith}
 use mathlib.Core.Path.{◌≡◌, refl, ap, sym, ◌∙◌}
@@ -7,10 +7,12 @@ use mathlib.Core.Bool.{Bool, true, false, cond}
 use mathlib.Core.List.{List, []}
 use lib.Dec.{ltb, eqb}
 use lib.ListN.{length, get_or, drop}
-use borrow.Author.Tests.{ltb-false, lt-ltb, le-ltb}
+use borrow.Author.Tests.{ltb-false}
 use Rattle.arith.specs.Bytes.{le64}
 use Rattle.arith.specs.Lists.{any_of}
-use Rattle.arith.proofs.ListLaws.{any_here, any_next}
+use Rattle.arith.proofs.ListLaws.{left_at}
+use Rattle.std.specs.Prelude.{◌||◌}
+use Rattle.std.specs.List.{list_any, range_with_len}
 use Rattle.arith.proofs.RecordLaws.{drop-end}
 use Rattle.case_file.proofs.ReadLaws.{length-read_all, get_or-read_all}
 use Rattle.lines_locate.specs.declared.Search.{Search}
@@ -24,6 +26,19 @@ use Rattle.job_requests.specs.Codes.{code_of}
 use Rattle.job_requests.specs.Requests.{words_at, requests_in, number, refuse_if, ill_formed, wrong_dimension, settings, streamline, rake_of, rake, over_field, plain_code, is_planar, plane_of, statistics, over_plane, planar, by_code, request_of}
 use Rattle.job_requests.specs.declared.Request.TheVariants.{Refused}
 use Rattle.job_requests.specs.Bounds.{Allowed}
+
+-- a test of the elements by their numbers, from i on, is the test of what is left at i
+any_numbered : {A : Type 0} (p : A → Bool) (l : List A) (d : A) (i n : ℕ) → n ≡ length l - i
+    → list_any (λ k. p (get_or l k d)) (range_with_len i n) ≡ any_of p (drop i l)
+unfolding any_of
+any_numbered p l d i zero e = rw (drop-end l i (omega arith), any_of)
+any_numbered p l d i (suc n) e =
+    let more : i < length l = omega arith in
+    rw (left_at l i d more, any_of) (step (p (get_or l i d)) (any_numbered p l d (i + 1) n (omega arith)))
+  where
+    step : (b : Bool) {x y : Bool} → x ≡ y → (b || x) ≡ elim b [ true ↦ true | false ↦ y ]
+    step true e = refl
+    step false e = e
 
 -- ---- the requests of the bytes, and the words of one
 
@@ -46,21 +61,9 @@ module _ (bytes : List ℕ) (at : ℕ) where
 
   -- ---- a word from some place on is not zero
 
-  module _ (i n : ℕ) {w : Bool} (e : n ≡ number (words_at bytes at) i) (h : i < 16) (left : any_of (ltb 0) (drop i (words_at bytes at)) ≡ w) where
-    more : i < length (words_at bytes at)
-    more = omega (arith, length-words)
-
-    pub set_here : 0 < n → true ≡ w
-    unfolding number
-    set_here p = sym (any_here (words_at bytes at) i 0 more (ltb 0) (rw (sym e) (lt-ltb 0 n p))) ∙ left
-
-    pub set-later : n ≤ 0 → any_of (ltb 0) (drop (i + 1) (words_at bytes at)) ≡ w
-    unfolding number
-    set-later p = sym (any_next (words_at bytes at) i 0 more (ltb 0) (rw (sym e) (le-ltb 0 n p))) ∙ left
-
-  pub none-set : (i : ℕ) {w : Bool} → 16 ≤ i → any_of (ltb 0) (drop i (words_at bytes at)) ≡ w → false ≡ w
-  unfolding any_of
-  none-set i h left = rw (drop-end (words_at bytes at) i (omega (arith, length-words))) at left
+  pub set_by_number : (k : ℕ) → list_any (λ i. ltb 0 (number (words_at bytes at) i)) (range_with_len k (16 - k)) ≡ any_of (ltb 0) (drop k (words_at bytes at))
+  unfolding number
+  set_by_number k = any_numbered (ltb 0) (words_at bytes at) 0 k (16 - k) (rw length-words)
 
 -- ---- what the refusals leave
 

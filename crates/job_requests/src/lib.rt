@@ -72,14 +72,7 @@ fn any_set(bytes: &[u8], at: usize, k: usize) -> bool
     requires { at + 128 ≤ length bytes.now }
     ensures { result ≡ any_of (ltb 0) (drop k (words_at bytes.now at)) }
 {
-    let mut i = k;
-    while i < 16 {
-        if number(bytes, at, i) > 0 {
-            return true;
-        }
-        i += 1;
-    }
-    false
+    (k..16).any(|i| number(bytes, at, i) > 0)
 }
 
 // The direction of the lines is above 1, where the code asks for lines.
@@ -87,11 +80,7 @@ fn has_bad_direction(bytes: &[u8], at: usize, c: Code) -> bool
     requires { (at + 128 ≤ length bytes.now) × (c.line < 12) }
     ensures { result ≡ Requests.bad_direction (words_at bytes.now at) c }
 {
-    if c.line > 0 {
-        number(bytes, at, c.line) > 1
-    } else {
-        false
-    }
+    c.line > 0 && number(bytes, at, c.line) > 1
 }
 
 // Unknown code, unused word not zero, direction above 1.
@@ -99,13 +88,7 @@ fn is_ill_formed(bytes: &[u8], at: usize, c: Code) -> bool
     requires { (at + 128 ≤ length bytes.now) × (c.line < 12) }
     ensures { result ≡ Requests.ill_formed (words_at bytes.now at) c }
 {
-    if c.dimension == 0 {
-        return true;
-    }
-    if any_set(bytes, at, c.used) {
-        return true;
-    }
-    has_bad_direction(bytes, at, c)
+    c.dimension == 0 || any_set(bytes, at, c.used) || has_bad_direction(bytes, at, c)
 }
 
 // Direction of the line whose arguments stand from k on.
@@ -252,10 +235,7 @@ fn planar(bytes: &[u8], at: usize, code: u64) -> Request
 fn search_of(code: u64) -> Search
     ensures { result ≡ Requests.search_of code }
 {
-    if code <= 4 {
-        return Search::Bins;
-    }
-    if code == 13 {
+    if code <= 4 || code == 13 {
         Search::Bins
     } else {
         Search::All
@@ -273,7 +253,7 @@ fn plain_code(code: u64) -> u64
 fn is_planar(code: u64) -> bool
     ensures { result ≡ Requests.is_planar code }
 {
-    if code > 4 { code <= 8 } else { false }
+    (5..=8).contains(&code)
 }
 
 // A request that is well-formed, over a mesh of this dimension; lines' arguments stand from k on.

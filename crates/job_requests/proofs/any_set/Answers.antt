@@ -1,16 +1,18 @@
-use native.Mathlib.Omega.{arith}
-use mathlib.Core.Path.{refl}
-use Rattle.job_requests.proofs.Laws.{set_here, set-later, none-set}
+use mathlib.Core.Path.{refl, ◌∙◌}
+use Prim.Native.Nat.{◌-◌}
+use lib.Dec.{ltb}
+use borrow.Author.Rules.{rules}
+use borrow.Author.Tests.{tests}
+use Rattle.std.proofs.lemmas.Iterator.{YieldsList-from_range}
+use Rattle.std.proofs.lemmas.Iterator.Search.{any_from_yields_List}
+use Rattle.job_requests.specs.Requests.{words_at, number}
+use Rattle.job_requests.proofs.Laws.{set_by_number}
 use Rattle.job_requests.proofs.any_set.Goals as goal
 
-pub loop-i-init : goal.loop-i-init
-loop-i-init c = refl
-
-pub returns-then-number-gt0 : goal.returns-then-number-gt0
-returns-then-number-gt0 c = set_here _ _ _ _ c.number.ensures (omega arith) c.loop-i.invariant c.if-number-gt0.true
-
-pub loop-i-preserved : goal.loop-i-preserved
-loop-i-preserved c = set-later _ _ _ _ c.number.ensures (omega arith) c.loop-i.invariant c.if-number-gt0.false
-
 pub returns : goal.returns
-returns c = none-set _ _ c.loop-i.i (omega arith) c.loop-i.invariant
+returns c =
+    let a = c.args in
+    any_from_yields_List (λ i. ltb 0 (number (words_at a.bytes.now a.at) i)) _ _ c.any.result c.any.ensures.ran
+    (YieldsList-from_range a.k 16 (16 - a.k) refl refl)
+    (λ x b q h. search (rules, tests))
+    ∙ set_by_number a.bytes.now a.at a.k
