@@ -1,10 +1,9 @@
 -- The ways out of the parts of `prepare`. Assumes nothing.
-use Prim.Native.Nat.{ℕ, zero, suc, ◌*◌, ◌/◌, ◌%◌, ◌≤◌, ◌<◌}
+use Prim.Native.Nat.{ℕ, zero, suc, ◌*◌, ◌/◌, ◌≤◌, ◌<◌}
 use native.Mathlib.Omega.{arith}
 use mathlib.Core.Path.{◌≡◌, refl, ap, sym, ◌∙◌, subst}
 use mathlib.Core.Bool.{Bool, true, false}
 use mathlib.Core.List.{List}
-use lib.Dec.{ltb}
 use lib.ListN.{length}
 use lib.Ieee.{Float}
 use borrow.Author.Tests.{eq-eqb, ne_eqb, lt-ltb, le-ltb}
@@ -49,16 +48,6 @@ use Rattle.job_room.specs.declared.Prepared.{Prepared}
 use Rattle.job_room.proofs.Laws.{prepared-then}
 use Rattle.job_room.proofs.MeshLaws.{mesh-count, mesh-few, mesh-within, mesh-bounded}
 use Rattle.job_room.proofs.WithinLaws.{vertex-within, field-within}
-
--- ---- 6
-
-pub wrong-part : (requests : ℕ) → (requests % 128 ≡ 0 → ⊥) → true ≡ requests_wrong requests
-unfolding requests_wrong
-wrong-part requests h = rw (ne_eqb (requests % 128) 0 h)
-
-pub wrong-many : (requests : ℕ) → requests % 128 ≡ 0 → ltb 524288 requests ≡ requests_wrong requests
-unfolding requests_wrong
-wrong-many requests h = rw (eq-eqb (requests % 128) 0 h)
 
 -- ---- 4 to 7
 

@@ -82,10 +82,7 @@ fn build_room(
 fn are_wrong(requests: usize) -> bool
     ensures { result ≡ Room.requests_wrong requests }
 {
-    if requests % 128 != 0 {
-        return true;
-    }
-    requests > 524288
+    requests % 128 != 0 || requests > 524288
 }
 
 // Refusals 4 to 7, or 0.
