@@ -20,10 +20,7 @@ use job_room::{Place, Prepared};
 fn is_flat(place: Place) -> bool
     ensures { (file words : List ℕ) (floats : List Float) → result ≡ is_flat (room_in file words floats place) }
 {
-    match place {
-        Place::Flat(_) => true,
-        Place::Solid(_, _) => false,
-    }
+    matches!(place, Place::Flat(_))
 }
 
 fn cells_of(place: Place) -> usize
@@ -77,12 +74,9 @@ fn serve_all(
         place) (length answers.old) (requests_in requests.now)) (values_of case.now)
         marks.old marks.new answers.old answers.new 0 0 result }
 {
-    let count = requests.len() / 128;
     let mut at = 0;
-    let mut i = 0;
-    while i < count {
+    for i in 0..requests.len() / 128 {
         at = answer(case, requests, i, words, floats, place, marks, answers, at);
-        i += 1;
     }
     at
 }

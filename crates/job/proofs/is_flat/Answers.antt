@@ -6,6 +6,6 @@ pub returns-in-Flat : goal.returns-in-Flat
 unfolding room_in is_flat
 returns-in-Flat c file words floats = rw c.in-Flat.is
 
-pub returns-in-Solid : goal.returns-in-Solid
+pub returns-in_default : goal.returns-in_default
 unfolding room_in is_flat
-returns-in-Solid c file words floats = rw c.in-Solid.is
+returns-in_default c file words floats = rw c.in_default.is
