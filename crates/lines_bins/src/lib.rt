@@ -75,11 +75,8 @@ fn clear(words: &mut [u32], base: usize, n: usize, nx: usize, ny: usize)
     requires ny_bound { nx * ny ≤ 72 * n }
     ensures { ListCellExit words.old words.new base n nx ny (nx * ny) (λ x y. n) }
 {
-    let heads = nx * ny;
-    let mut b = 0;
-    while b < heads {
+    for b in 0..nx * ny {
         set_pool(words, base, n, b, 0);
-        b += 1;
     }
 }
 
@@ -102,14 +99,12 @@ fn list_row(
     let x0 = slot(words, base, i, 0);
     let x1 = slot(words, base, i, 2);
     let mut t = top;
-    let mut x = x0;
-    while x <= x1 {
+    for x in x0..=x1 {
         if 72 * n - t < 2 {
             return 0;
         }
         push(words, base, n, bin_of(nx, ny, x, y), i, t);
         t += 2;
-        x += 1;
     }
     t
 }
@@ -132,13 +127,11 @@ fn list_cell(
     let y0 = slot(words, base, i, 1);
     let y1 = slot(words, base, i, 3);
     let mut t = top;
-    let mut y = y0;
-    while y <= y1 {
+    for y in y0..=y1 {
         t = list_row(words, base, n, nx, ny, i, y, t);
         if t == 0 {
             return 0;
         }
-        y += 1;
     }
     t
 }
@@ -150,9 +143,7 @@ fn fill(words: &mut [u32], base: usize, n: usize, nx: usize, ny: usize, top: usi
     ensures { FillExit words.old words.new base n nx ny result }
 {
     let mut t = top;
-    let mut i = n;
-    while i > 0 {
-        i -= 1;
+    for i in (0..n).rev() {
         t = list_cell(words, base, n, nx, ny, i, t);
         if t == 0 {
             return false;

@@ -1,11 +1,5 @@
-use Prim.Native.Nat.{◌+◌, ◌-◌}
-use mathlib.Core.Path.{◌≡◌}
-use lib.ListN.{length}
 use Rattle.lines_bins.proofs.Laws.{Celling}
 use Rattle.lines_bins.proofs.list_cell.Given as goal
 
 abbrev pub invariant-loop-y : goal.invariant-loop-y
-invariant-loop-y l = (length l.words ≡ length l.initial.words) × Celling l.initial.words l.words l.base l.n l.nx l.ny l.i l.y0 l.y1 l.y l.t
-
-abbrev pub decreases-loop-y : goal.decreases-loop-y
-decreases-loop-y l = l.y1 + 1 - l.y
+invariant-loop-y l = Celling l.initial.words l.words l.base l.n l.nx l.ny l.i l.y0 l.y1 l.y l.t
