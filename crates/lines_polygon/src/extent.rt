@@ -24,15 +24,7 @@ pub fn limits_at(floats: &[f64], at: usize) -> Limits
 pub fn misses(l: Limits, q: Vec2) -> bool
     ensures { result ≡ Extent.misses l q }
 {
-    if l.high < q.y {
-        true
-    } else if l.right < q.x {
-        true
-    } else if q.x < l.left {
-        true
-    } else {
-        q.y < l.low
-    }
+    l.high < q.y || l.right < q.x || q.x < l.left || q.y < l.low
 }
 
 // A vertex lies within the limits, with 1e-12 to spare.
@@ -69,26 +61,15 @@ fn has_crossing(l: Limits, a: Vec2, b: Vec2) -> bool
         return true;
     }
     let u = run(a, b);
-    if float::is_finite(u) {
-        (float::max(u, 0.0) + a.x <= l.right) & (l.left <= float::min(u, 0.0) + a.x)
-    } else {
-        false
-    }
+    float::is_finite(u)
+        && (float::max(u, 0.0) + a.x <= l.right) & (l.left <= float::min(u, 0.0) + a.x)
 }
 
 // The side from a to b lies within the limits.
 fn has_side(l: Limits, a: Vec2, b: Vec2) -> bool
     ensures { result ≡ Extent.side_within l (record { from = a; to = b }) }
 {
-    if has_end(l, a) {
-        if has_end(l, b) {
-            has_crossing(l, a, b)
-        } else {
-            false
-        }
-    } else {
-        false
-    }
+    has_end(l, a) && has_end(l, b) && has_crossing(l, a, b)
 }
 
 // Every side of the polygon lies within the limits.
@@ -96,12 +77,9 @@ fn has_sides(l: Limits, floats: &[f64], at: usize, n: usize) -> bool
     requires { (at + 2 * n ≤ length floats.now) × (n ≤ 24) }
     ensures { result ≡ all_of (Extent.side_within l) (sides (pairs_from floats.now at n)) }
 {
-    let mut i = 0;
-    while i < n {
+    for i in 0..n {
         let s = side_at(floats, at, n, i);
-        if has_side(l, s.from, s.to) {
-            i += 1;
-        } else {
+        if !has_side(l, s.from, s.to) {
             return false;
         }
     }
@@ -158,12 +136,11 @@ fn spared(l: Limits) -> Limits
 fn sideless() -> Limits
     ensures { result ≡ Extent.sideless }
 {
-    let top = f64::from_bits(0x7ff0_0000_0000_0000);
     Limits {
-        low: top,
-        high: -top,
-        right: -top,
-        left: top,
+        low: f64::INFINITY,
+        high: f64::NEG_INFINITY,
+        right: f64::NEG_INFINITY,
+        left: f64::INFINITY,
     }
 }
 
@@ -171,12 +148,11 @@ fn sideless() -> Limits
 fn unlimited() -> Limits
     ensures { result ≡ Extent.unlimited }
 {
-    let top = f64::from_bits(0x7ff0_0000_0000_0000);
     Limits {
-        low: -top,
-        high: top,
-        right: top,
-        left: -top,
+        low: f64::NEG_INFINITY,
+        high: f64::INFINITY,
+        right: f64::INFINITY,
+        left: f64::NEG_INFINITY,
     }
 }
 
@@ -186,11 +162,9 @@ fn narrowest(floats: &[f64], at: usize, n: usize) -> Limits
     ensures { result ≡ Extent.narrowest (sides (pairs_from floats.now at n)) }
 {
     let mut l = sideless();
-    let mut i = 0;
-    while i < n {
+    for i in 0..n {
         let s = side_at(floats, at, n, i);
         l = widened(l, s.from, s.to);
-        i += 1;
     }
     spared(l)
 }

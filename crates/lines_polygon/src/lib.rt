@@ -24,11 +24,7 @@ pub enum Position {
 pub fn is_within(p: Position) -> bool
     ensures { result ≡ Containment.is_within p }
 {
-    match p {
-        Position::Outside => false,
-        Position::Edge => true,
-        Position::Inside => true,
-    }
+    matches!(p, Position::Edge | Position::Inside)
 }
 
 // A polygon contains no point below `low`, above `high`, to the right of `right` or to the left of `left`.
@@ -62,11 +58,7 @@ pub fn pair_at(floats: &[f64], at: usize) -> Vec2
 fn between(a: f64, b: f64, c: f64) -> bool
     ensures { result ≡ Containment.between a b c }
 {
-    if a >= float::min(b, c) - 1.0e-12 {
-        a <= float::max(b, c) + 1.0e-12
-    } else {
-        false
-    }
+    a >= float::min(b, c) - 1.0e-12 && a <= float::max(b, c) + 1.0e-12
 }
 
 // q lies on the line from a to b, within 1e-12. Two tests and no sign: the sign is a branch that cannot be foreseen.
@@ -81,15 +73,7 @@ fn on_line(q: Vec2, a: Vec2, b: Vec2) -> bool
 fn on_edge(q: Vec2, a: Vec2, b: Vec2) -> bool
     ensures { result ≡ Containment.on_edge q (record { from = a; to = b }) }
 {
-    if on_line(q, a, b) {
-        if between(q.x, a.x, b.x) {
-            between(q.y, a.y, b.y)
-        } else {
-            false
-        }
-    } else {
-        false
-    }
+    on_line(q, a, b) && between(q.x, a.x, b.x) && between(q.y, a.y, b.y)
 }
 
 // The ends of side i of the polygon of n vertices.
@@ -112,8 +96,7 @@ pub fn point_in_polygon(q: Vec2, floats: &[f64], at: usize, n: usize) -> Positio
         return Position::Outside;
     }
     let mut inside = false;
-    let mut i = 0;
-    while i < n {
+    for i in 0..n {
         let s = side_at(floats, at, n, i);
         if on_edge(q, s.from, s.to) {
             return Position::Edge;
@@ -121,7 +104,6 @@ pub fn point_in_polygon(q: Vec2, floats: &[f64], at: usize, n: usize) -> Positio
         if crosses(q, s.from, s.to) {
             inside = !inside;
         }
-        i += 1;
     }
     if inside {
         Position::Inside

@@ -12,4 +12,4 @@ returns-then-is_finite c = rw (sym c.is_level.ensures ∙ c.if-is_level.false, �
 
 pub returns-else-is_finite : goal.returns-else-is_finite
 unfolding crossing_within
-returns-else-is_finite c = rw (sym c.is_level.ensures ∙ c.if-is_level.false, ← c.run-u.ensures, sym c.is_finite.ensures ∙ c.if-is_finite.false)
+returns-else-is_finite c = rw (sym c.is_level.ensures ∙ c.if-is_level.false, ← c.run-u.ensures, sym c.is_finite.ensures, c.if-is_finite.false)

@@ -3,10 +3,10 @@ use borrow.Author.Rules.{rules}
 use Rattle.lines_polygon.proofs.extent.has_sides.Goals as goal
 
 pub loop-i-preserved : goal.loop-i-preserved
-loop-i-preserved c = (search rules, search (within-next, rules))
+loop-i-preserved c = search (within-next, rules)
 
-pub returns-else-has_side : goal.returns-else-has_side
-returns-else-has_side c = search (within-not, rules)
+pub returns-then-not-has_side : goal.returns-then-not-has_side
+returns-then-not-has_side c = search (within-not, rules)
 
 pub returns : goal.returns
 returns c = search (within_end, rules)

@@ -1,5 +1,4 @@
 use mathlib.Core.Path.{◌≡◌}
-use Prim.Native.Nat.{◌≤◌, ◌-◌}
 use lib.ListN.{drop}
 use Rattle.arith.specs.Lists.{all_of, sides}
 use Rattle.lines_polygon.specs.Vertices.{pairs_from}
@@ -7,7 +6,4 @@ use Rattle.lines_polygon.specs.Extent.{side_within}
 use Rattle.lines_polygon.proofs.extent.has_sides.Given as goal
 
 abbrev pub invariant-loop-i : goal.invariant-loop-i
-invariant-loop-i l = (l.i ≤ l.n) × (all_of (side_within l.l) (drop l.i (sides (pairs_from l.floats l.at l.n))) ≡ all_of (side_within l.l) (sides (pairs_from l.floats l.at l.n)))
-
-abbrev pub decreases-loop-i : goal.decreases-loop-i
-decreases-loop-i l = l.n - l.i
+invariant-loop-i l = all_of (side_within l.l) (drop l.i (sides (pairs_from l.floats l.at l.n))) ≡ all_of (side_within l.l) (sides (pairs_from l.floats l.at l.n))

@@ -1,12 +1,8 @@
-use mathlib.Core.Path.{refl}
-use lib.Ieee.{of_bits, neg, nan_bits}
+use Rattle.std.proofs.Common.{refl}
+use lib.Ieee.{of_bits}
 use Rattle.lines_polygon.specs.Extent.{unlimited}
 use Rattle.lines_polygon.proofs.extent.unlimited.Goals as goal
 
-pub float_from_bits-top : goal.float_from_bits-top
-unfolding nan_bits
-float_from_bits-top c = tt
-
 pub returns : goal.returns
-unfolding of_bits neg nan_bits unlimited
+unfolding of_bits unlimited
 returns c = refl
