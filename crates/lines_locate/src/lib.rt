@@ -182,8 +182,7 @@ pub fn count_in(words: &[u32], s: Sizes, i: usize) -> usize
     ensures { (result ≡ Layout.count_in s words.now i) × (result ≤ 24) }
 {
     let at = words_at(s, i);
-    let n = wide(words[at + 4]);
-    if n < 24 { n } else { 24 }
+    wide(words[at + 4]).min(24)
 }
 
 // The bin whose word stands at `at`.
@@ -202,7 +201,7 @@ fn bin_at(words: &[u32], at: usize) -> Bin
 fn reaches(first: usize, last: usize, b: usize) -> bool
     ensures { result ≡ Index.reaches first last b }
 {
-    if first <= b { b <= last } else { false }
+    first <= b && b <= last
 }
 
 // Cell i is listed in bin b.
@@ -214,11 +213,7 @@ fn is_listed(words: &[u32], s: Sizes, i: usize, b: Bin) -> bool
     let at = words_at(s, i);
     let first = bin_at(words, at + 5);
     let last = bin_at(words, at + 6);
-    if reaches(first.x, last.x, b.x) {
-        reaches(first.y, last.y, b.y)
-    } else {
-        false
-    }
+    reaches(first.x, last.x, b.x) && reaches(first.y, last.y, b.y)
 }
 
 // q lies within the limits of cell i.
@@ -227,11 +222,7 @@ fn may_contain(floats: &[f64], s: Sizes, q: Vec2, i: usize) -> bool
     ensures { result ≡ not (misses (limits_from floats.now (Layout.floats_at s i + 48)) q) }
 {
     let limits = extent::limits_at(floats, floats_at(s, i) + 48);
-    if extent::misses(limits, q) {
-        false
-    } else {
-        true
-    }
+    !extent::misses(limits, q)
 }
 
 // Where q lies to the polygon of cell i.
@@ -269,8 +260,7 @@ fn first_holding(
     ensures { result ≡ Ensures.first_holding search b q
         (Layout.cell_polygons_in s words.now floats.now) }
 {
-    let mut i = 0;
-    while i < s.cells {
+    for i in 0..s.cells {
         if may_contain(floats, s, q, i) {
             if is_searched(words, s, search, b, i) {
                 let position = position_in(words, floats, s, q, i);
@@ -282,7 +272,6 @@ fn first_holding(
                 }
             }
         }
-        i += 1;
     }
     nowhere()
 }
@@ -316,6 +305,7 @@ fn first_indexed(
 {
     let base = 16 * s.slots + 8 * s.cells;
     let mut h = head(words, s, g, at.index);
+    // No `for`: the next node is known only once this one was read.
     while h != 0 {
         let i = lines_bins::pool(words, base, s.cells, h);
         if may_contain(floats, s, q, i) {
@@ -339,11 +329,7 @@ fn is_indexed(words: &[u32], s: Sizes) -> bool
     requires { LentWords s words.now }
     ensures { result ≡ true → (0 < s.cells) × (flag_in words.now (words_end s) s.cells ≡ 1) }
 {
-    if s.cells > 0 {
-        lines_bins::flag(words, 16 * s.slots + 8 * s.cells, s.cells) == 1
-    } else {
-        false
-    }
+    s.cells > 0 && lines_bins::flag(words, 16 * s.slots + 8 * s.cells, s.cells) == 1
 }
 
 // The lowest cell that holds q.
@@ -379,13 +365,9 @@ pub fn locate_cell(
     ensures at_or_below { Locate.AtOrBelow result.cell (Locate.locate Variants.Bins g
         (Layout.cell_polygons_in s words.now floats.now) p) × Locate.FoundWithin result }
 {
-    if float::is_finite(p.x) {
-        if float::is_finite(p.y) {
-            let q = Vec2 { x: p.x, y: p.y };
-            first_at(words, floats, s, g, search, q)
-        } else {
-            nowhere()
-        }
+    if float::is_finite(p.x) && float::is_finite(p.y) {
+        let q = Vec2 { x: p.x, y: p.y };
+        first_at(words, floats, s, g, search, q)
     } else {
         nowhere()
     }

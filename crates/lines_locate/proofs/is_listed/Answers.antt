@@ -9,4 +9,4 @@ returns-then-reaches c = λ floats. rw (sym c.words_at-at.ensures, sym c.bin_at-
 
 pub returns-else-reaches : goal.returns-else-reaches
 unfolding is_listed cell_polygon_in
-returns-else-reaches c = λ floats. rw (sym c.words_at-at.ensures, sym c.bin_at-first.ensures, sym c.bin_at-last.ensures, sym c.reaches.ensures ∙ c.if-reaches.false)
+returns-else-reaches c = λ floats. rw (sym c.words_at-at.ensures, sym c.bin_at-first.ensures, sym c.bin_at-last.ensures, sym c.reaches.ensures, c.if-reaches.false)
