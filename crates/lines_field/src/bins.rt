@@ -20,18 +20,11 @@ use lines_locate::{Bin, Box, Grid};
 use lines_polygon::{Limits, extent};
 use mesh_area::Sizes;
 
-// At least 1.
-fn at_least_one(n: usize) -> usize
-    ensures { (result ≡ max n 1) × (0 < result) }
-{
-    if n < 1 { 1 } else { n }
-}
-
 // How many bins for a length whose square is x.
 fn bin_count(x: f64) -> usize
     ensures { (result ≡ max (ceilℕ (root x)) 1) × (0 < result) }
 {
-    at_least_one(float::ceil_usize(arith_root::sqrt(x)))
+    float::ceil_usize(arith_root::sqrt(x)).max(1)
 }
 
 // How much wider than high a box is.
@@ -46,7 +39,7 @@ pub fn bin_counts(cells: usize, b: Box) -> Bin
     requires { cells ≤ most_cells }
     ensures { BinCountsExit cells b result }
 {
-    let count = at_least_one(cells) as f64;
+    let count = cells.max(1) as f64;
     let ratio = aspect(b);
     let x = bin_count(count * ratio);
     let y = bin_count(count / ratio);
@@ -57,19 +50,10 @@ pub fn bin_counts(cells: usize, b: Box) -> Bin
 fn are_flat(b: Box) -> bool
     ensures { result ≡ Bins.are_flat b }
 {
-    if float::is_finite(b.left) {
-        if float::is_finite(b.bottom) {
-            if b.right > b.left {
-                if b.top > b.bottom { false } else { true }
-            } else {
-                true
-            }
-        } else {
-            true
-        }
-    } else {
-        true
-    }
+    !(float::is_finite(b.left)
+        && float::is_finite(b.bottom)
+        && b.right > b.left
+        && b.top > b.bottom)
 }
 
 // The grid, or the refusal.
@@ -169,10 +153,8 @@ fn list_cells(words: &mut [u32], floats: &[f64], s: Sizes, g: Grid)
     requires { LentWords s words.old × LentFloats s floats.now × HasBins g }
     ensures { ListCellsExit g s words.old words.new floats.now }
 {
-    let mut i = 0;
-    while i < s.cells {
+    for i in 0..s.cells {
         list_cell(words, floats, s, g, i);
-        i += 1;
     }
 }
 

@@ -15,12 +15,11 @@ use mesh_area::Sizes;
 pub fn boundless() -> Box
     ensures { result ≡ Bounds.boundless }
 {
-    let top = f64::from_bits(0x7ff0_0000_0000_0000);
     Box {
-        left: top,
-        bottom: top,
-        right: -top,
-        top: -top,
+        left: f64::INFINITY,
+        bottom: f64::INFINITY,
+        right: f64::NEG_INFINITY,
+        top: f64::NEG_INFINITY,
     }
 }
 
@@ -42,10 +41,8 @@ pub fn widened_by(from: Box, floats: &[f64], at: usize, n: usize) -> Box
     ensures { result ≡ fold Bounds.widened from (pairs_from floats.now at n) }
 {
     let mut b = from;
-    let mut k = 0;
-    while k < n {
+    for k in 0..n {
         b = widened(b, lines_polygon::pair_at(floats, at + 2 * k));
-        k += 1;
     }
     b
 }
@@ -56,15 +53,13 @@ pub fn all_bounds(words: &[u32], floats: &[f64], s: Sizes) -> Box
     ensures { result ≡ bounds_of (flatten (polygons_in s words.now floats.now)) }
 {
     let mut b = boundless();
-    let mut i = 0;
-    while i < s.cells {
+    for i in 0..s.cells {
         b = widened_by(
             b,
             floats,
             lines_locate::floats_at(s, i),
             lines_locate::count_in(words, s, i),
         );
-        i += 1;
     }
     b
 }

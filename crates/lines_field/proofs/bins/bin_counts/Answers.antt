@@ -8,4 +8,4 @@ int_to_float-count c = whole_in _ (omega arith)
 
 pub returns : goal.returns
 unfolding bin_counts
-returns c = record { counts = rw (c.bin_count-y.ensures.0, c.bin_count-x.ensures.0, c.aspect-ratio.ensures, c.at_least_one-count.ensures.0); wide = c.bin_count-x.ensures.1; high = c.bin_count-y.ensures.1 }
+returns c = record { counts = rw (c.bin_count-y.ensures.0, c.bin_count-x.ensures.0, c.aspect-ratio.ensures, c.max-count.ensures); wide = c.bin_count-x.ensures.1; high = c.bin_count-y.ensures.1 }

@@ -1,9 +1,5 @@
 use Rattle.lines_field.proofs.GridLaws.{Listing}
-use Prim.Native.Nat.{◌-◌}
 use Rattle.lines_field.proofs.bins.list_cells.Given as goal
 
 abbrev pub invariant-loop-i : goal.invariant-loop-i
 invariant-loop-i l = Listing l.g l.s l.initial.words l.words l.floats l.i
-
-abbrev pub decreases-loop-i : goal.decreases-loop-i
-decreases-loop-i l = l.s.cells - l.i

@@ -3,11 +3,7 @@ use Rattle.lines_field.specs.Bounds.{widened}
 use Rattle.arith.specs.Lists.{fold}
 use lib.ListN.{drop}
 use mathlib.Core.Path.{◌≡◌}
-use Prim.Native.Nat.{◌≤◌, ◌-◌}
 use Rattle.lines_field.proofs.bounds.widened_by.Given as goal
 
 abbrev pub invariant-loop-k : goal.invariant-loop-k
-invariant-loop-k l = (l.k ≤ l.n) × (fold widened l.b (drop l.k (pairs_from l.floats l.at l.n)) ≡ fold widened l.initial.b (pairs_from l.floats l.at l.n))
-
-abbrev pub decreases-loop-k : goal.decreases-loop-k
-decreases-loop-k l = l.n - l.k
+invariant-loop-k l = fold widened l.b (drop l.k (pairs_from l.floats l.at l.n)) ≡ fold widened l.initial.b (pairs_from l.floats l.at l.n)
