@@ -32,15 +32,13 @@ fn angles_about(
     ensures { AnglesAboutExit centre xs.now ys.now quarters.new
         slopes.new n }
 {
-    let mut k = 0;
-    while k < n {
+    for k in 0..n {
         let a = angles::angle_of(Vec2 {
             x: xs[k] - centre.x,
             y: ys[k] - centre.y,
         });
         quarters[k] = a.quarter;
         slopes[k] = a.slope;
-        k += 1;
     }
 }
 
@@ -65,13 +63,11 @@ fn store_vertices(floats: &mut [f64], at: usize, xs: &[f64], ys: &[f64], places:
         (take n places.now))
         × (take at floats.new ≡ take at floats.old) }
 {
-    let mut k = 0;
-    while k < n {
+    for k in 0..n {
         let j = places[k];
         let i = at + 2 * k;
         floats[i] = xs[j];
         floats[i + 1] = ys[j];
-        k += 1;
     }
 }
 
@@ -166,10 +162,8 @@ fn put_polygons(case: &[u8], points: usize, words: &mut [u32], floats: &mut [f64
         (mesh_in (points_in case.now points) s words.old floats.old))
         × MeshKept s words.old words.new floats.old floats.new }
 {
-    let mut i = 0;
-    while i < s.cells {
+    for i in 0..s.cells {
         put_polygon(case, points, words, floats, s, i);
-        i += 1;
     }
 }
 
@@ -202,10 +196,8 @@ fn limit_cells(words: &[u32], floats: &mut [f64], s: Sizes)
         × (take (floats_end s) floats.new ≡ take (floats_end s) floats.old)
         × HasLimits s words.now floats.new }
 {
-    let mut i = 0;
-    while i < s.cells {
+    for i in 0..s.cells {
         limit_cell(words, floats, s, i);
-        i += 1;
     }
 }
 

@@ -18,7 +18,7 @@ use mesh_area::Sizes;
 fn alike(p: Vec2, x: f64, y: f64) -> bool
     ensures { result ≡ Vertices.alike p (pair x y) }
 {
-    if p.x == x { p.y == y } else { false }
+    p.x == x && p.y == y
 }
 
 // Some of the first n points is p.
@@ -26,12 +26,10 @@ fn contains(xs: &[f64], ys: &[f64], n: usize, p: Vec2) -> bool
     requires { (n ≤ 24) × (length xs.now ≡ 24) × (length ys.now ≡ 24) }
     ensures { result ≡ any_of (Vertices.alike p) (vertices_in xs.now ys.now n) }
 {
-    let mut k = 0;
-    while k < n {
+    for k in 0..n {
         if alike(p, xs[k], ys[k]) {
             return true;
         }
-        k += 1;
     }
     false
 }
@@ -81,11 +79,9 @@ fn add_face(
 {
     let count = mesh_area::vertex_count(words, s, f);
     let mut n = from;
-    let mut k = 0;
-    while k < count {
+    for k in 0..count {
         let p = xy_at(case, points, mesh_area::vertex(words, s, f, k));
         n = push(xs, ys, n, p);
-        k += 1;
     }
     n
 }
@@ -110,11 +106,9 @@ pub fn cell_vertices(
 {
     let count = mesh_area::face_count(words, s, i);
     let mut n = 0;
-    let mut k = 0;
-    while k < count {
+    for k in 0..count {
         let f = mesh_area::cell_face(words, s, i, k);
         n = add_face(case, points, words, s, f, xs, ys, n);
-        k += 1;
     }
     n
 }

@@ -1,9 +1,5 @@
 use Rattle.lines_field.proofs.LimitLaws.{Limiting}
-use Prim.Native.Nat.{◌-◌}
 use Rattle.lines_build.proofs.build.limit_cells.Given as goal
 
 abbrev pub invariant-loop-i : goal.invariant-loop-i
 invariant-loop-i l = Limiting l.s l.words l.initial.floats l.floats l.i
-
-abbrev pub decreases-loop-i : goal.decreases-loop-i
-decreases-loop-i l = l.s.cells - l.i

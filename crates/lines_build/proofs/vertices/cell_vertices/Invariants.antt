@@ -3,14 +3,11 @@ use Rattle.lines_field.specs.Vertices.{add_vertices, cell_vertices}
 use Rattle.mesh_area.specs.Layout.{cells_in, mesh_in, points_in}
 use Rattle.mesh_area.specs.Tables.{cell_at}
 use Rattle.arith.specs.Lists.{fold}
-use lib.ListN.{drop, length}
+use lib.ListN.{drop}
 use mathlib.Core.List.{[]}
 use mathlib.Core.Path.{◌≡◌}
-use Prim.Native.Nat.{◌≤◌, ◌-◌}
+use Prim.Native.Nat.{◌≤◌}
 use Rattle.lines_build.proofs.vertices.cell_vertices.Given as goal
 
 abbrev pub invariant-loop-k : goal.invariant-loop-k
-invariant-loop-k l = (l.k ≤ l.count) × (l.n ≤ 24) × (fold (add_vertices (mesh_in (points_in l.case l.points) l.s l.words [])) (vertices_in l.xs l.ys l.n) (drop l.k (cell_at (cells_in l.s l.words []) l.i).faces) ≡ cell_vertices (mesh_in (points_in l.case l.points) l.s l.words []) (cell_at (cells_in l.s l.words []) l.i)) × (length l.xs ≡ length l.initial.xs) × (length l.ys ≡ length l.initial.ys) × (drop l.n l.xs ≡ drop l.n l.initial.xs) × (drop l.n l.ys ≡ drop l.n l.initial.ys)
-
-abbrev pub decreases-loop-k : goal.decreases-loop-k
-decreases-loop-k l = l.count - l.k
+invariant-loop-k l = (l.n ≤ 24) × (fold (add_vertices (mesh_in (points_in l.case l.points) l.s l.words [])) (vertices_in l.xs l.ys l.n) (drop l.k (cell_at (cells_in l.s l.words []) l.i).faces) ≡ cell_vertices (mesh_in (points_in l.case l.points) l.s l.words []) (cell_at (cells_in l.s l.words []) l.i)) × (drop l.n l.xs ≡ drop l.n l.initial.xs) × (drop l.n l.ys ≡ drop l.n l.initial.ys)

@@ -6,7 +6,7 @@ pub returns-then-alike : goal.returns-then-alike
 returns-then-alike c = search (contains-here, rules)
 
 pub loop-k-preserved : goal.loop-k-preserved
-loop-k-preserved c = (search rules, search (contains-next, rules))
+loop-k-preserved c = search (contains-next, rules)
 
 pub returns : goal.returns
 returns c = search (contains-end, rules)

@@ -3,11 +3,7 @@ use Rattle.lines_field.specs.Vertices.{alike}
 use Rattle.arith.specs.Lists.{any_of}
 use lib.ListN.{drop}
 use mathlib.Core.Path.{◌≡◌}
-use Prim.Native.Nat.{◌≤◌, ◌-◌}
 use Rattle.lines_build.proofs.vertices.contains.Given as goal
 
 abbrev pub invariant-loop-k : goal.invariant-loop-k
-invariant-loop-k l = (l.k ≤ l.n) × (any_of (alike l.p) (drop l.k (vertices_in l.xs l.ys l.n)) ≡ any_of (alike l.p) (vertices_in l.xs l.ys l.n))
-
-abbrev pub decreases-loop-k : goal.decreases-loop-k
-decreases-loop-k l = l.n - l.k
+invariant-loop-k l = any_of (alike l.p) (drop l.k (vertices_in l.xs l.ys l.n)) ≡ any_of (alike l.p) (vertices_in l.xs l.ys l.n)
