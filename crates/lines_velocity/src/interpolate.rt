@@ -54,10 +54,8 @@ fn nearest(words: &[u32], floats: &[f64], s: Sizes, p: Vec3, i: usize) -> usize
         cell: first,
         distance_squared: distance_squared(floats, s, p, first),
     };
-    let mut k = 1;
-    while k < count {
+    for k in 1..count {
         best = nearer_of(floats, s, p, best, mesh_area::neighbour(words, s, i, k));
-        k += 1;
     }
     best.cell
 }
@@ -75,15 +73,7 @@ fn apart(offset: Vec3) -> bool
     ensures { result ≡ Velocity.apart offset }
 {
     let d = offset.norm_squared();
-    if float::is_finite(d) {
-        if d <= f64::from_bits(0x3cb0_0000_0000_0000) {
-            false
-        } else {
-            true
-        }
-    } else {
-        false
-    }
+    float::is_finite(d) && d > f64::EPSILON
 }
 
 // The blend with the values of neighbour k.

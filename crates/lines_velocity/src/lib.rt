@@ -40,31 +40,12 @@ struct Near {
 pub fn searching(t: Tracer, search: Search) -> Tracer
     ensures { result ≡ tracer_searching search t }
 {
-    let counts = t.counts;
-    let sizes = t.sizes;
-    let grid = t.grid;
-    Tracer {
-        counts,
-        sizes,
-        grid,
-        search,
-        home: t.home,
-    }
+    Tracer { search, ..t }
 }
 
 // The same tracer for a line that stays in another zone.
 pub fn staying(t: Tracer, home: u32) -> Tracer
     ensures { result ≡ tracer_staying home t }
 {
-    let counts = t.counts;
-    let sizes = t.sizes;
-    let grid = t.grid;
-    let search = t.search;
-    Tracer {
-        counts,
-        sizes,
-        grid,
-        search,
-        home,
-    }
+    Tracer { home, ..t }
 }

@@ -4,13 +4,10 @@ use Rattle.arith.specs.Lists.{fold}
 use lib.ListN.{drop}
 use mathlib.Core.Path.{◌≡◌}
 use mathlib.Core.List.{List}
-use Prim.Native.Nat.{ℕ, ◌-◌}
+use Prim.Native.Nat.{ℕ}
 use Rattle.lines_velocity.proofs.interpolate.nearest.Given as goal
 
 abbrev pub invariant-loop-k : goal.invariant-loop-k
 invariant-loop-k l =
     (fold (nearer_of (cells_in l.s l.words l.floats) l.p) l.best.cell (drop l.k (neighbours_of (cells_in l.s l.words l.floats) l.i)) ≡ nearest_of (cells_in l.s l.words l.floats) l.p (neighbours_of (cells_in l.s l.words l.floats) l.i))
     × ((w : List ℕ) → l.best.distance_squared ≡ distance_squared (cells_in l.s w l.floats) l.p l.best.cell)
-
-abbrev pub decreases-loop-k : goal.decreases-loop-k
-decreases-loop-k l = l.count - l.k
