@@ -17,28 +17,24 @@ use lines_words::Style;
 fn is_length(x: f64) -> bool
     ensures { result ≡ Line.is_length x }
 {
-    if float::is_finite(x) { 0.0 < x } else { false }
+    float::is_finite(x) && 0.0 < x
 }
 
 // A finite speed, 0 or above.
 fn is_speed(x: f64) -> bool
     ensures { result ≡ Line.is_speed x }
 {
-    if float::is_finite(x) { 0.0 <= x } else { false }
+    float::is_finite(x) && 0.0 <= x
 }
 
 // No option is refused.
 pub(crate) fn are_accepted(options: StreamlineOptions) -> bool
     ensures { result ≡ Line.are_accepted options }
 {
-    if is_length(options.step_size) {
-        if 0 < options.max_steps {
-            if is_length(options.max_length) {
-                return is_speed(options.stagnation_speed);
-            }
-        }
-    }
-    false
+    is_length(options.step_size)
+        && 0 < options.max_steps
+        && is_length(options.max_length)
+        && is_speed(options.stagnation_speed)
 }
 
 // A point locates nowhere.

@@ -49,8 +49,7 @@ fn points_after(
     let mut total = 0.0;
     let mut p = seed;
     let mut pen = start;
-    let mut k: usize = 0;
-    while k < most {
+    for _ in 0..most {
         let next = lines_step::line_step(case, words, floats, t, marks, options, h, p, total);
         match next {
             Step::Ended => {
@@ -59,10 +58,9 @@ fn points_after(
             Step::Next(q, segment) => {
                 pen = lines_words::put_point(out, pen, q);
                 p = q;
-                total = total + segment;
+                total += segment;
             }
         }
-        k = k + 1;
     }
     pen
 }

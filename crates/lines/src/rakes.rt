@@ -31,13 +31,10 @@ fn any_nowhere(words: &[u32], floats: &[f64], t: Tracer, rake: Rake) -> bool
     ensures { (case : List ℕ) → result ≡ any_of (nowhere
         (tracer_field t case words.now floats.now)) (Rakes.seeds rake) }
 {
-    let count = rake.count;
-    let mut i = 0;
-    while i < count {
+    for i in 0..rake.count {
         if integrate::is_nowhere(words, floats, t, seed_at(rake, i)) {
             return true;
         }
-        i += 1;
     }
     false
 }
@@ -61,15 +58,12 @@ fn trace_all(
         (Rakes.seeds rake)) (values_of case.now) marks.old marks.new
         out.old out.new 1 result × (result ≤ 12583168) }
 {
-    let count = rake.count;
     let mut written = 0;
-    let mut i = 0;
-    while i < count {
+    for i in 0..rake.count {
         let seed = seed_at(rake, i);
         let pen = lines_words::pen_at(Style::Points, written + 1);
         let more = line::trace(case, words, floats, t, marks, out, pen, seed, settings);
         written += more;
-        i += 1;
     }
     written
 }

@@ -7,14 +7,10 @@ use Rattle.reading.proofs.Going.{Going}
 use Rattle.arith.specs.declared.Vec3.{Vec3}
 use Rattle.arith.specs.F64.{0·0}
 use lib.Seq.{sets}
-use lib.ListN.{length}
 use mathlib.Core.List.{List}
 use mathlib.Core.Path.{◌≡◌}
 use Prim.Native.Nat.{◌≤◌, ◌-◌, ◌+◌}
 use Rattle.lines.proofs.line.points_after.Given as goal
 
-abbrev pub invariant-loop-k : goal.invariant-loop-k
-invariant-loop-k l = record { done : List Vec3; below : l.k ≤ l.most; few : l.pen.count ≤ l.k + 1; place : l.pen.at ≡ l.initial.pen.at; kept : length l.marks ≡ length l.initial.marks; as_long : length l.out ≡ length l.initial.out; written : l.out ≡ sets l.initial.out (next_word l.initial.pen) (words_along l.initial.pen done); drawn-by : l.pen ≡ pen_along l.initial.pen done; going : Going (line_from (tracer_field l.t l.case l.words l.floats) l.options l.h l.most l.initial.p 0·0) (values_of l.case) l.initial.marks (left (tracer_field l.t l.case l.words l.floats) l.options l.h done (l.most - l.k) l.p l.total) l.marks }
-
-abbrev pub decreases-loop-k : goal.decreases-loop-k
-decreases-loop-k l = l.most - l.k
+abbrev pub invariant-loop : goal.invariant-loop
+invariant-loop l = record { done : List Vec3; few : l.pen.count ≤ l.counter + 1; place : l.pen.at ≡ l.initial.pen.at; written : l.out ≡ sets l.initial.out (next_word l.initial.pen) (words_along l.initial.pen done); drawn-by : l.pen ≡ pen_along l.initial.pen done; going : Going (line_from (tracer_field l.t l.case l.words l.floats) l.options l.h l.most l.initial.p 0·0) (values_of l.case) l.initial.marks (left (tracer_field l.t l.case l.words l.floats) l.options l.h done (l.most - l.counter) l.p l.total) l.marks }

@@ -1,16 +1,15 @@
 use Rattle.lines.proofs.JobLaws.{seed-lost, seed-found, all_found}
 use mathlib.Core.Path.{refl}
-use borrow.Author.Rules.{rules}
 use Rattle.lines.proofs.rakes.any_nowhere.Goals as goal
 
 pub loop-i-init : goal.loop-i-init
-loop-i-init c = (search rules, λ case. refl)
+loop-i-init c = λ case. refl
 
 pub returns-then-is_nowhere : goal.returns-then-is_nowhere
-returns-then-is_nowhere c = λ case. seed-lost _ _ _ _ (c.loop-i.invariant.1 case) _ _ c.loop-i-test.true c.seed_at.ensures (c.is_nowhere.ensures case) c.if-is_nowhere.true
+returns-then-is_nowhere c = λ case. seed-lost _ _ _ _ (c.loop-i.invariant case) _ _ c.loop-i-test.true c.seed_at.ensures (c.is_nowhere.ensures case) c.if-is_nowhere.true
 
 pub loop-i-preserved : goal.loop-i-preserved
-loop-i-preserved c = (search rules, λ case. seed-found _ _ _ _ (c.loop-i.invariant.1 case) _ _ c.loop-i-test.true c.seed_at.ensures (c.is_nowhere.ensures case) c.if-is_nowhere.false)
+loop-i-preserved c = λ case. seed-found _ _ _ _ (c.loop-i.invariant case) _ _ c.loop-i-test.true c.seed_at.ensures (c.is_nowhere.ensures case) c.if-is_nowhere.false
 
 pub returns : goal.returns
-returns c = λ case. all_found _ _ _ _ (c.loop-i.invariant.1 case) c.loop-i-test.false
+returns c = λ case. all_found _ _ _ _ (c.loop-i.invariant case) c.loop-i-test.false

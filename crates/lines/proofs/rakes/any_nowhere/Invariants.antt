@@ -5,11 +5,8 @@ use Rattle.arith.specs.Lists.{any_of}
 use lib.ListN.{drop}
 use mathlib.Core.Path.{◌≡◌}
 use mathlib.Core.List.{List}
-use Prim.Native.Nat.{ℕ, ◌≤◌, ◌-◌}
+use Prim.Native.Nat.{ℕ}
 use Rattle.lines.proofs.rakes.any_nowhere.Given as goal
 
 abbrev pub invariant-loop-i : goal.invariant-loop-i
-invariant-loop-i l = (l.i ≤ l.count) × ((case : List ℕ) → any_of (nowhere (tracer_field l.t case l.words l.floats)) (drop l.i (seeds l.rake)) ≡ any_of (nowhere (tracer_field l.t case l.words l.floats)) (seeds l.rake))
-
-abbrev pub decreases-loop-i : goal.decreases-loop-i
-decreases-loop-i l = l.count - l.i
+invariant-loop-i l = (case : List ℕ) → any_of (nowhere (tracer_field l.t case l.words l.floats)) (drop l.i (seeds l.rake)) ≡ any_of (nowhere (tracer_field l.t case l.words l.floats)) (seeds l.rake)

@@ -6,7 +6,7 @@ use native.Mathlib.Omega.{arith}
 use Rattle.lines.proofs.rakes.trace_all.Goals as goal
 
 pub loop-i-init : goal.loop-i-init
-loop-i-init c = record { done = []; as_many = refl; below = omega arith; few = omega arith; kept = refl; as_long = refl; stand = refl; locate = c.requires.rake_value; going = lines-begun _ _ _ }
+loop-i-init c = record { done = []; as_many = refl; few = omega arith; stand = refl; locate = c.requires.rake_value; going = lines-begun _ _ _ }
 
 pub overflow_add-written : goal.overflow_add-written
 overflow_add-written c = omega (arith, c.loop-i.invariant.few)
@@ -23,9 +23,6 @@ trace-more-requires c =
 pub overflow_add-written-in-loop-i : goal.overflow_add-written-in-loop-i
 overflow_add-written-in-loop-i c = omega (arith, c.loop-i.invariant.few, c.trace-more.ensures.1, c.requires.le_count)
 
-pub overflow_add-i : goal.overflow_add-i
-overflow_add-i c = omega (arith, c.loop-i-test.true, c.requires.le_count)
-
 pub loop-i-preserved : goal.loop-i-preserved
 loop-i-preserved c =
     let i = c.loop-i.invariant in
@@ -35,10 +32,7 @@ loop-i-preserved c =
     record {
       done = i.done ++ written-words t.0;
       as_many = rw length-append (omega (arith, t.0.count));
-      below = omega arith;
       few = omega (arith, t.1);
-      kept = omega arith;
-      as_long = omega arith;
       stand = words_more _ _ _ i.done _ _ i.as_many i.stand t.0;
       locate = (seed-locates _ _ _ _ i.locate below seed).1;
       going = lines-turned _ _ _ i.done _ i.going _ below seed t.0;
@@ -47,4 +41,4 @@ loop-i-preserved c =
 pub returns : goal.returns
 returns c =
     let i = c.loop-i.invariant in
-    (lines-written (lines-ended _ _ _ i.done _ i.going c.loop-i-test.false) i.stand i.as_many, omega (arith, i.few, i.below, c.requires.le_count))
+    (lines-written (lines-ended _ _ _ i.done _ i.going c.loop-i-test.false) i.stand i.as_many, omega (arith, i.few, c.requires.le_count))

@@ -10,11 +10,8 @@ use lib.Seq.{sets}
 use lib.ListN.{length, drop}
 use mathlib.Core.List.{List}
 use mathlib.Core.Path.{◌≡◌}
-use Prim.Native.Nat.{ℕ, ◌≤◌, ◌-◌, ◌*◌}
+use Prim.Native.Nat.{ℕ, ◌≤◌, ◌*◌}
 use Rattle.lines.proofs.rakes.trace_all.Given as goal
 
 abbrev pub invariant-loop-i : goal.invariant-loop-i
-invariant-loop-i l = record { done : List ℕ; as_many : l.written ≡ length done; below : l.i ≤ l.count; few : l.written ≤ 196612 * l.i; kept : length l.marks ≡ length l.initial.marks; as_long : length l.out ≡ length l.initial.out; stand : l.out ≡ sets l.initial.out 1 done; locate : any_of (nowhere (tracer_field l.t l.case l.words l.floats)) (drop l.i (seeds l.rake)) ≡ false; going : Going (lines_words (tracer_field l.t l.case l.words l.floats) l.settings (seeds l.rake)) (values_of l.case) l.initial.marks (left (tracer_field l.t l.case l.words l.floats) l.settings done (drop l.i (seeds l.rake))) l.marks }
-
-abbrev pub decreases-loop-i : goal.decreases-loop-i
-decreases-loop-i l = l.count - l.i
+invariant-loop-i l = record { done : List ℕ; as_many : l.written ≡ length done; few : l.written ≤ 196612 * l.i; stand : l.out ≡ sets l.initial.out 1 done; locate : any_of (nowhere (tracer_field l.t l.case l.words l.floats)) (drop l.i (seeds l.rake)) ≡ false; going : Going (lines_words (tracer_field l.t l.case l.words l.floats) l.settings (seeds l.rake)) (values_of l.case) l.initial.marks (left (tracer_field l.t l.case l.words l.floats) l.settings done (drop l.i (seeds l.rake))) l.marks }
