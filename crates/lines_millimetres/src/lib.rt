@@ -59,7 +59,7 @@ pub fn millimetres(x: f64, rounding: Rounding) -> i64
     let size = float::abs(x);
     let b = f64::to_bits(size);
     if float::is_sign_negative(x) {
-        0 - (times(b, 1000, rounding) as i64)
+        -(times(b, 1000, rounding) as i64)
     } else {
         times(b, 1000, rounding) as i64
     }
@@ -69,9 +69,5 @@ pub fn millimetres(x: f64, rounding: Rounding) -> i64
 pub fn word(k: i64) -> u64
     ensures { result ≡ Nearest.word64 k }
 {
-    if k < 0 {
-        0xffff_ffff_ffff_ffff - ((-1 - k) as u64)
-    } else {
-        k as u64
-    }
+    k.cast_unsigned()
 }

@@ -1,6 +1,5 @@
 -- Two points of a sheet compared as the code does it. Assumes nothing.
 use mathlib.Core.Path.{◌≡◌}
-use mathlib.Core.Bool.{false}
 use lib.Dec.{eqb}
 use mir.Syntax.{w64}
 use mir.Val.{SFits, of_z}
@@ -14,6 +13,6 @@ module _ (a b : SheetPoint) (f : SFits w64 a.x) (g : SFits w64 b.x) where
   unfolding is_same
   same-on h k e = rw (words_same a.y b.y h k, ← words_same a.x b.x f g, eq-eqb _ _ e)
 
-  pub same-off : (of_z w64 a.x ≡ of_z w64 b.x → ⊥) → false ≡ is_same a b
+  pub same-off : (of_z w64 a.x ≡ of_z w64 b.x → ⊥) → eqb (of_z w64 a.x) (of_z w64 b.x) ≡ is_same a b
   unfolding is_same
   same-off n = rw (← words_same a.x b.x f g, ne_eqb _ _ n)

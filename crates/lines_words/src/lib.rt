@@ -63,7 +63,7 @@ fn sheet_point(p: Vec3, rounding: Rounding) -> SheetPoint
 fn is_same(a: SheetPoint, b: SheetPoint) -> bool
     ensures { result ≡ Sheets.is_same a b }
 {
-    if a.x == b.x { a.y == b.y } else { false }
+    a.x == b.x && a.y == b.y
 }
 
 // Where the next point's words go.
@@ -83,12 +83,10 @@ fn one_more(pen: Pen, last: SheetPoint) -> Pen
     requires { PenEntry pen }
     ensures { result ≡ Pens.one_more pen last }
 {
-    let style = pen.style;
     Pen {
-        style,
-        at: pen.at,
         count: pen.count + 1,
         last,
+        ..pen
     }
 }
 
@@ -96,11 +94,7 @@ fn one_more(pen: Pen, last: SheetPoint) -> Pen
 fn is_repeated(pen: Pen, m: SheetPoint) -> bool
     ensures { result ≡ Pens.is_repeated pen m }
 {
-    if pen.count > 0 {
-        is_same(pen.last, m)
-    } else {
-        false
-    }
+    pen.count > 0 && is_same(pen.last, m)
 }
 
 // A point of a sheet, unless it is repeated.

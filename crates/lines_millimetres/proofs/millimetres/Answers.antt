@@ -1,7 +1,7 @@
 use mathlib.Core.Path.{sym, ◌∙◌}
 use lib.Dec.{lit≤}
 use Rattle.lines_millimetres.proofs.NearestLaws.{only-nearest}
-use Rattle.lines_millimetres.proofs.PatternLaws.{size_number, pattern-small, minus-fits, minus-result, plus-result}
+use Rattle.lines_millimetres.proofs.PatternLaws.{size_number, pattern-small, minus-result, plus-result}
 use Rattle.lines_millimetres.proofs.millimetres.Goals as goal
 
 pub float_to_bits-b : goal.float_to_bits-b
@@ -9,9 +9,6 @@ float_to_bits-b c = rw c.abs-size.ensures (size_number c.args.x c.requires)
 
 pub times-requires : goal.times-requires
 times-requires c = (pattern-small c.args.rounding c.args.x c.abs-size.result c.abs-size.ensures c.abs-size.type_inv c.requires, lit≤ tt)
-
-pub overflow_sub-result : goal.overflow_sub-result
-overflow_sub-result c = minus-fits c.times.result c.times.ensures.1
 
 pub times-requires-else-is_sign_negative : goal.times-requires-else-is_sign_negative
 times-requires-else-is_sign_negative c = (pattern-small c.args.rounding c.args.x c.abs-size.result c.abs-size.ensures c.abs-size.type_inv c.requires, lit≤ tt)
