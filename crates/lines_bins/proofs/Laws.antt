@@ -1,15 +1,18 @@
 -- Laws of the pool, of the chains and of the scan. Assumes nothing.
 use mathlib.Core.Path.{◌≡◌, refl, sym, ap, ◌∙◌}
 use mathlib.Core.Bool.{Bool, true, false, ◌&&◌}
-use mathlib.Core.List.{List}
+use mathlib.Core.List.{List, ◌++◌}
 use mathlib.Core.Logic.{◌≢◌, ◌⊎◌, inl, inr}
 use Prim.Native.Nat.{ℕ, ◌+◌, ◌-◌, ◌*◌, ◌<◌, ◌≤◌}
-use native.Mathlib.Nat.{not-suc-le-zero, lt_irrefl, le_refl}
+use native.Mathlib.Nat.{lt_irrefl, le_refl}
 use native.Mathlib.Decide.{ℕ_discrete}
 use native.Mathlib.Omega.{arith}
 use borrow.Author.Tests.{lt-ltb, le-ltb, le-leb, lt-leb, eq-eqb, ne_eqb}
 use lib.Dec.{eqb, ltb, leb, lit≤}
-use lib.ListN.{length, get_or, set}
+use lib.ListN.{length, get_or, set, take, replicate, get_or-append}
+use borrow.Rule.Slice.PartMut.{put_mid, post_of}
+use Rattle.std.proofs.lemmas.List.{length-take-le, length-replicate, get_or-append_right, get_or-replicate}
+use Rattle.std.proofs.lemmas.Slice.{take-put_mid_below}
 use lib.Seq.{get_or-set_same, get_or-set_other, take-set-le}
 use Rattle.arith.proofs.RecordLaws.{stride-le, lt-or-ge, same-below}
 use Rattle.lines_bins.specs.Index.{range_word, reaches, in_bin, pool_place, pool_in, head_in, Same, Chain, none, node, passed, within}
@@ -434,32 +437,29 @@ pub ruleset cells = (cell-start, cell-low, cell-high, cell-turn, cell_full, cell
 
 -- ---- the whole index
 
-pub record Clearing (w₀ w : List ℕ) (base n b : ℕ) : Type 0 where
-  pub cells : Same w₀ w base n
-  pub zeros : (k : ℕ) → k < b → pool_in w base n k ≡ 0
+-- zeros in the place of the heads
+module _ (w ys : List ℕ) (base n nx ny k : ℕ) (room : base + 88 * n ≤ length w) (fits : nx * ny ≤ 72 * n) (many : k ≡ nx * ny) (e : ys ≡ replicate k 0) where
+  zeroed : (p : ℕ) → p < nx * ny → pool_in (put_mid (base + 8 * n + 1) k w ys) base n p ≡ 0
+  unfolding pool_in
+  zeroed p l =
+      let heads = base + 8 * n + 1 in
+      let h : length (take heads w) ≡ heads = length-take-le heads w (omega arith) in
+      get_or-append_right (take heads w) (ys ++ post_of heads k w) heads (heads + p) 0 h (omega arith)
+      ∙ ap (λ (q : ℕ). get_or (ys ++ post_of heads k w) q 0) (omega arith)
+      ∙ get_or-append ys (post_of heads k w) 0 p (rw (e, length-replicate) (omega arith))
+      ∙ rw e (get_or-replicate k p 0 0 (omega arith))
 
-pub clear-start : (w : List ℕ) (base n : ℕ) → Clearing w w base n 0
-clear-start w base n = record { cells = same_self w base n; zeros = λ k h. absurd (not-suc-le-zero h) }
-
-pub clear-turn : (w₀ w w' : List ℕ) (base n b : ℕ) → Clearing w₀ w base n b → SetPoolExit w w' base n b 0 → Clearing w₀ w' base n (b + 1)
-clear-turn w₀ w w' base n b g st =
-    record { cells = same-cells w₀ w w' base n g.cells st.cells; zeros = λ k h. by k h (ℕ_discrete k b) }
-  where
-    by : (k : ℕ) → k < b + 1 → Dec (k ≡ b) → pool_in w' base n k ≡ 0
-    by k h (yes e) = rw e st.here
-    by k h (no ne) = st.others k ne ∙ g.zeros k (omega arith)
-
-pub clear-done : (w₀ w : List ℕ) (base n nx ny b : ℕ) → Clearing w₀ w base n b → nx * ny ≤ b → nx * ny ≤ 72 * n → ListCellExit w₀ w base n nx ny (nx * ny) (λ x y. n)
-clear-done w₀ w base n nx ny b g ge fits =
-    record {
-      cells = g.cells;
-      chains =
-          λ nz. record {
-            chain = λ x y hx hy. none n _ (g.zeros (nx * y + x) (let l = bin-low nx ny x y hx hy in omega arith)) (λ c a b. absurd (lt_irrefl n (omega arith)));
-            above = le_refl (nx * ny);
-            fits = fits;
-          };
-    }
+  pub cleared : 0 < nx * ny → ListCellExit w (put_mid (base + 8 * n + 1) k w ys) base n nx ny (nx * ny) (λ x y. n)
+  cleared some =
+      record {
+        cells = take-put_mid_below (base + 8 * n + 1) k w ys (base + 8 * n) (omega arith) (omega arith);
+        chains =
+            λ nz. record {
+              chain = λ x y hx hy. none n _ (zeroed (nx * y + x) (bin-low nx ny x y hx hy)) (λ c a b. absurd (lt_irrefl n (omega arith)));
+              above = le_refl (nx * ny);
+              fits = fits;
+            };
+      }
 
 pub record Building (w₀ w : List ℕ) (base n nx ny i t : ℕ) : Type 0 where
   pub ranged : BinRanges w base n nx ny
@@ -526,7 +526,7 @@ pub build-done-zero : (w w₁ w₂ : List ℕ) (base n nx ny : ℕ) (r : Bool) �
 build-done-zero w w₁ w₂ base n nx ny r fi fl =
     record { cells = same-cells w w₁ w₂ base n fi.cells fl.cells; index = λ q. let z = fl.here in absurd (omega arith) }
 
-pub ruleset builds = (clear-start, clear-turn, clear-done, build-start, build-ready, build-turn, build-full, build-done, build-none, fill-ranged, fill-chains, filled, build-done-one, build-done-zero)
+pub ruleset builds = (build-start, build-ready, build-turn, build-full, build-done, build-none, fill-ranged, fill-chains, filled, build-done-one, build-done-zero)
 
 -- ---- the search along a chain
 

@@ -75,9 +75,8 @@ fn clear(words: &mut [u32], base: usize, n: usize, nx: usize, ny: usize)
     requires ny_bound { nx * ny ≤ 72 * n }
     ensures { ListCellExit words.old words.new base n nx ny (nx * ny) (λ x y. n) }
 {
-    for b in 0..nx * ny {
-        set_pool(words, base, n, b, 0);
-    }
+    let heads = base + 8 * n + 1;
+    words[heads..heads + nx * ny].fill(0);
 }
 
 // Lists cell i in row y of its bins; the pool's new end, or 0 where it is full.
