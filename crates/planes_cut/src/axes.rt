@@ -15,15 +15,7 @@ use arith::{Vec3, float};
 fn finite_axes(plane: Plane) -> bool
     ensures { result ≡ Axes.finite_axes plane }
 {
-    if plane.origin.is_finite() {
-        if plane.u.is_finite() {
-            plane.v.is_finite()
-        } else {
-            false
-        }
-    } else {
-        false
-    }
+    plane.origin.is_finite() && plane.u.is_finite() && plane.v.is_finite()
 }
 
 // Not of length 1, within 1e-7.
@@ -44,17 +36,10 @@ fn not_orthogonal(u: Vec3, v: Vec3) -> bool
 fn invalid(plane: Plane) -> bool
     ensures { result ≡ Axes.invalid plane }
 {
-    if finite_axes(plane) {
-        if not_unit(plane.u) {
-            true
-        } else if not_unit(plane.v) {
-            true
-        } else {
-            not_orthogonal(plane.u, plane.v)
-        }
-    } else {
-        true
-    }
+    !finite_axes(plane)
+        || not_unit(plane.u)
+        || not_unit(plane.v)
+        || not_orthogonal(plane.u, plane.v)
 }
 
 // Refusal 36 or 37 of a plane, or 0.
@@ -79,12 +64,10 @@ fn reach_of(case: &[u8], points: usize, origin: Vec3) -> Reach
 {
     let mut span = 0.0;
     let mut location = origin.norm_squared();
-    let mut i = 0;
-    while i < points {
+    for i in 0..points {
         let p = mesh_area::point_at(case, points, i);
         span = float::max(span, p.sub(origin).norm_squared());
         location = float::max(location, p.norm_squared());
-        i += 1;
     }
     Reach {
         span: arith_root::sqrt(span),

@@ -62,10 +62,8 @@ fn add_face(
 {
     let mut g = signs;
     let n = mesh_area::vertex_count(words, s, f);
-    let mut k = 0;
-    while k < n {
+    for k in 0..n {
         g = add_sign(cut, face_vertex(case, points, words, s, f, k), g);
-        k += 1;
     }
     g
 }
@@ -88,14 +86,12 @@ pub fn may_meet(case: &[u8], points: usize, words: &[u32], s: Sizes, cut: Cut, c
         above: false,
     };
     let n = mesh_area::face_count(words, s, cell);
-    let mut j = 0;
-    while j < n {
+    for j in 0..n {
         let f = mesh_area::cell_face(words, s, cell, j);
         g = add_face(case, points, words, s, cut, f, g);
         if meets(g) {
             return true;
         }
-        j += 1;
     }
     false
 }

@@ -5,17 +5,16 @@ use Rattle.mesh_area.specs.Layout.{points_in}
 use Rattle.planes_cut.proofs.Turns.{fold-turn, fold_done}
 use Rattle.planes_cut.proofs.MeshLaws.{points-left, points-past}
 use Rattle.planes_cut.proofs.ReachLaws.{wider, farther, widest-root, farthest-root}
-use borrow.Author.Rules.{rules}
 use Rattle.planes_cut.proofs.axes.reach_of.Goals as goal
 
 pub loop-i-init : goal.loop-i-init
-loop-i-init c = (search rules, refl, ap (λ t. fold farther t (points_in c.args.case.now c.args.points)) c.norm_squared-location.ensures)
+loop-i-init c = (refl, ap (λ t. fold farther t (points_in c.args.case.now c.args.points)) c.norm_squared-location.ensures)
 
 pub loop-i-preserved : goal.loop-i-preserved
 unfolding wider farther
 loop-i-preserved c =
     let here = points-left c.args.case.now c.args.points c.loop-i.i c.loop-i-test.true in
-    (search rules, fold-turn here _ _ c.loop-i.invariant.1 (rw (c.max-span.ensures, c.norm_squared.ensures, c.sub.ensures, c.point_at-p.ensures)), fold-turn here _ _ c.loop-i.invariant.2 (rw (c.max-location.ensures, c.norm_squared-in-loop-i.ensures, c.point_at-p.ensures)))
+    (fold-turn here _ _ c.loop-i.invariant.0 (rw (c.max-span.ensures, c.norm_squared.ensures, c.sub.ensures, c.point_at-p.ensures)), fold-turn here _ _ c.loop-i.invariant.1 (rw (c.max-location.ensures, c.norm_squared-in-loop-i.ensures, c.point_at-p.ensures)))
 
 pub returns : goal.returns
 returns c =
@@ -23,6 +22,6 @@ returns c =
     let points = c.args.points in
     let origin = c.args.origin in
     let past = points-past case points c.loop-i.i c.loop-i-test.false in (
-      c.sqrt.ensures.value ∙ ap root (fold_done past _ _ c.loop-i.invariant.1) ∙ widest-root origin (points_in case points),
-      c.sqrt-2.ensures.value ∙ ap root (fold_done past _ _ c.loop-i.invariant.2) ∙ farthest-root origin (points_in case points),
+      c.sqrt.ensures.value ∙ ap root (fold_done past _ _ c.loop-i.invariant.0) ∙ widest-root origin (points_in case points),
+      c.sqrt-2.ensures.value ∙ ap root (fold_done past _ _ c.loop-i.invariant.1) ∙ farthest-root origin (points_in case points),
     )

@@ -1,4 +1,3 @@
-use Prim.Native.Nat.{◌≤◌, ◌-◌}
 use mathlib.Core.Path.{◌≡◌}
 use lib.ListN.{drop}
 use Rattle.arith.specs.Lists.{fold}
@@ -7,7 +6,4 @@ use Rattle.planes_cut.specs.Ensures.{bare, add_sign}
 use Rattle.planes_cut.proofs.heights.add_face.Given as goal
 
 abbrev pub invariant-loop-k : goal.invariant-loop-k
-invariant-loop-k l = (l.k ≤ l.n) × (fold (add_sign (bare l.case l.points l.s l.words) l.cut) l.g (drop l.k (face_at (bare l.case l.points l.s l.words).faces l.f).vertices) ≡ fold (add_sign (bare l.case l.points l.s l.words) l.cut) l.initial.g (face_at (bare l.case l.points l.s l.words).faces l.f).vertices)
-
-abbrev pub decreases-loop-k : goal.decreases-loop-k
-decreases-loop-k l = l.n - l.k
+invariant-loop-k l = fold (add_sign (bare l.case l.points l.s l.words) l.cut) l.g (drop l.k (face_at (bare l.case l.points l.s l.words).faces l.f).vertices) ≡ fold (add_sign (bare l.case l.points l.s l.words) l.cut) l.initial.g (face_at (bare l.case l.points l.s l.words).faces l.f).vertices

@@ -1,4 +1,3 @@
-use Prim.Native.Nat.{◌≤◌, ◌-◌}
 use mathlib.Core.Path.{◌≡◌}
 use mathlib.Core.Bool.{false}
 use lib.ListN.{drop}
@@ -8,7 +7,4 @@ use Rattle.planes_cut.specs.Ensures.{bare, face_signs, signs_of, may_meet}
 use Rattle.planes_cut.proofs.heights.may_meet.Given as goal
 
 abbrev pub invariant-loop-j : goal.invariant-loop-j
-invariant-loop-j l = (l.j ≤ l.n) × (may_meet l.g ≡ false) × (fold (face_signs (bare l.case l.points l.s l.words) l.cut) l.g (drop l.j (cell_at (bare l.case l.points l.s l.words).cells l.cell).faces) ≡ signs_of (bare l.case l.points l.s l.words) l.cut l.cell)
-
-abbrev pub decreases-loop-j : goal.decreases-loop-j
-decreases-loop-j l = l.n - l.j
+invariant-loop-j l = (may_meet l.g ≡ false) × (fold (face_signs (bare l.case l.points l.s l.words) l.cut) l.g (drop l.j (cell_at (bare l.case l.points l.s l.words).cells l.cell).faces) ≡ signs_of (bare l.case l.points l.s l.words) l.cut l.cell)
