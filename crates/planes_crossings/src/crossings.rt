@@ -27,11 +27,7 @@ fn rises(cut: Cut, a: End, b: End) -> bool
     requires { TrueHeight cut a × TrueHeight cut b }
     ensures { result ≡ Crossings.rises cut a.point b.point }
 {
-    if a.height < -cut.tolerance {
-        b.height > cut.tolerance
-    } else {
-        false
-    }
+    a.height < -cut.tolerance && b.height > cut.tolerance
 }
 
 // The ends of a side lie on both sides of the plane.
@@ -39,11 +35,7 @@ fn parted(cut: Cut, a: End, b: End) -> bool
     requires { TrueHeight cut a × TrueHeight cut b }
     ensures { result ≡ Crossings.parted cut a.point b.point }
 {
-    if rises(cut, a, b) {
-        true
-    } else {
-        rises(cut, b, a)
-    }
+    rises(cut, a, b) || rises(cut, b, a)
 }
 
 // The point between a and b at which the side meets the plane.
@@ -126,12 +118,10 @@ fn add_face(
     let count = mesh_area::vertex_count(words, s, f);
     let mut n = from;
     let mut a = end_at(case, points, words, s, cut, f, 0);
-    let mut k = 0;
-    while k < count {
+    for k in 0..count {
         let b = end_at(case, points, words, s, cut, f, next_of(k, count));
         n = add_crossing(cut, a, b, x, y, z, n);
         a = b;
-        k += 1;
     }
     n
 }
@@ -156,11 +146,9 @@ pub fn crossings(
 {
     let count = mesh_area::face_count(words, s, cell);
     let mut n = 0;
-    let mut j = 0;
-    while j < count {
+    for j in 0..count {
         let f = mesh_area::cell_face(words, s, cell, j);
         n = add_face(case, points, words, s, cut, f, x, y, z, n);
-        j += 1;
     }
     n
 }
@@ -172,11 +160,8 @@ fn on_plane(case: &[u8], points: usize, words: &[u32], s: Sizes, cut: Cut, f: us
         (face_at (bare case.now points s words.now).faces f).vertices }
 {
     let n = mesh_area::vertex_count(words, s, f);
-    let mut k = 0;
-    while k < n {
-        if heights::is_near(cut, heights::face_vertex(case, points, words, s, f, k)) {
-            k += 1;
-        } else {
+    for k in 0..n {
+        if !heights::is_near(cut, heights::face_vertex(case, points, words, s, f, k)) {
             return false;
         }
     }
@@ -199,10 +184,7 @@ fn is_foreign(
     let other = mesh_area::neighbour_of(words, s, f);
     match other {
         Found::At(_) => {
-            if mesh_area::owner_of(words, s, f) == cell {
-                return false;
-            }
-            on_plane(case, points, words, s, cut, f)
+            mesh_area::owner_of(words, s, f) != cell && on_plane(case, points, words, s, cut, f)
         }
         Found::Nothing => false,
     }
@@ -222,13 +204,11 @@ pub fn has_foreign(
         (cell_at (bare case.now points s words.now).cells cell).faces }
 {
     let count = mesh_area::face_count(words, s, cell);
-    let mut j = 0;
-    while j < count {
+    for j in 0..count {
         let f = mesh_area::cell_face(words, s, cell, j);
         if is_foreign(case, points, words, s, cut, cell, f) {
             return true;
         }
-        j += 1;
     }
     false
 }

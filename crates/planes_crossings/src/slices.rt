@@ -38,10 +38,8 @@ fn is_close(cut: Cut, p: Vec3, q: Vec3) -> bool
     let t = cut.tolerance;
     let s = q.sub(p).norm_squared();
     if s < 3.637978807091713e-12 {
-        if s <= 8.271806125530277e-25 {
-            if t >= 9.094947017729282e-13 {
-                return true;
-            }
+        if s <= 8.271806125530277e-25 && t >= 9.094947017729282e-13 {
+            return true;
         }
     } else if t < 1.9073486328125e-6 {
         return false;
@@ -54,12 +52,10 @@ fn has(cut: Cut, p: Vec3, x: &[f64], y: &[f64], z: &[f64], n: usize) -> bool
     requires { SliceLengths x.now y.now z.now n }
     ensures { result ≡ any_of (close cut p) (slice_points x.now y.now z.now n) }
 {
-    let mut i = 0;
-    while i < n {
+    for i in 0..n {
         if is_close(cut, p, point_in(x, y, z, i)) {
             return true;
         }
-        i += 1;
     }
     false
 }

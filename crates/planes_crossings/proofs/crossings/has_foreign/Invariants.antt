@@ -1,4 +1,3 @@
-use Prim.Native.Nat.{◌≤◌, ◌-◌}
 use mathlib.Core.Path.{◌≡◌}
 use lib.ListN.{drop}
 use Rattle.arith.specs.Lists.{any_of}
@@ -8,7 +7,4 @@ use Rattle.planes_cut.specs.Ensures.{bare}
 use Rattle.planes_crossings.proofs.crossings.has_foreign.Given as goal
 
 abbrev pub invariant-loop-j : goal.invariant-loop-j
-invariant-loop-j l = (l.j ≤ l.count) × (any_of (foreign (bare l.case l.points l.s l.words) l.cut l.cell) (drop l.j (cell_at (bare l.case l.points l.s l.words).cells l.cell).faces) ≡ any_of (foreign (bare l.case l.points l.s l.words) l.cut l.cell) (cell_at (bare l.case l.points l.s l.words).cells l.cell).faces)
-
-abbrev pub decreases-loop-j : goal.decreases-loop-j
-decreases-loop-j l = l.count - l.j
+invariant-loop-j l = any_of (foreign (bare l.case l.points l.s l.words) l.cut l.cell) (drop l.j (cell_at (bare l.case l.points l.s l.words).cells l.cell).faces) ≡ any_of (foreign (bare l.case l.points l.s l.words) l.cut l.cell) (cell_at (bare l.case l.points l.s l.words).cells l.cell).faces

@@ -1,5 +1,7 @@
 use mathlib.Core.Path.{ap, sym, ◌∙◌}
+use mathlib.Core.Bool.{not}
 use mathlib.Core.List.{[]}
+use borrow.Author.Tests.{eq-eqb}
 use Rattle.mesh_area.specs.Layout.{mesh_in}
 use Rattle.planes_crossings.specs.Crossings.{shared}
 use Rattle.planes_cut.specs.Ensures.{bare}
@@ -7,12 +9,12 @@ use Rattle.planes_crossings.proofs.SideLaws.{foreign-alone, foreign-owned, forei
 use Rattle.planes_crossings.proofs.crossings.is_foreign.Goals as goal
 
 pub returns-then-owner_of-cell : goal.returns-then-owner_of-cell
-unfolding bare mesh_in
-returns-then-owner_of-cell c = foreign-owned _ _ _ _ (sym (c.owner_of.ensures.0 []) ∙ c.if-owner_of-cell.true)
+unfolding bare mesh_in shared
+returns-then-owner_of-cell c = c.on_plane.ensures ∙ foreign-other _ _ _ _ (ap shared (sym (c.neighbour_of-other.ensures []) ∙ c.in-At.is)) (λ e. c.if-owner_of-cell.true (c.owner_of.ensures.0 [] ∙ e))
 
 pub returns-else-owner_of-cell : goal.returns-else-owner_of-cell
-unfolding bare mesh_in shared
-returns-else-owner_of-cell c = c.on_plane.ensures ∙ foreign-other _ _ _ _ (ap shared (sym (c.neighbour_of-other.ensures []) ∙ c.in-At.is)) (λ e. c.if-owner_of-cell.false (c.owner_of.ensures.0 [] ∙ e))
+unfolding bare mesh_in
+returns-else-owner_of-cell c = ap not (eq-eqb _ _ c.if-owner_of-cell.false) ∙ foreign-owned _ _ _ _ (sym (c.owner_of.ensures.0 []) ∙ c.if-owner_of-cell.false)
 
 pub returns-in-Nothing : goal.returns-in-Nothing
 unfolding bare mesh_in shared

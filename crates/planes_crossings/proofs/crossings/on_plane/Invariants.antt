@@ -1,4 +1,3 @@
-use Prim.Native.Nat.{◌≤◌, ◌-◌}
 use mathlib.Core.Path.{◌≡◌}
 use lib.ListN.{drop}
 use Rattle.arith.specs.Lists.{all_of}
@@ -8,7 +7,4 @@ use Rattle.planes_cut.specs.Ensures.{bare}
 use Rattle.planes_crossings.proofs.crossings.on_plane.Given as goal
 
 abbrev pub invariant-loop-k : goal.invariant-loop-k
-invariant-loop-k l = (l.k ≤ l.n) × (all_of (on_plane (bare l.case l.points l.s l.words) l.cut) (drop l.k (face_at (bare l.case l.points l.s l.words).faces l.f).vertices) ≡ all_of (on_plane (bare l.case l.points l.s l.words) l.cut) (face_at (bare l.case l.points l.s l.words).faces l.f).vertices)
-
-abbrev pub decreases-loop-k : goal.decreases-loop-k
-decreases-loop-k l = l.n - l.k
+invariant-loop-k l = all_of (on_plane (bare l.case l.points l.s l.words) l.cut) (drop l.k (face_at (bare l.case l.points l.s l.words).faces l.f).vertices) ≡ all_of (on_plane (bare l.case l.points l.s l.words) l.cut) (face_at (bare l.case l.points l.s l.words).faces l.f).vertices

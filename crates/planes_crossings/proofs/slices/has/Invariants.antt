@@ -1,4 +1,3 @@
-use Prim.Native.Nat.{◌≤◌, ◌-◌}
 use mathlib.Core.Path.{◌≡◌}
 use lib.ListN.{drop}
 use Rattle.arith.specs.Lists.{any_of}
@@ -7,7 +6,4 @@ use Rattle.planes_crossings.specs.Ensures.{slice_points}
 use Rattle.planes_crossings.proofs.slices.has.Given as goal
 
 abbrev pub invariant-loop-i : goal.invariant-loop-i
-invariant-loop-i l = (l.i ≤ l.n) × (any_of (close l.cut l.p) (drop l.i (slice_points l.x l.y l.z l.n)) ≡ any_of (close l.cut l.p) (slice_points l.x l.y l.z l.n))
-
-abbrev pub decreases-loop-i : goal.decreases-loop-i
-decreases-loop-i l = l.n - l.i
+invariant-loop-i l = any_of (close l.cut l.p) (drop l.i (slice_points l.x l.y l.z l.n)) ≡ any_of (close l.cut l.p) (slice_points l.x l.y l.z l.n)

@@ -1,12 +1,9 @@
-use mathlib.Core.Path.{refl, ap, ◌∙◌}
+use mathlib.Core.Path.{ap, ◌∙◌}
 use mathlib.Core.List.{[]}
 use Rattle.planes_cut.specs.Ensures.{sign_with, add_sign, face_signs, face_vertex}
 use Rattle.planes_cut.proofs.Turns.{fold-turn, fold_done}
 use Rattle.planes_cut.proofs.MeshLaws.{vertices-left, vertices-past}
 use Rattle.planes_cut.proofs.heights.add_face.Goals as goal
-
-pub loop-k-init : goal.loop-k-init
-loop-k-init c = refl
 
 pub loop-k-preserved : goal.loop-k-preserved
 unfolding add_sign face_vertex
