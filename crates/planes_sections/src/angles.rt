@@ -34,13 +34,10 @@ pub fn angles_of(
     ensures { AnglesOfExit plane centre (point_in x.now y.now z.now)
         (length quarters.old) quarters.new slopes.new }
 {
-    let n = quarters.len();
-    let mut i = 0;
-    while i < n {
+    for i in 0..quarters.len() {
         let a = angle_on(plane, centre, slices::point_in(x, y, z, i));
         quarters[i] = a.quarter;
         slopes[i] = a.slope;
-        i += 1;
     }
 }
 
@@ -62,10 +59,7 @@ pub fn gather(
         × SlicesKept x.old y.old z.old x.new y.new z.new
         (length places.now) }
 {
-    let mut i = 0;
-    while i < places.len() {
-        let at = places[i];
-        slices::store(x, y, z, i, slices::point_in(px, py, pz, at));
-        i += 1;
+    for (i, at) in places.iter().enumerate() {
+        slices::store(x, y, z, i, slices::point_in(px, py, pz, *at));
     }
 }

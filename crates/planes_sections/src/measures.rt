@@ -15,10 +15,8 @@ fn sum(x: &[f64], y: &[f64], z: &[f64], n: usize) -> Vec3
     ensures { result ≡ fold plus origin (slice_points x.now y.now z.now n) }
 {
     let mut total = Vec3::new(0.0, 0.0, 0.0);
-    let mut i = 0;
-    while i < n {
+    for i in 0..n {
         total = total.add(slices::point_in(x, y, z, i));
-        i += 1;
     }
     total
 }
@@ -45,15 +43,13 @@ pub fn area(x: &[f64], y: &[f64], z: &[f64], n: usize) -> f64
 {
     let o = slices::point_in(x, y, z, 0);
     let mut total = 0.0;
-    let mut i = 1;
-    while i + 1 < n {
+    for i in 1..n - 1 {
         total = add_area(
             o,
             slices::point_in(x, y, z, i),
             slices::point_in(x, y, z, i + 1),
             total,
         );
-        i += 1;
     }
     total
 }

@@ -6,19 +6,17 @@ use Rattle.arith.specs.Records.{tab}
 use Rattle.planes_crossings.specs.Ensures.{slice_points, point_in, SliceLengths}
 use Rattle.planes_cut.proofs.Turns.{at-end}
 use Rattle.planes_crossings.proofs.HeldLaws.{rest-same, rest-stored, rest_then, gathered-more}
-use borrow.Author.Rules.{rules}
 use Rattle.planes_sections.proofs.angles.gather.Goals as goal
 
 pub loop-i-init : goal.loop-i-init
 unfolding slice_points tab
-loop-i-init c = (search rules, refl, refl, refl, rest-same, refl)
+loop-i-init c = (rest-same, refl)
 
 pub point_in-requires : goal.point_in-requires
 point_in-requires c = c.requires.0.within c.loop-i.i c.loop-i-test.true
 
 pub store-requires : goal.store-requires
 store-requires c =
-    let i = c.loop-i.invariant in
     let h = c.requires.1 in
     record { in-x = omega arith; in-y = omega arith; in-z = omega arith }
 
@@ -28,10 +26,10 @@ loop-i-preserved c =
     let i = c.loop-i.invariant in
     let h = c.requires.1 in
     let room : SliceLengths c.loop-i.x c.loop-i.y c.loop-i.z (c.loop-i.i + 1) = record { in-x = omega arith; in-y = omega arith; in-z = omega arith } in
-    (search rules, search rules, search rules, search rules, rest_then (omega arith) i.4 (rest-stored c.loop-i-test.true c.store.ensures), gathered-more (λ k. point_in a.px.now a.py.now a.pz.now (get_or a.places.now k 0)) c.loop-i.i room c.store.ensures c.point_in.ensures i.5)
+    (rest_then (omega arith) i.0 (rest-stored c.loop-i-test.true c.store.ensures), gathered-more (λ k. point_in a.px.now a.py.now a.pz.now (get_or a.places.now k 0)) c.loop-i.i room c.store.ensures c.point_in.ensures i.1)
 
 pub returns : goal.returns
 returns c =
     let a = c.args in
     let l = c.loop-i in
-    (at-end (λ n. slice_points l.x l.y l.z n ≡ tab (λ k. point_in a.px.now a.py.now a.pz.now (get_or a.places.now k 0)) n) l.invariant.0 c.loop-i-test.false l.invariant.5, l.invariant.4)
+    (at-end (λ n. slice_points l.x l.y l.z n ≡ tab (λ k. point_in a.px.now a.py.now a.pz.now (get_or a.places.now k 0)) n) (omega arith) c.loop-i-test.false l.invariant.1, l.invariant.0)

@@ -1,21 +1,21 @@
+use native.Mathlib.Omega.{arith}
 use Rattle.planes_crossings.specs.Ensures.{slice_points}
 use Rattle.planes_cut.proofs.Turns.{window-done}
 use Rattle.planes_crossings.proofs.HeldLaws.{held-window, held-past}
 use Rattle.planes_sections.proofs.PieceLaws.{area-start}
-use borrow.Author.Rules.{rules}
 use Rattle.planes_sections.proofs.measures.area.Goals as goal
 
 pub loop-i-init : goal.loop-i-init
 loop-i-init c =
     let a = c.args in
-    (search rules, search rules, area-start a.x.now a.y.now a.z.now a.n _ c.requires.1 c.point_in-o.ensures)
+    area-start a.x.now a.y.now a.z.now a.n _ c.requires.1 c.point_in-o.ensures
 
 pub loop-i-preserved : goal.loop-i-preserved
 loop-i-preserved c =
     let a = c.args in
-    (search rules, search rules, held-window _ a.x.now a.y.now a.z.now _ _ c.loop-i-test.true _ _ c.point_in.ensures c.point_in-in-loop-i.ensures _ c.loop-i.invariant.2 c.add_area-total.ensures)
+    held-window _ a.x.now a.y.now a.z.now _ _ (omega arith) _ _ c.point_in.ensures c.point_in-in-loop-i.ensures _ c.loop-i.invariant c.add_area-total.ensures
 
 pub returns : goal.returns
 returns c =
     let a = c.args in
-    window-done _ (slice_points a.x.now a.y.now a.z.now a.n) c.loop-i.i _ (held-past a.x.now a.y.now a.z.now _ _ c.loop-i-test.false).end c.loop-i.invariant.2
+    window-done _ (slice_points a.x.now a.y.now a.z.now a.n) c.loop-i.i _ (held-past a.x.now a.y.now a.z.now _ _ (omega arith)).end c.loop-i.invariant

@@ -1,4 +1,3 @@
-use Prim.Native.Nat.{◌≤◌, ◌-◌}
 use mathlib.Core.Path.{◌≡◌}
 use lib.ListN.{drop}
 use Rattle.arith.specs.Lists.{fold}
@@ -7,7 +6,4 @@ use Rattle.planes_crossings.specs.Ensures.{slice_points}
 use Rattle.planes_sections.proofs.measures.sum.Given as goal
 
 abbrev pub invariant-loop-i : goal.invariant-loop-i
-invariant-loop-i l = (l.i ≤ l.n) × (fold plus l.total (drop l.i (slice_points l.x l.y l.z l.n)) ≡ fold plus origin (slice_points l.x l.y l.z l.n))
-
-abbrev pub decreases-loop-i : goal.decreases-loop-i
-decreases-loop-i l = l.n - l.i
+invariant-loop-i l = fold plus l.total (drop l.i (slice_points l.x l.y l.z l.n)) ≡ fold plus origin (slice_points l.x l.y l.z l.n)
