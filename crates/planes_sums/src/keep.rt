@@ -15,15 +15,7 @@ use reading::Values;
 fn counted(measure: f64, value: f64) -> bool
     ensures { result ≡ Statistics.counted measure value }
 {
-    if float::is_finite(measure) {
-        if measure <= 0.0 {
-            false
-        } else {
-            float::is_finite(value)
-        }
-    } else {
-        false
-    }
+    float::is_finite(measure) && measure > 0.0 && float::is_finite(value)
 }
 
 // The sums with a sample of this measure, value and flux.
@@ -71,15 +63,7 @@ fn add_sample(normal: Vec3, field: u64, t: Sums, measure: f64, v: Values) -> Sum
 fn is_valid(a: f64, v: Values) -> bool
     ensures { result ≡ Integrals.is_valid a v }
 {
-    if float::is_finite(a) {
-        if float::is_finite(v.velocity.norm()) {
-            float::is_finite(v.pressure)
-        } else {
-            false
-        }
-    } else {
-        false
-    }
+    float::is_finite(a) && float::is_finite(v.velocity.norm()) && float::is_finite(v.pressure)
 }
 
 // The integrals with a sample of this area.

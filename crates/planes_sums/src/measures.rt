@@ -20,11 +20,7 @@ use reading::Values;
 pub fn has_finite_values(v: Values) -> bool
     ensures { result ≡ Sample.has_finite_values v }
 {
-    if v.velocity.is_finite() {
-        float::is_finite(v.pressure)
-    } else {
-        false
-    }
+    v.velocity.is_finite() && float::is_finite(v.pressure)
 }
 
 // A sum of area vectors with that of the triangle o, p, q.
@@ -41,15 +37,13 @@ fn area_vector(x: &[f64], y: &[f64], z: &[f64], n: usize) -> Vec3
 {
     let o = slices::point_in(x, y, z, 0);
     let mut total = Vec3::new(0.0, 0.0, 0.0);
-    let mut i = 1;
-    while i + 1 < n {
+    for i in 1..n - 1 {
         total = add_vector(
             o,
             slices::point_in(x, y, z, i),
             slices::point_in(x, y, z, i + 1),
             total,
         );
-        i += 1;
     }
     total
 }
@@ -116,12 +110,10 @@ pub(crate) fn covers(plane: Plane, q: Vec2, x: &[f64], y: &[f64], z: &[f64], n: 
     ensures { result ≡ Probe.covers plane q (slice_points x.now y.now z.now n) }
 {
     let mut inside = false;
-    let mut i = 0;
-    while i < n {
+    for i in 0..n {
         if side_crosses(plane, q, x, y, z, n, i) {
             inside = !inside;
         }
-        i += 1;
     }
     inside
 }

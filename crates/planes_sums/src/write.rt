@@ -15,10 +15,8 @@ fn put_points(answers: &mut [u64], at: usize, x: &[f64], y: &[f64], z: &[f64], n
     ensures { answers.new ≡ sets answers.old at
         (point_words (slice_points x.now y.now z.now n)) }
 {
-    let mut i = 0;
-    while i < n {
+    for i in 0..n {
         answers::put_vec(answers, at + 3 * i, slices::point_in(x, y, z, i));
-        i += 1;
     }
 }
 

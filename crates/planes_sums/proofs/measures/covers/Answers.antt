@@ -8,7 +8,7 @@ loop-i-init c = search (rest-start, rules)
 
 pub loop-i-preserved : goal.loop-i-preserved
 loop-i-preserved c =
-    (search rules, elim c.if-side_crosses.branch [ then-side_crosses w ↦ rest-toggled _ _ _ _ _ _ _ c.loop-i-test.true _ _ c.loop-i.invariant.1 _ c.side_crosses.ensures _ w.if-side_crosses.true w.inside-is | else-side_crosses w ↦ rest-kept _ _ _ _ _ _ _ c.loop-i-test.true _ _ c.loop-i.invariant.1 _ c.side_crosses.ensures _ w.if-side_crosses.false w.inside-is ])
+    elim c.if-side_crosses.branch [ then-side_crosses w ↦ rest-toggled _ _ _ _ _ _ _ c.loop-i-test.true _ _ c.loop-i.invariant _ c.side_crosses.ensures _ w.if-side_crosses.true w.inside-is | else-side_crosses w ↦ rest-kept _ _ _ _ _ _ _ c.loop-i-test.true _ _ c.loop-i.invariant _ c.side_crosses.ensures _ w.if-side_crosses.false w.inside-is ]
 
 pub returns : goal.returns
 returns c = search (rest_end, rules)

@@ -1,13 +1,8 @@
-use Prim.Native.Nat.{◌≤◌, ◌-◌}
 use mathlib.Core.Path.{◌≡◌}
-use lib.ListN.{length}
 use lib.Seq.{sets}
 use Rattle.planes_crossings.specs.Ensures.{slice_points}
 use Rattle.answers.specs.Words.{point_words}
 use Rattle.planes_sums.proofs.write.put_points.Given as goal
 
 abbrev pub invariant-loop-i : goal.invariant-loop-i
-invariant-loop-i l = (l.i ≤ l.n) × (length l.answers ≡ length l.initial.answers) × (l.answers ≡ sets l.initial.answers l.at (point_words (slice_points l.x l.y l.z l.i)))
-
-abbrev pub decreases-loop-i : goal.decreases-loop-i
-decreases-loop-i l = l.n - l.i
+invariant-loop-i l = l.answers ≡ sets l.initial.answers l.at (point_words (slice_points l.x l.y l.z l.i))
