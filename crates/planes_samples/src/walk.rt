@@ -104,15 +104,13 @@ fn sample_each(
         marks.old) result answers.new marks.new }
 {
     let mut tally = t;
-    let mut i = 0;
-    while i < s.cells {
+    for i in 0..s.cells {
         let Accumulated::Done(next) = step(
             case, n, words, s, cut, tally, i, x, y, z, answers, marks,
         ) else {
             return Accumulated::Bad;
         };
         tally = next;
-        i += 1;
     }
     Accumulated::Done(tally)
 }

@@ -5,21 +5,21 @@ use borrow.Author.Rules.{rules}
 use Rattle.planes_samples.proofs.walk.sample_each.Goals as goal
 
 pub loop-i-init : goal.loop-i-init
-loop-i-init c = (search rules, search rules, refl, refl, refl, refl, refl, refl)
+loop-i-init c = (search rules, refl)
 
 pub step-requires : goal.step-requires
 step-requires c =
     let l = c.loop-i in
-    record { sample_entry = (ready-same c.requires.sample_entry.0 l.invariant.6, c.loop-i-test.true); slice_lengths = (holds_same c.requires.slice_lengths.0 l.invariant.2 l.invariant.3 l.invariant.4, omega (arith, l.invariant.1, c.loop-i-test.true, c.requires.sample_entry.1)) }
+    record { sample_entry = (ready-same c.requires.sample_entry.0 l.auto.marks, c.loop-i-test.true); slice_lengths = (holds_same c.requires.slice_lengths.0 l.auto.x l.auto.y l.auto.z, omega (arith, l.invariant.0, c.loop-i-test.true, c.requires.sample_entry.1)) }
 
 pub returns-in_default : goal.returns-in_default
-returns-in_default c = stopped _ _ _ _ _ _ _ _ _ _ c.loop-i.invariant.7 c.loop-i-test.true _ _ _ c.step.ensures c.in_default.is
+returns-in_default c = stopped _ _ _ _ _ _ _ _ _ _ c.loop-i.invariant.1 c.loop-i-test.true _ _ _ c.step.ensures c.in_default.is
 
 pub loop-i-preserved : goal.loop-i-preserved
 loop-i-preserved c =
     let l = c.loop-i in
     let more = c.loop-i-test.true in
-    (search rules, turn-size _ _ _ _ _ _ _ _ _ _ l.invariant.7 more _ _ _ c.step.ensures _ c.in-Done.is l.invariant.1, search rules, search rules, search rules, search rules, search rules, turn _ _ _ _ _ _ _ _ _ _ l.invariant.7 more _ _ _ c.step.ensures _ c.in-Done.is)
+    (turn-size _ _ _ _ _ _ _ _ _ _ l.invariant.1 more _ _ _ c.step.ensures _ c.in-Done.is l.invariant.0, turn _ _ _ _ _ _ _ _ _ _ l.invariant.1 more _ _ _ c.step.ensures _ c.in-Done.is)
 
 pub returns : goal.returns
-returns c = all_done _ _ _ _ _ _ _ _ _ _ c.loop-i.invariant.7 c.loop-i-test.false
+returns c = all_done _ _ _ _ _ _ _ _ _ _ c.loop-i.invariant.1 c.loop-i-test.false
