@@ -23,18 +23,11 @@ use planes_samples::{Accumulated, walk};
 use planes_sums::{Accumulator, Integral, Probed, Summed, Sums, Weighed, measures};
 use reading::Values;
 
-fn both(a: bool, b: bool) -> bool
-    ensures { result ≡ (a && b) }
-{
-    if a { b } else { false }
-}
-
 // All four are finite.
 fn are_finite(a: f64, b: f64, c: f64, d: f64) -> bool
     ensures { result ≡ (finite a && (finite b && (finite c && finite d))) }
 {
-    let last = both(float::is_finite(c), float::is_finite(d));
-    both(float::is_finite(a), both(float::is_finite(b), last))
+    float::is_finite(a) && float::is_finite(b) && float::is_finite(c) && float::is_finite(d)
 }
 
 // All integrals are finite.
@@ -48,10 +41,7 @@ fn finite_integral(t: Integral) -> bool
 fn lacks_integrals(t: Integral) -> bool
     ensures { result ≡ Integrals.no_integrals t }
 {
-    if t.area <= 0.0 {
-        return true;
-    }
-    !finite_integral(t)
+    t.area <= 0.0 || !finite_integral(t)
 }
 
 // Area, means and flux.
@@ -88,21 +78,16 @@ fn end_integrals(r: Weighed, answers: &mut [u64]) -> Answered
 fn finite_sums(t: Sums) -> bool
     ensures { result ≡ Statistics.finite_sums t }
 {
-    let others = are_finite(t.flux, t.positive, t.negative, t.weighted);
-    both(
-        float::is_finite(t.area),
-        both(float::is_finite(t.integral), others),
-    )
+    float::is_finite(t.area)
+        && float::is_finite(t.integral)
+        && are_finite(t.flux, t.positive, t.negative, t.weighted)
 }
 
 // There is no area, or a sum is not finite.
 fn is_empty(t: Sums) -> bool
     ensures { result ≡ Statistics.empty t }
 {
-    if t.area <= 0.0 {
-        return true;
-    }
-    !finite_sums(t)
+    t.area <= 0.0 || !finite_sums(t)
 }
 
 // Weighted value and reverse fraction.
@@ -179,7 +164,7 @@ fn put_probed(r: Probed, answers: &mut [u64])
                 y: 0.0,
                 z: 0.0,
             };
-            answers::put(answers, 0, 0xffff_ffff_ffff_ffff);
+            answers::put(answers, 0, u64::MAX);
             answers::put_values(
                 answers,
                 1,
@@ -319,12 +304,11 @@ pub fn statistics(
         (values_of case.now) answers.old result answers.old answers.new
         marks.old marks.new }
 {
-    let top = f64::from_bits(0x7ff0_0000_0000_0000);
     let none = Sums {
         used: 0,
         area: 0.0,
-        least: top,
-        most: -top,
+        least: f64::INFINITY,
+        most: f64::NEG_INFINITY,
         integral: 0.0,
         flux: 0.0,
         positive: 0.0,

@@ -1,6 +1,11 @@
+use Rattle.std.proofs.Common.{rules}
 use Rattle.planes_sums.specs.Statistics.{finite_sums}
 use Rattle.planes.proofs.codes.finite_sums.Goals as goal
 
-pub returns : goal.returns
+pub returns-then-is_finite-2 : goal.returns-then-is_finite-2
 unfolding finite_sums
-returns c = rw (c.both-2.ensures, c.both.ensures, c.is_finite-2.ensures, c.is_finite.ensures, c.are_finite-others.ensures)
+returns-then-is_finite-2 c = search rules
+
+pub returns-else-is_finite-2 : goal.returns-else-is_finite-2
+unfolding finite_sums
+returns-else-is_finite-2 c = search rules

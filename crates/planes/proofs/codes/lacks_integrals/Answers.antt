@@ -1,10 +1,11 @@
+use Rattle.std.proofs.Common.{rules}
 use Rattle.planes_sums.specs.Integrals.{no_integrals}
 use Rattle.planes.proofs.codes.lacks_integrals.Goals as goal
 
 pub returns-then-t : goal.returns-then-t
 unfolding no_integrals
-returns-then-t c = rw c.if-t.true
+returns-then-t c = search rules
 
-pub returns : goal.returns
+pub returns-else-t : goal.returns-else-t
 unfolding no_integrals
-returns c = rw (c.if-t.false, c.finite_integral.ensures)
+returns-else-t c = search rules
