@@ -160,12 +160,7 @@ fn on_plane(case: &[u8], points: usize, words: &[u32], s: Sizes, cut: Cut, f: us
         (face_at (bare case.now points s words.now).faces f).vertices }
 {
     let n = mesh_area::vertex_count(words, s, f);
-    for k in 0..n {
-        if !heights::is_near(cut, heights::face_vertex(case, points, words, s, f, k)) {
-            return false;
-        }
-    }
-    true
+    (0..n).all(|k| heights::is_near(cut, heights::face_vertex(case, points, words, s, f, k)))
 }
 
 // The plane holds face f of the cell, which another cell owns.
@@ -204,11 +199,8 @@ pub fn has_foreign(
         (cell_at (bare case.now points s words.now).cells cell).faces }
 {
     let count = mesh_area::face_count(words, s, cell);
-    for j in 0..count {
+    (0..count).any(|j| {
         let f = mesh_area::cell_face(words, s, cell, j);
-        if is_foreign(case, points, words, s, cut, cell, f) {
-            return true;
-        }
-    }
-    false
+        is_foreign(case, points, words, s, cut, cell, f)
+    })
 }

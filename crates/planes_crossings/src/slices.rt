@@ -52,12 +52,7 @@ fn has(cut: Cut, p: Vec3, x: &[f64], y: &[f64], z: &[f64], n: usize) -> bool
     requires { SliceLengths x.now y.now z.now n }
     ensures { result ≡ any_of (close cut p) (slice_points x.now y.now z.now n) }
 {
-    for i in 0..n {
-        if is_close(cut, p, point_in(x, y, z, i)) {
-            return true;
-        }
-    }
-    false
+    (0..n).any(|i| is_close(cut, p, point_in(x, y, z, i)))
 }
 
 // Adds p to the n points, unless one of them is p; how many there are then.

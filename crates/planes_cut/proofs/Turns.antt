@@ -1,9 +1,11 @@
--- One turn and the end of a loop over a list: what is left at i begins with a. Assumes nothing.
-use Prim.Native.Nat.{ℕ, ◌+◌, ◌≤◌}
-use mathlib.Core.Path.{◌≡◌, ap, sym, ◌∙◌}
-use mathlib.Core.Bool.{Bool, true, false}
+-- One turn and the end of a loop over a list: what is left at i begins with a; and a test along the places of a list. Assumes nothing.
+use Prim.Native.Nat.{ℕ, zero, suc, ◌+◌, ◌≤◌, ◌<◌}
+use native.Mathlib.Omega.{arith}
+use mathlib.Core.Path.{◌≡◌, refl, ap, sym, ◌∙◌}
+use mathlib.Core.Bool.{Bool, true, false, ◌&&◌, ◌||◌}
 use mathlib.Core.List.{List, [], ◌∷◌}
 use lib.ListN.{length, drop}
+use Rattle.std.specs.List.{list_any, list_all, range_with_len}
 use Rattle.arith.specs.Lists.{fold, any_of, all_of, Side, sides_with, windows}
 use Rattle.arith.proofs.RecordLaws.{drop-end}
 
@@ -20,35 +22,37 @@ module _ {A : Type 0} {l : List A} {i : ℕ} {a : A} (h : Here l i a) where
   unfolding fold
   fold-turn f s inv e = ap (λ t. fold f t (drop (i + 1) l)) e ∙ sym (ap (fold f s) h.left) ∙ inv
 
-  module _ (p : A → Bool) {w : Bool} where
-    pub any-turn : any_of p (drop i l) ≡ w → p a ≡ false → any_of p (drop (i + 1) l) ≡ w
-    unfolding any_of
-    any-turn inv e = rw (h.left, e, any_of) at inv
-
-    pub any_found : any_of p (drop i l) ≡ w → p a ≡ true → true ≡ w
-    unfolding any_of
-    any_found inv e = rw (h.left, e, any_of) at inv
-
-    pub all-turn : all_of p (drop i l) ≡ w → p a ≡ true → all_of p (drop (i + 1) l) ≡ w
-    unfolding all_of
-    all-turn inv e = rw (h.left, e, all_of) at inv
-
-    pub all-failed : all_of p (drop i l) ≡ w → p a ≡ false → false ≡ w
-    unfolding all_of
-    all-failed inv e = rw (h.left, e, all_of) at inv
-
 module _ {A : Type 0} {l : List A} {i : ℕ} (h : Past l i) where
   pub fold_done : {B : Type 0} (f : B → A → B) (s : B) {w : B} → fold f s (drop i l) ≡ w → s ≡ w
   unfolding fold
   fold_done f s inv = rw (drop-end l i h.end) at inv
 
-  pub any-done : (p : A → Bool) {w : Bool} → any_of p (drop i l) ≡ w → false ≡ w
-  unfolding any_of
-  any-done p inv = rw (drop-end l i h.end) at inv
+-- ---- a test of each place in turn, of the elements f i
 
-  pub all_done : (p : A → Bool) {w : Bool} → all_of p (drop i l) ≡ w → true ≡ w
+module _ {A : Type 0} (p : A → Bool) (f : ℕ → A) (l : List A) (n : ℕ) (all : length l ≡ n) (here : (i : ℕ) → i < n → Here l i (f i)) where
+  any-from : (k i : ℕ) → i + k ≡ n → list_any (λ j. p (f j)) (range_with_len i k) ≡ any_of p (drop i l)
+  unfolding any_of
+  any-from zero i e = rw (drop-end l i (omega arith))
+  any-from (suc k) i e = rw ((here i (omega arith)).left, any_of) (by (p (f i)) (any-from k (i + 1) (omega arith)))
+    where
+      by : (t : Bool) {u w : Bool} → u ≡ w → (t || u) ≡ elim t [ true ↦ true | false ↦ w ]
+      by true e = refl
+      by false e = e
+
+  all-from : (k i : ℕ) → i + k ≡ n → list_all (λ j. p (f j)) (range_with_len i k) ≡ all_of p (drop i l)
   unfolding all_of
-  all_done p inv = rw (drop-end l i h.end) at inv
+  all-from zero i e = rw (drop-end l i (omega arith))
+  all-from (suc k) i e = rw ((here i (omega arith)).left, all_of) (by (p (f i)) (all-from k (i + 1) (omega arith)))
+    where
+      by : (t : Bool) {u w : Bool} → u ≡ w → (t && u) ≡ elim t [ true ↦ w | false ↦ false ]
+      by true e = e
+      by false e = refl
+
+  pub any-places : list_any (λ j. p (f j)) (range_with_len 0 n) ≡ any_of p l
+  any-places = any-from n 0 (omega arith)
+
+  pub all-places : list_all (λ j. p (f j)) (range_with_len 0 n) ≡ all_of p l
+  all-places = all-from n 0 (omega arith)
 
 -- ---- each element with the next one
 

@@ -1,27 +1,26 @@
-use mathlib.Core.Path.{ap, sym, ◌∙◌}
+use Prim.Native.Nat.{ℕ}
+use native.Mathlib.Omega.{arith}
+use mathlib.Core.Path.{refl, sym, ◌∙◌}
 use mathlib.Core.List.{[]}
-use Rattle.planes_cut.specs.Cut.{near}
+use lib.ListN.{get_or}
+use Rattle.std.proofs.Common.{rules, tests}
+use Rattle.std.proofs.lemmas.Iterator.{YieldsList-from_range}
+use Rattle.std.proofs.lemmas.Iterator.Search.{all_from_yields_List}
+use Rattle.mesh_area.specs.Tables.{face_at}
+use Rattle.planes_cut.specs.Ensures.{bare, face_vertex}
+use Rattle.planes_cut.proofs.Turns.{all-places}
+use Rattle.planes_cut.proofs.MeshLaws.{vertices-left}
 use Rattle.planes_crossings.specs.Crossings.{on_plane}
-use Rattle.planes_cut.specs.Ensures.{face_vertex}
-use Rattle.planes_cut.proofs.Turns.{all-turn, all-failed, all_done}
-use Rattle.planes_cut.proofs.MeshLaws.{vertices-left, vertices-past}
+use Rattle.planes_crossings.proofs.SideLaws.{count-vertices}
 use Rattle.planes_crossings.proofs.crossings.on_plane.Goals as goal
 
-pub loop-k-preserved : goal.loop-k-preserved
-unfolding on_plane face_vertex
-loop-k-preserved c =
-    let a = c.args in
-    let here = vertices-left a.case.now a.points a.s a.words.now a.f _ (c.vertex_count-n.ensures.0 []) c.loop-k.k c.loop-k-test.true in
-    all-turn here _ c.loop-k.invariant (ap (near a.cut) (sym c.face_vertex.ensures) ∙ sym c.is_near.ensures ∙ c.if-not-is_near.false)
-
-pub returns-then-not-is_near : goal.returns-then-not-is_near
-unfolding on_plane face_vertex
-returns-then-not-is_near c =
-    let a = c.args in
-    let here = vertices-left a.case.now a.points a.s a.words.now a.f _ (c.vertex_count-n.ensures.0 []) c.loop-k.k c.loop-k-test.true in
-    all-failed here _ c.loop-k.invariant (ap (near a.cut) (sym c.face_vertex.ensures) ∙ sym c.is_near.ensures ∙ c.if-not-is_near.true)
-
 pub returns : goal.returns
+unfolding on_plane face_vertex
 returns c =
     let a = c.args in
-    all_done (vertices-past a.case.now a.points a.s a.words.now a.f _ (c.vertex_count-n.ensures.0 []) c.loop-k.k c.loop-k-test.false) _ c.loop-k.invariant
+    let n = c.vertex_count-n.result in
+    let count = c.vertex_count-n.ensures.0 [] in
+    let mesh = bare a.case.now a.points a.s a.words.now in
+    let vertex = λ (k : ℕ). get_or (face_at mesh.faces a.f).vertices k 0 in
+    all_from_yields_List (λ k. on_plane mesh a.cut (vertex k)) _ _ _ c.all.ensures.ran (YieldsList-from_range 0 n n refl (omega arith)) (λ x b q k. search (rules, tests))
+    ∙ all-places (on_plane mesh a.cut) vertex _ n (sym (count-vertices _ _ _ _ a.f n count)) (vertices-left _ _ _ _ a.f n count)
