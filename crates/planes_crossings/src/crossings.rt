@@ -19,7 +19,7 @@ fn is_near_end(cut: Cut, a: End) -> bool
     requires { TrueHeight cut a }
     ensures { result ≡ near cut a.point }
 {
-    (a.height <= cut.tolerance) & (a.height >= -cut.tolerance)
+    heights::is_near_at(cut, a.height)
 }
 
 // a lies below the plane and b above it.

@@ -1,6 +1,7 @@
 // What the points of a cell show at a glance, so that a cell that the plane does not meet costs no
 // more than its signs.
 ghost use Rattle.std.specs.Prelude.{◌≡◌};
+ghost use Rattle.arith.specs.F64.{◌≼◌, abs};
 ghost use Rattle.planes_cut.specs.Cut as Cuts;
 ghost use Rattle.planes_cut.specs.Ensures.{bare, MeshLent, face_vertex, face_signs, sign_with, signs_of, may_meet};
 
@@ -15,12 +16,18 @@ pub fn height(cut: Cut, p: Vec3) -> f64
     p.sub(cut.plane.origin).dot(cut.normal)
 }
 
+// What lies h from the plane lies in it, within the tolerance.
+pub fn is_near_at(cut: Cut, h: f64) -> bool
+    ensures { result ≡ (abs h ≼ cut.tolerance) }
+{
+    (h <= cut.tolerance) & (h >= -cut.tolerance)
+}
+
 // p lies in the plane, within the tolerance.
 pub fn is_near(cut: Cut, p: Vec3) -> bool
     ensures { result ≡ Cuts.near cut p }
 {
-    let h = height(cut, p);
-    (h <= cut.tolerance) & (h >= -cut.tolerance)
+    is_near_at(cut, height(cut, p))
 }
 
 // The signs of some points with those of p.
@@ -28,7 +35,7 @@ fn add_sign(cut: Cut, p: Vec3, g: Signs) -> Signs
     ensures { result ≡ sign_with cut g p }
 {
     let h = height(cut, p);
-    let near = (h <= cut.tolerance) & (h >= -cut.tolerance);
+    let near = is_near_at(cut, h);
     let below = h < -cut.tolerance;
     let above = h > cut.tolerance;
     Signs {

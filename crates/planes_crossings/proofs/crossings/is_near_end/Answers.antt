@@ -1,7 +1,6 @@
-use Rattle.arith.proofs.Floats.{abs-within}
 use Rattle.planes_cut.specs.Cut.{near}
 use Rattle.planes_crossings.proofs.crossings.is_near_end.Goals as goal
 
 pub returns : goal.returns
 unfolding near
-returns c = rw (c.requires.same, abs-within)
+returns c = rw (c.is_near_at.ensures, c.requires.same)

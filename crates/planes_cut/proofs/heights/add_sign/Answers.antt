@@ -1,8 +1,7 @@
-use Rattle.arith.proofs.Floats.{abs-within}
 use Rattle.planes_cut.specs.Cut.{near, below, above}
 use Rattle.planes_cut.specs.Ensures.{sign_with}
 use Rattle.planes_cut.proofs.heights.add_sign.Goals as goal
 
 pub returns : goal.returns
 unfolding sign_with near below above
-returns c = rw (c.height-h.ensures, abs-within)
+returns c = rw (c.is_near_at-near.ensures, c.height-h.ensures)

@@ -1,7 +1,6 @@
-use Rattle.arith.proofs.Floats.{abs-within}
 use Rattle.planes_cut.specs.Cut.{near}
 use Rattle.planes_cut.proofs.heights.is_near.Goals as goal
 
 pub returns : goal.returns
 unfolding near
-returns c = rw (c.height-h.ensures, abs-within)
+returns c = rw (c.is_near_at.ensures, c.height.ensures)
