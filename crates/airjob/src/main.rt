@@ -25,6 +25,7 @@ fn read_full(file: &mut File, room: &mut [u8]) -> usize
     ensures { result ≤ length room.new }
 {
     let mut done = 0;
+    // No `for`: how much a read gives is known only once it was made.
     while done < room.len() {
         let n = file.read(&mut room[done..]).unwrap_or(0);
         if n == 0 {

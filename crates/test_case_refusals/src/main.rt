@@ -47,10 +47,8 @@ fn show_all(rt: &impl Print, file: &mut File) {
     let mut room = [0u8; LONGEST];
     let case: &mut [u8] = &mut room;
     let count = test_stored::number(file, 65536);
-    let mut i = 0;
-    while i < count {
+    for _ in 0..count {
         show(rt, file, case);
-        i += 1;
     }
 }
 

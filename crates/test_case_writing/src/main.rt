@@ -54,19 +54,15 @@ fn short_at(text: &[u8], at: usize) -> u32 {
 
 // The u64 of a text.
 fn put_longs(text: &[u8], room: &mut [u64]) {
-    let mut k = 0;
-    while k < room.len() {
-        room[k] = long_at(text, 8 * k);
-        k += 1;
+    for (k, long) in room.iter_mut().enumerate() {
+        *long = long_at(text, 8 * k);
     }
 }
 
 // The u32 of a text.
 fn put_shorts(text: &[u8], room: &mut [u32]) {
-    let mut k = 0;
-    while k < room.len() {
-        room[k] = short_at(text, 4 * k);
-        k += 1;
+    for (k, short) in room.iter_mut().enumerate() {
+        *short = short_at(text, 4 * k);
     }
 }
 
@@ -103,22 +99,8 @@ fn read_shorts(file: &mut File, text: &mut [u8], room: &mut [u32], from: usize) 
     end
 }
 
-fn fill(out: &mut [u8]) {
-    let mut k = 0;
-    while k < out.len() {
-        out[k] = 0xa5;
-        k += 1;
-    }
-}
-
 fn hash_of(out: &[u8]) -> u64 {
-    let mut hash = fnv::EMPTY;
-    let mut k = 0;
-    while k < out.len() {
-        hash = fnv::byte(hash, out[k]);
-        k += 1;
-    }
-    hash
+    out.iter().fold(fnv::EMPTY, |hash, b| fnv::byte(hash, *b))
 }
 
 // Ends the line of an input.
@@ -176,7 +158,7 @@ fn write(
     zones: &[u32],
     out: &mut [u8],
 ) {
-    fill(out);
+    out.fill(0xa5);
     let w = case_writer::write_case(n, points, words, velocities, pressures, zones, out);
     show_written(rt, w, out);
 }
@@ -249,7 +231,7 @@ fn show_write(
 
 // Runs the converter over an output of bytes a5.
 fn convert(rt: &impl Print, case: &[u8], edition: usize, out: &mut [u8]) {
-    fill(out);
+    out.fill(0xa5);
     let w = case_writer::convert(case, edition, out);
     show_written(rt, w, out);
 }
@@ -289,10 +271,8 @@ fn show_each(rt: &impl Print, file: &mut File, text: &mut [u8]) {
     let shorts: &mut [u32] = &mut shorts_room;
     let out: &mut [u8] = &mut out_room;
     let count = test_stored::number(file, 65536);
-    let mut i = 0;
-    while i < count {
+    for _ in 0..count {
         show(rt, file, text, longs, shorts, out);
-        i += 1;
     }
 }
 

@@ -78,10 +78,8 @@ fn put_vertices(rt: &impl Print, d: Digest, words: &[u32], s: Sizes, f: usize) -
 {
     let n = mesh_area::vertex_count(words, s, f);
     let mut out = put_number(rt, d, n);
-    let mut k = 0;
-    while k < n {
+    for k in 0..n {
         out = put_number(rt, out, mesh_area::vertex(words, s, f, k));
-        k += 1;
     }
     out
 }
@@ -110,10 +108,8 @@ fn put_face_table(rt: &impl Print, d: Digest, words: &[u32], floats: &[f64], s: 
     requires { LentWords s words.now × LentFloats s floats.now }
 {
     let mut out = d;
-    let mut f = 0;
-    while f < s.faces {
+    for f in 0..s.faces {
         out = put_face(rt, out, words, floats, s, f);
-        f += 1;
     }
     out
 }
@@ -123,10 +119,8 @@ fn put_cell_faces(rt: &impl Print, d: Digest, words: &[u32], s: Sizes, i: usize)
 {
     let n = mesh_area::face_count(words, s, i);
     let mut out = put_number(rt, d, n);
-    let mut k = 0;
-    while k < n {
+    for k in 0..n {
         out = put_number(rt, out, mesh_area::cell_face(words, s, i, k));
-        k += 1;
     }
     out
 }
@@ -136,10 +130,8 @@ fn put_neighbours(rt: &impl Print, d: Digest, words: &[u32], s: Sizes, i: usize)
 {
     let n = mesh_area::neighbour_count(words, s, i);
     let mut out = put_number(rt, d, n);
-    let mut k = 0;
-    while k < n {
+    for k in 0..n {
         out = put_number(rt, out, mesh_area::neighbour(words, s, i, k));
-        k += 1;
     }
     out
 }
@@ -159,10 +151,8 @@ fn put_cell_table(rt: &impl Print, d: Digest, words: &[u32], floats: &[f64], s: 
     requires { LentWords s words.now × LentFloats s floats.now }
 {
     let mut out = d;
-    let mut i = 0;
-    while i < s.cells {
+    for i in 0..s.cells {
         out = put_cell(rt, out, words, floats, s, i);
-        i += 1;
     }
     out
 }
@@ -226,10 +216,8 @@ fn show_all(rt: &impl Print, file: &mut File) {
     let words: &mut [u32] = &mut words_room;
     let floats: &mut [f64] = &mut floats_room;
     let count = test_stored::number(file, 65536);
-    let mut i = 0;
-    while i < count {
+    for _ in 0..count {
         show(rt, file, case, words, floats);
-        i += 1;
     }
 }
 

@@ -33,39 +33,15 @@ const ANSWERS: usize = 16384;
 const TEXT: usize = 16384;
 
 fn hash_of_answers(answers: &[u64]) -> u64 {
-    let mut hash = fnv::EMPTY;
-    let mut k = 0;
-    while k < answers.len() {
-        hash = fnv::word(hash, answers[k]);
-        k += 1;
-    }
-    hash
+    answers
+        .iter()
+        .fold(fnv::EMPTY, |hash, word| fnv::word(hash, *word))
 }
 
 fn hash_of_marks(marks: &[u8]) -> u64 {
-    let mut hash = fnv::EMPTY;
-    let mut k = 0;
-    while k < marks.len() {
-        hash = fnv::byte(hash, marks[k]);
-        k += 1;
-    }
-    hash
-}
-
-fn fill_answers(answers: &mut [u64]) {
-    let mut k = 0;
-    while k < answers.len() {
-        answers[k] = 0x5555_5555_5555_5555;
-        k += 1;
-    }
-}
-
-fn fill_marks(marks: &mut [u8]) {
-    let mut k = 0;
-    while k < marks.len() {
-        marks[k] = 7;
-        k += 1;
-    }
+    marks
+        .iter()
+        .fold(fnv::EMPTY, |hash, mark| fnv::byte(hash, *mark))
 }
 
 // Ends the line of a pair with the hashes of its buffers.
@@ -131,8 +107,8 @@ fn show_job(
     answers: &mut [u64],
     text: &mut [u8],
 ) {
-    fill_answers(answers);
-    fill_marks(marks);
+    answers.fill(0x5555_5555_5555_5555);
+    marks.fill(7);
     match job::job(case, requests, words, floats, marks, answers) {
         Outcome::Refused(k) => show_refusal(rt, shown, k, marks, answers, text),
         Outcome::Done => show_done(rt, shown, requests.len() / 128, marks, answers, text),
@@ -188,12 +164,10 @@ fn show_all(rt: &impl Print, file: &mut File) {
     let answers: &mut [u64] = &mut answers_room;
     let text: &mut [u8] = &mut text_room;
     let count = test_stored::number(file, 65536);
-    let mut i = 0;
-    while i < count {
+    for _ in 0..count {
         show(
             rt, file, case, requests, words, floats, marks, answers, text,
         );
-        i += 1;
     }
 }
 

@@ -1,13 +1,6 @@
-use Rattle.std.proofs.Common.{ℕ, ◌+◌, ◌<◌, Fits, w64, sym, rules}
+use Rattle.std.proofs.Common.{ℕ, sym}
 use lib.ListN.{length-replicate}
 use Rattle.test_case_refusals.proofs.show_all.Goals as goal
 
--- a lemma of its own, with no room among what it has to read
-fits_next : (i n : ℕ) → i < n → n < 18446744073709551616 → Fits w64 (i + 1)
-fits_next i n h b = search rules
-
 pub slice_bounds-case-end : goal.slice_bounds-case-end
 slice_bounds-case-end g c = sym (length-replicate {0} {A = ℕ} 6291548 0)
-
-pub overflow_add-i : goal.overflow_add-i
-overflow_add-i g c = fits_next c.loop-i.i c.number-count.result c.loop-i-test.true c.number-count.type_inv

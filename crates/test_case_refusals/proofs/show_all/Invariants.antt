@@ -1,6 +1,0 @@
-use Prim.Native.Nat.{◌-◌}
-use Rattle.test_case_refusals.proofs.show_all.Given as goal
-
--- `test_case_refusals::show_all` is safe and ends. The measure is the number of cases that are left. Assumes nothing.
-abbrev pub decreases-loop-i : goal.decreases-loop-i
-decreases-loop-i g l = l.count - l.i

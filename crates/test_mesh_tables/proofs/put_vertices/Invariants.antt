@@ -1,6 +1,0 @@
-use Prim.Native.Nat.{◌-◌}
-use Rattle.test_mesh_tables.proofs.put_vertices.Given as goal
-
--- `test_mesh_tables::put_vertices` is safe and ends. The measure is what is left. Assumes nothing.
-abbrev pub decreases-loop-k : goal.decreases-loop-k
-decreases-loop-k g l = l.n - l.k
