@@ -9,7 +9,6 @@ ghost use Rattle.mesh_area.specs.Tables.{point_at, face_at, cell_at};
 ghost use Rattle.mesh_area.specs.Layout as Layout;
 ghost use Rattle.mesh_area.specs.Layout.{points_in, faces_in, cells_in, vec_from, mesh_words, mesh_floats, LentWords, LentFloats};
 
-use arith::number::wide;
 use arith::{Found, Vec3};
 
 // The words of a face's record, by their offset: its vertex count, its vertices, its owner, its
@@ -67,7 +66,7 @@ fn word_in(words: &[u32], end: usize, i: usize) -> usize
     requires { end ≤ length words.now }
     ensures { (result ≡ get_or (take end words.now) i 0) × (result < 2^32) }
 {
-    if i < end { wide(words[i]) } else { 0 }
+    if i < end { words[i] as usize } else { 0 }
 }
 
 // Float i of the first `end`.

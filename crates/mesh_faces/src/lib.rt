@@ -6,7 +6,6 @@ ghost use Rattle.std.proofs.lemmas.List.Edits.{sets};
 ghost use Rattle.mesh_area.specs.Layout.{LentWords};
 ghost use Rattle.mesh_faces.specs.Ensures.{AddEntry, AddExit, SettleExit, UseFaceEntry, UseFaceExit};
 
-use arith::number::narrow;
 use mesh_area::Sizes;
 use mesh_geometry::FaceGeometry;
 
@@ -37,7 +36,7 @@ fn add(
     let b = mesh_keys::sum(vertices) % slots;
     let link = mesh_face_table::head_of(words, slots, b);
     mesh_face_table::store_face(words, n, vertices, cell, link);
-    mesh_face_table::store_head(words, slots, b, narrow(n) + 1);
+    mesh_face_table::store_head(words, slots, b, n as u32 + 1);
     mesh_face_table::store_measured(floats, n, m);
 }
 
@@ -92,7 +91,7 @@ pub fn use_face(
         s.faces,
         vertices,
         m,
-        narrow(cell),
+        cell as u32,
     )
 }
 
