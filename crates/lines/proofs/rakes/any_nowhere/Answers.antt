@@ -1,9 +1,5 @@
 use Rattle.lines.proofs.JobLaws.{seed-lost, seed-found, all_found}
-use mathlib.Core.Path.{refl}
 use Rattle.lines.proofs.rakes.any_nowhere.Goals as goal
-
-pub loop-i-init : goal.loop-i-init
-loop-i-init c = λ case. refl
 
 pub returns-then-is_nowhere : goal.returns-then-is_nowhere
 returns-then-is_nowhere c = λ case. seed-lost _ _ _ _ (c.loop-i.invariant case) _ _ c.loop-i-test.true c.seed_at.ensures (c.is_nowhere.ensures case) c.if-is_nowhere.true

@@ -8,9 +8,6 @@ use Rattle.lines.proofs.rakes.trace_all.Goals as goal
 pub loop-i-init : goal.loop-i-init
 loop-i-init c = record { done = []; as_many = refl; few = omega arith; stand = refl; locate = c.requires.rake_value; going = lines-begun _ _ _ }
 
-pub overflow_add-written : goal.overflow_add-written
-overflow_add-written c = omega (arith, c.loop-i.invariant.few)
-
 pub trace-more-requires : goal.trace-more-requires
 trace-more-requires c =
     let entry = c.requires in
@@ -19,9 +16,6 @@ trace-more-requires c =
       at_bound = rw c.pen_at-pen.ensures (omega (arith, i.few, entry.le_count), refl, entry.le_count.2);
       seed_value = (seed-locates _ _ _ _ i.locate c.loop-i-test.true c.seed_at-seed.ensures).0;
     }
-
-pub overflow_add-written-in-loop-i : goal.overflow_add-written-in-loop-i
-overflow_add-written-in-loop-i c = omega (arith, c.loop-i.invariant.few, c.trace-more.ensures.1, c.requires.le_count)
 
 pub loop-i-preserved : goal.loop-i-preserved
 loop-i-preserved c =
