@@ -1,10 +1,5 @@
-use native.Mathlib.Omega.{arith}
-use Rattle.arith.proofs.Counts.{whole_in}
 use Rattle.lines_field.specs.Bins.{bin_counts}
 use Rattle.lines_field.proofs.bins.bin_counts.Goals as goal
-
-pub int_to_float-count : goal.int_to_float-count
-int_to_float-count c = whole_in _ (omega arith)
 
 pub returns : goal.returns
 unfolding bin_counts
