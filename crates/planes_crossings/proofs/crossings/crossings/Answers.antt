@@ -13,7 +13,7 @@ use Rattle.planes_crossings.proofs.crossings.crossings.Goals as goal
 
 pub loop-j-init : goal.loop-j-init
 unfolding crossings slice_points tab
-loop-j-init c = (search rules, rest-same, refl, refl, refl, refl)
+loop-j-init c = (search rules, rest-same, refl)
 
 pub add_face-n-requires : goal.add_face-n-requires
 add_face-n-requires c =
@@ -28,11 +28,11 @@ loop-j-preserved c =
     let a = c.args in
     let i = c.loop-j.invariant in
     let g = faces-left a.case.now a.points a.s a.words.now a.cell c.face_count-count.result (c.face_count-count.ensures.0 []) c.loop-j.j _ (c.cell_face-f.ensures.0 []) c.loop-j-test.true in
-    (omega (arith, c.add_face-n.ensures.few), rest_then c.add_face-n.ensures.more i.1 c.add_face-n.ensures.rest, search rules, search rules, search rules, listed-turn g _ _ _ i.5 c.add_face-n.ensures)
+    (omega (arith, c.add_face-n.ensures.few), rest_then c.add_face-n.ensures.more i.1 c.add_face-n.ensures.rest, listed-turn g _ _ _ i.2 c.add_face-n.ensures)
 
 pub returns : goal.returns
 returns c =
     let a = c.args in
     let i = c.loop-j.invariant in
     let few = few-faces a.case.now a.points a.s a.words.now a.cell c.face_count-count.result (c.face_count-count.ensures.0 []) c.requires.mesh_limits in
-    record { list = fold_done (faces-past a.case.now a.points a.s a.words.now a.cell c.face_count-count.result (c.face_count-count.ensures.0 []) c.loop-j.j c.loop-j-test.false) _ _ i.5; more = omega arith; few = omega arith; rest = i.1 }
+    record { list = fold_done (faces-past a.case.now a.points a.s a.words.now a.cell c.face_count-count.result (c.face_count-count.ensures.0 []) c.loop-j.j c.loop-j-test.false) _ _ i.2; more = omega arith; few = omega arith; rest = i.1 }

@@ -12,14 +12,6 @@ pub loop-i-init : goal.loop-i-init
 unfolding slice_points tab
 loop-i-init c = (rest-same, refl)
 
-pub point_in-requires : goal.point_in-requires
-point_in-requires c = c.requires.0.within c.loop-i.i c.loop-i-test.true
-
-pub store-requires : goal.store-requires
-store-requires c =
-    let h = c.requires.1 in
-    record { in-x = omega arith; in-y = omega arith; in-z = omega arith }
-
 pub loop-i-preserved : goal.loop-i-preserved
 loop-i-preserved c =
     let a = c.args in
