@@ -5,12 +5,12 @@ use mathlib.Core.Path.{◌≡◌, refl, ap, ◌∙◌}
 use mathlib.Core.List.{List, [], ◌++◌, append-nil}
 use lib.ListN.{length, take, drop, length-append, length-drop, drop_of_length-le}
 use lib.Seq.{sets, sets-eq, take_all, take_at, drop_at, take-append-le, length-take-le, take-take}
-use Rattle.reading.specs.Result.{Result, refused, fine}
-use Rattle.answers.specs.declared.Answered.{Answered}
-use Rattle.answers.specs.Ensures.{answer_of, length_of, replied, StoredWords, CloseExit}
+use Rattle.reading.specs.Result.{Refusable}
+use Rattle.answers.specs.Ensures.{length_of, replied, StoredWords, CloseExit}
 use Rattle.answers.proofs.Behind.{Behind}
 use Rattle.answers.specs.Answer.{fitting, answer_words, header_of}
 use Rattle.answers.proofs.BufferLaws.{closed-placed}
+use Rattle.std.specs.Prelude.{Ok, Err}
 
 module _ (o out' : List ℕ) (at : ℕ) (fits : at + 2 ≤ length o) where
   -- the answers with other words behind the header
@@ -27,10 +27,10 @@ module _ (o out' : List ℕ) (at : ℕ) (fits : at + 2 ≤ length o) where
   lent-before = take-append-le at (take (at + 2) o) out' (omega (arith, head-long)) ∙ take-take at (at + 2) o (omega arith)
 
   -- a reply that fits stands there
-  pub behind : (reply : Result (List ℕ)) (left : List ℕ) → out' ≡ replied (drop (at + 2) o) left reply → length out' ≡ length (drop (at + 2) o) → Behind reply lent at
+  pub behind : (reply : Refusable (List ℕ)) (left : List ℕ) → out' ≡ replied (drop (at + 2) o) left reply → length out' ≡ length (drop (at + 2) o) → Behind reply lent at
   unfolding replied
-  behind (refused n) left e long = record { words = λ ws s h. absurd (let z : ◌≡◌ {A = ℕ} 0 1 = cc in omega arith) }
-  behind (fine vs) left e long =
+  behind (Err n) left e long = record { words = λ ws s h. absurd (let z : ◌≡◌ {A = ℕ} 0 1 = cc in omega arith) }
+  behind (Ok vs) left e long =
       record {
         words = λ ws s h.
             let same : vs ≡ ws = cc in
@@ -42,7 +42,7 @@ module _ (o out' : List ℕ) (at : ℕ) (fits : at + 2 ≤ length o) where
       front : (ws d : List ℕ) → take (length ws) (ws ++ d) ≡ ws
       front ws d = take_at ws d (length ws) refl
 
-module _ (reply : Result (List ℕ)) (a : Answered) (left o out' o' : List ℕ) (at later e : ℕ) (tells : answer_of a ≡ length_of reply) (fits : at + 2 + 2 * later ≤ length o) where
+module _ (reply : Refusable (List ℕ)) (a : Refusable ℕ) (left o out' o' : List ℕ) (at later e : ℕ) (tells : a ≡ length_of reply) (fits : at + 2 + 2 * later ≤ length o) where
   pub placed-behind : out' ≡ replied (drop (at + 2) o) left reply → length out' ≡ length (drop (at + 2) o)
       → CloseExit (header_of (length (take (at + 2) o ++ out') - at) later a) (take (at + 2) o ++ out') o' at e
       → StoredWords (answer_words (fitting (length o - at) later reply)) o o' at later e

@@ -8,12 +8,14 @@ use lib.Dec.{leb}
 use lib.ListN.{length, get_or, set, take, drop, length-append, length-set}
 use lib.Seq.{length-take-le, drop-cons, split_at, set_at, take-append-add}
 use borrow.Author.Tests.{le-leb, lt-leb, leb-true}
-use Rattle.reading.specs.Result.{Result, refused, fine}
-use Rattle.answers.specs.declared.Answered.{Answered}
-use Rattle.answers.specs.declared.Answered.TheVariants.{Words, Refused}
-use Rattle.answers.specs.Ensures.{answer_of, length_of, StoredWords, CloseExit}
+use Rattle.reading.specs.Result.{Refusable}
+use Rattle.answers.specs.Ensures.{length_of, StoredWords, CloseExit}
 use Rattle.answers.proofs.Behind.{Behind}
 use Rattle.answers.specs.Answer.{fitting, answer_words, header_of}
+use Rattle.std.specs.Prelude.{Ok, Err}
+use Rattle.refusal.specs.Number.{number}
+use Rattle.refusal.specs.declared.Refusal.{Refusal}
+use Rattle.refusal.specs.declared.Refusal.TheVariants.{AnswerTooLong}
 
 -- ---- one answer
 
@@ -52,19 +54,19 @@ pub set_long : (o : List ℕ) (i j a b : ℕ) → length (set (set o i a) j b) �
 set_long o i j a b = simp length-set refl
 
 -- the answer of a refusal
-pub placed-refused : (o o' : List ℕ) (at later k r : ℕ) → at + 2 + 2 * later ≤ length o → r ≡ at + 2 + 0 → o' ≡ set (set o at k) (at + 1) 0 → StoredWords (answer_words (refused k)) o o' at later r
+pub placed-refused : (o o' : List ℕ) (at later : ℕ) (k : Refusal) (r : ℕ) → at + 2 + 2 * later ≤ length o → r ≡ at + 2 + 0 → o' ≡ set (set o at (number k)) (at + 1) 0 → StoredWords (answer_words (Err k)) o o' at later r
 unfolding answer_words
 placed-refused o o' at later k r h e s =
     record {
-      words = ap (λ (i : ℕ). take i o') e ∙ ap (take (at + 2 + 0)) s ∙ header o at k 0 0 (omega arith);
+      words = ap (λ (i : ℕ). take i o') e ∙ ap (take (at + 2 + 0)) s ∙ header o at (number k) 0 0 (omega arith);
       end = omega arith;
       room = omega arith;
-      long = ap length s ∙ set_long o at (at + 1) k 0;
+      long = ap length s ∙ set_long o at (at + 1) (number k) 0;
     }
 
 -- the answer of words that stand
 pub placed-words : (o o' ws : List ℕ) (at later k r : ℕ) → k ≡ length ws → at + 2 + k + 2 * later ≤ length o → take k (drop (at + 2) o) ≡ ws → r ≡ at + 2 + k
-    → o' ≡ set (set o at 0) (at + 1) k → StoredWords (answer_words (fine ws)) o o' at later r
+    → o' ≡ set (set o at 0) (at + 1) k → StoredWords (answer_words (Ok ws)) o o' at later r
 unfolding answer_words
 placed-words o o' ws at later k r c h w e s =
     record {
@@ -76,17 +78,17 @@ placed-words o o' ws at later k r c h w e s =
 
 -- ---- the three ends of `close`
 
-module _ {o o' : List ℕ} {at e : ℕ} {r : Answered} (later : ℕ) where
-  pub close-refused : {k : ℕ} → r ≡ Refused k → (e ≡ at + 2 + 0) × (o' ≡ set (set o at k) (at + 1) 0) → CloseExit (header_of (length o - at) later r) o o' at e
+module _ {o o' : List ℕ} {at e : ℕ} {r : Refusable ℕ} (later : ℕ) where
+  pub close-refused : {k : Refusal} → r ≡ Err k → (e ≡ at + 2 + 0) × (o' ≡ set (set o at (number k)) (at + 1) 0) → CloseExit (header_of (length o - at) later r) o o' at e
   unfolding header_of
   close-refused q p = rw q (record { answers = p.1; end = p.0 })
 
-  pub close-fits : {k : ℕ} → r ≡ Words k → at + 2 + 2 * later ≤ length o → k ≤ length o - at - 2 - 2 * later
+  pub close-fits : {k : ℕ} → r ≡ Ok k → at + 2 + 2 * later ≤ length o → k ≤ length o - at - 2 - 2 * later
       → (e ≡ at + 2 + k) × (o' ≡ set (set o at 0) (at + 1) k) → CloseExit (header_of (length o - at) later r) o o' at e
   unfolding header_of
   close-fits {k = k} q h f p = rw (q, le-leb (k + 2 + 2 * later) (length o - at) (omega arith)) (record { answers = p.1; end = p.0 })
 
-  pub close-44 : {k : ℕ} → r ≡ Words k → at + 2 + 2 * later ≤ length o → length o - at - 2 - 2 * later < k
+  pub close-44 : {k : ℕ} → r ≡ Ok k → at + 2 + 2 * later ≤ length o → length o - at - 2 - 2 * later < k
       → (e ≡ at + 2 + 0) × (o' ≡ set (set o at 44) (at + 1) 0) → CloseExit (header_of (length o - at) later r) o o' at e
   unfolding header_of
   close-44 {k = k} q h f p = rw (q, lt-leb (k + 2 + 2 * later) (length o - at) (omega arith)) (record { answers = p.1; end = p.0 })
@@ -94,21 +96,21 @@ module _ {o o' : List ℕ} {at e : ℕ} {r : Answered} (later : ℕ) where
 -- ---- the answer that r tells of, 44 where it does not fit, stands from `at` on
 
 module _ (o o' : List ℕ) (at later e : ℕ) (h : at + 2 + 2 * later ≤ length o) where
-  words_placed : (ws : List ℕ) (t : Bool) → leb (length ws + 2 + 2 * later) (length o - at) ≡ t → Behind (fine ws) o at
-      → CloseExit (cond t (record { refusal = 0; count = length ws }) (record { refusal = 44; count = 0 })) o o' at e → StoredWords (answer_words (cond t (fine ws) (refused 44))) o o' at later e
+  words_placed : (ws : List ℕ) (t : Bool) → leb (length ws + 2 + 2 * later) (length o - at) ≡ t → Behind (Ok ws) o at
+      → CloseExit (cond t (record { refusal = 0; count = length ws }) (record { refusal = 44; count = 0 })) o o' at e → StoredWords (answer_words (cond t (Ok ws) (Err AnswerTooLong))) o o' at later e
   words_placed ws true q b c =
       let fits = leb-true (length ws + 2 + 2 * later) (length o - at) q in
       placed-words o o' ws at later (length ws) e refl (omega arith) (b.words ws refl (omega arith)) c.end c.answers
-  words_placed ws false q b c = placed-refused o o' at later 44 e h c.end c.answers
+  words_placed ws false q b c = placed-refused o o' at later AnswerTooLong e h c.end c.answers
 
-  pub closed-placed : (reply : Result (List ℕ)) (r : Answered) → answer_of r ≡ length_of reply → Behind reply o at → CloseExit (header_of (length o - at) later r) o o' at e
+  pub closed-placed : (reply : Refusable (List ℕ)) (r : Refusable ℕ) → r ≡ length_of reply → Behind reply o at → CloseExit (header_of (length o - at) later r) o o' at e
       → StoredWords (answer_words (fitting (length o - at) later reply)) o o' at later e
-  unfolding header_of answer_of length_of fitting
-  closed-placed (refused n) (Refused k) q b c =
+  unfolding header_of length_of fitting
+  closed-placed (Err n) (Err k) q b c =
       let same : k ≡ n = cc in
-      placed-refused o o' at later n e h c.end (c.answers ∙ ap (λ (i : ℕ). set (set o at i) (at + 1) 0) same)
-  closed-placed (refused n) (Words k) q b c = absurd (let z : ◌≡◌ {A = ℕ} 0 1 = cc in omega arith)
-  closed-placed (fine ws) (Refused k) q b c = absurd (let z : ◌≡◌ {A = ℕ} 0 1 = cc in omega arith)
-  closed-placed (fine ws) (Words k) q b c =
+      placed-refused o o' at later n e h c.end (c.answers ∙ ap (λ (i : Refusal). set (set o at (number i)) (at + 1) 0) same)
+  closed-placed (Err n) (Ok k) q b c = absurd (let z : ◌≡◌ {A = ℕ} 0 1 = cc in omega arith)
+  closed-placed (Ok ws) (Err k) q b c = absurd (let z : ◌≡◌ {A = ℕ} 0 1 = cc in omega arith)
+  closed-placed (Ok ws) (Ok k) q b c =
       let same : k ≡ length ws = cc in
       words_placed ws (leb (length ws + 2 + 2 * later) (length o - at)) refl b (rw same at c)

@@ -4,7 +4,7 @@ ghost use Rattle.reading.specs.Marks.{cleared};
 ghost use Rattle.answers.specs.Answer.{header_of};
 ghost use Rattle.answers.specs.Ensures.{CloseExit};
 
-use crate::Answered;
+use refusal::Refusal;
 
 // Stores the header at `at`: the refusal, or 0, and the count. Where the next answer goes.
 fn put_header(answers: &mut [u64], at: usize, refusal: u64, count: usize) -> usize
@@ -18,18 +18,18 @@ fn put_header(answers: &mut [u64], at: usize, refusal: u64, count: usize) -> usi
 }
 
 // The header by what was answered; 44 where the words do not fit beside two for each later answer.
-pub fn close(answers: &mut [u64], at: usize, later: usize, r: Answered) -> usize
+pub fn close(answers: &mut [u64], at: usize, later: usize, r: Result<usize, Refusal>) -> usize
     requires { at + 2 + 2 * later ≤ length answers.old }
     ensures { CloseExit (header_of (length answers.old - at) later r)
         answers.old answers.new at result }
 {
     match r {
-        Answered::Refused(k) => put_header(answers, at, k, 0),
-        Answered::Words(k) => {
+        Err(refusal) => put_header(answers, at, refusal.number(), 0),
+        Ok(k) => {
             if k <= answers.len() - at - 2 - 2 * later {
                 put_header(answers, at, 0, k)
             } else {
-                put_header(answers, at, 44, 0)
+                put_header(answers, at, Refusal::AnswerTooLong.number(), 0)
             }
         }
     }

@@ -11,13 +11,6 @@ ghost use Rattle.answers.specs.Words.{vec_words, values_words};
 use arith::{Vec3, bytes};
 use reading::Values;
 
-// How many words the whole answer has, or its refusal.
-#[derive(Clone, Copy)]
-pub enum Answered {
-    Words(usize),
-    Refused(u64),
-}
-
 // Word `at`, where there is one.
 pub fn put(out: &mut [u64], at: usize, w: u64)
     ensures { out.new ≡ set out.old at w }

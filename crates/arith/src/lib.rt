@@ -23,10 +23,3 @@ pub struct Vec2 {
     pub x: f64,
     pub y: f64,
 }
-
-// Where something was found.
-#[derive(Clone, Copy)]
-pub enum Found {
-    At(usize),
-    Nothing,
-}

@@ -7,8 +7,9 @@ mod files;
 
 ghost use Rattle.std.specs.Prelude.{◌≡◌, length};
 ghost use Rattle.case_survey.specs.Survey.{survey_of};
+ghost use Rattle.job_promise.specs.Job.{number_of};
 ghost use Rattle.job_promise.specs.Promise.{JobPromise};
-ghost use Rattle.job_needs.specs.Needs.{needs_number, needs_of};
+ghost use Rattle.job_needs.specs.Needs.{needs_result, needs_of};
 
 use job_promise::number_of;
 
@@ -34,8 +35,8 @@ pub extern "C" fn hookyellow_job(
 // places.
 #[unsafe(no_mangle)]
 pub extern "C" fn hookyellow_needs(case: &[u8], needs: &mut [usize]) -> u64
-    ensures value { result ≡ needs_number (survey_of case.now) (length needs.old) }
+    ensures value { result ≡ number_of (needs_result (survey_of case.now) (length needs.old)) }
     ensures needs_after { needs.new ≡ needs_of (survey_of case.now) needs.old }
 {
-    job_needs::needs(case, needs)
+    number_of(job_needs::needs(case, needs))
 }

@@ -1,9 +1,9 @@
 -- The values of the exported functions as those of the crates below.
 -- `vector_of`, `plane_of`: a vector, a plane. `direction_of`, `options_of`, `settings_of`: the settings of a line. `rake_of`: a rake.
 -- `search_of`: which cells a point is looked for in. `counts_from`, `file_told`: the counts of a case file, and what is told of one that was written.
-use Rattle.std.specs.Prelude.{ℕ, Bool, true, false}
+use Rattle.std.specs.Prelude.{ℕ, Bool, true, false, Ok, Err}
 use Rattle.arith.specs.declared.Vec3.{Vec3}
-use Rattle.reading.specs.Result.{Result, refused, fine}
+use Rattle.reading.specs.Result.{Refusable}
 use Rattle.case_file.specs.declared.Counts.{Counts}
 use Rattle.lines_step.specs.declared.StreamlineOptions.{StreamlineOptions}
 use Rattle.lines.specs.declared.StreamlineDirection.{StreamlineDirection}
@@ -18,6 +18,7 @@ use Rattle.capi_values.specs.declared.SectionPlane.{SectionPlane}
 use Rattle.capi_values.specs.declared.LineOptions.{LineOptions}
 use Rattle.capi_values.specs.declared.CaseCounts.{CaseCounts}
 use Rattle.capi_values.specs.declared.WrittenFile.{WrittenFile}
+use Rattle.refusal.specs.Number.{number}
 
 -- a vector
 unfoldable pub vector_of : Vector → Vec3
@@ -60,6 +61,6 @@ unfoldable pub counts_from : CaseCounts → Counts
 counts_from n = record { dimension = n.dimension; points = n.points; words = n.words; cells = n.cells; edition = n.edition }
 
 -- 0 and the file's length, or the refusal and 0
-unfoldable pub file_told : Result ℕ → WrittenFile
-file_told (fine n) = record { refusal = 0; length = n }
-file_told (refused k) = record { refusal = k; length = 0 }
+unfoldable pub file_told : Refusable ℕ → WrittenFile
+file_told (Ok n) = record { refusal = 0; length = n }
+file_told (Err k) = record { refusal = number k; length = 0 }

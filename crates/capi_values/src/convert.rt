@@ -1,16 +1,15 @@
 // The values of this crate as those of the crates below.
 ghost use Rattle.std.specs.Prelude.{◌≡◌};
 ghost use Rattle.capi_values.specs.Convert.{vector_of, plane_of, direction_of, options_of, settings_of, rake_of, search_of, counts_from, file_told};
-ghost use Rattle.case_writer.specs.Ensures.{length_of};
 
 use crate::{CaseCounts, LineOptions, SectionPlane, Vector, WrittenFile};
 use arith::Vec3;
 use case_file::Counts;
-use case_writer::Written;
 use lines::{Rake, StreamlineDirection, StreamlineSettings};
 use lines_locate::Search;
 use lines_step::StreamlineOptions;
 use planes_cut::Plane;
+use refusal::Refusal;
 
 pub fn vector(p: Vector) -> Vec3
     ensures { result ≡ vector_of p }
@@ -90,16 +89,16 @@ pub fn counts(n: CaseCounts) -> Counts
     }
 }
 
-pub fn file(w: Written) -> WrittenFile
-    ensures { result ≡ file_told (length_of w) }
+pub fn file(w: Result<usize, Refusal>) -> WrittenFile
+    ensures { result ≡ file_told w }
 {
     match w {
-        Written::Length(n) => WrittenFile {
+        Ok(n) => WrittenFile {
             refusal: 0,
             length: n,
         },
-        Written::Refused(k) => WrittenFile {
-            refusal: k,
+        Err(refusal) => WrittenFile {
+            refusal: refusal.number(),
             length: 0,
         },
     }

@@ -10,7 +10,7 @@ use lib.Seq.{take-append_seam}
 use borrow.Author.Tests.{eqb-true, eqb-false, ne_eqb, le-ltb}
 use Rattle.arith.specs.Lists.{all_of}
 use Rattle.arith.proofs.All.{All}
-use Rattle.reading.specs.Result.{Result, fine, ◌>>=◌, refuse}
+use Rattle.reading.specs.Result.{Refusable, ◌>>=◌, refuse}
 use Rattle.reading.proofs.ResultLaws.{bound, not-due}
 use Rattle.case_file.specs.Trailer.{trailer_word, edition_of, counts_of}
 use Rattle.case_file.specs.Field.{zone_of, zones_of, is_at_most}
@@ -20,6 +20,8 @@ use Rattle.case_contents.specs.Refusals.{is_edition, loses_zones, writable, writ
 use Rattle.case_contents.specs.Promise.{output_after, ReadsAs, WritePromise, ConvertPromise}
 use Rattle.case_contents.proofs.RoundTrip.{Bits, written_back, read_again, read-bits, zone-one, all-by-place}
 use Rattle.case_contents.proofs.RefusalLaws.{Right, right, accepts-written, Found, found, read-writable}
+use Rattle.std.specs.Prelude.{Ok}
+use Rattle.refusal.specs.declared.Refusal.TheVariants.{WrongTrailer}
 
 -- ---- contents in their own edition
 
@@ -52,13 +54,13 @@ module _ (file : List ℕ) where
 
   -- an accepted file can be written again
   module _ (f : Found file) where
-    own_writable : writable (contents_of file) ≡ fine tt
+    own_writable : writable (contents_of file) ≡ Ok tt
     unfolding refuse
     own_writable =
         let e = read-writable file (counts_of file).edition f edition-read in
         (rw own-edition at e) ∙ rw none-lost
 
-    pub own-written : All (λ b. b < 256) file → (room : ℕ) → length file ≤ room → written (contents_of file) room ≡ fine (length file)
+    pub own-written : All (λ b. b < 256) file → (room : ℕ) → length file ≤ room → written (contents_of file) room ≡ Ok (length file)
     unfolding written ◌>>=◌ refuse
     own-written bytes room h = rw (own_writable, read_again file f.right bytes, le-ltb room (length file) h)
 
@@ -69,34 +71,34 @@ record Length (c : Contents) (n : ℕ) : Type 0 where
   right : Right c
   long : n ≡ length (file_of c)
 
-length-told : (c : Contents) (room n : ℕ) → written c room ≡ fine n → Length c n
+length-told : (c : Contents) (room n : ℕ) → written c room ≡ Ok n → Length c n
 unfolding written
 length-told c room n e =
     let b1 = bound _ _ _ e in
     let b2 = bound _ _ _ b1.then in
     record { right = right c b1.value b1.had; long = let g : length (file_of c) ≡ n = cc b2.then in sym g }
 
-module _ (c : Contents) (w : Bits c) (before after : List ℕ) (r : Result ℕ) (answer : r ≡ written c (length before))
+module _ (c : Contents) (w : Bits c) (before after : List ℕ) (r : Refusable ℕ) (answer : r ≡ written c (length before))
     (output : after ≡ output_after r (file_of c) before) where
   -- the front of the output is the file
-  file-there : (n : ℕ) → r ≡ fine n → take n after ≡ file_of c
+  file-there : (n : ℕ) → r ≡ Ok n → take n after ≡ file_of c
   unfolding output_after
   file-there n e =
       let k = length-told c (length before) n (sym answer ∙ e) in
       let o : after ≡ file_of c ++ drop (length (file_of c)) before = rw e at output in
       rw (o, k.long) (take-append_seam (file_of c) (drop (length (file_of c)) before))
 
-  reads-back : (n : ℕ) → r ≡ fine n → ReadsAs (take n after) c
+  reads-back : (n : ℕ) → r ≡ Ok n → ReadsAs (take n after) c
   reads-back n e =
       let k = length-told c (length before) n (sym answer ∙ e) in
       let p = k.right in
       rw (file-there n e) (record { accepted = accepts-written c p w; contents = written_back c p.sized w p.kept })
 
-  only_one : (file : List ℕ) → ReadsAs file c → length file ≤ length before → (r ≡ fine (length file)) × (take (length file) after ≡ file)
+  only_one : (file : List ℕ) → ReadsAs file c → length file ≤ length before → (r ≡ Ok (length file)) × (take (length file) after ≡ file)
   only_one file a h =
       let f = found file a.accepted.survey a.accepted.accepted in
       let same : file_of c ≡ file = ap file_of (sym a.contents) ∙ read_again file f.right a.accepted.bytes in
-      let e : r ≡ fine (length file) = answer ∙ ap (λ d. written d (length before)) (sym a.contents) ∙ own-written file f a.accepted.bytes (length before) h in
+      let e : r ≡ Ok (length file) = answer ∙ ap (λ d. written d (length before)) (sym a.contents) ∙ own-written file f a.accepted.bytes (length before) h in
       (e, file-there (length file) e ∙ same)
 
   pub write-promise : WritePromise c before after r
@@ -126,30 +128,30 @@ record Converted (e : ℕ) (file : List ℕ) (room n : ℕ) : Type 0 where
   edition : is_edition e ≡ true
   other : eqb (counts_of file).edition e ≡ false
   read : Found file
-  wrote : written (in_edition e (contents_of file)) room ≡ fine n
+  wrote : written (in_edition e (contents_of file)) room ≡ Ok n
 
 neither : (a b : Bool) → (not a || b) ≡ false → (a ≡ true) × (b ≡ false)
 neither true b h = (refl, h)
 neither false b h = absurd (let z : ◌≡◌ {A = ℕ} 0 1 = cc in omega arith)
 
-converted-told : (e : ℕ) (file : List ℕ) (room n : ℕ) → converted e file room ≡ fine n → Converted e file room n
+converted-told : (e : ℕ) (file : List ℕ) (room n : ℕ) → converted e file room ≡ Ok n → Converted e file room n
 unfolding converted
 converted-told e file room n h =
     let b1 = bound _ _ _ h in
     let b2 = bound _ _ _ b1.then in
-    let t = neither (is_edition e) (eqb (counts_of file).edition e) (not-due 1 _ _ b1.had) in
+    let t = neither (is_edition e) (eqb (counts_of file).edition e) (not-due WrongTrailer _ _ b1.had) in
     record { edition = t.0; other = t.1; read = found file b2.value b2.had; wrote = b2.then }
 
-module _ (e : ℕ) (file before after : List ℕ) (bytes : All (λ b. b < 256) file) (r : Result ℕ) (answer : r ≡ converted e file (length before))
+module _ (e : ℕ) (file before after : List ℕ) (bytes : All (λ b. b < 256) file) (r : Refusable ℕ) (answer : r ≡ converted e file (length before))
     (output : after ≡ output_after r (file_of (in_edition e (contents_of file))) before) where
-  keeps : (n : ℕ) → r ≡ fine n → ReadsAs (take n after) (in_edition e (contents_of file))
+  keeps : (n : ℕ) → r ≡ Ok n → ReadsAs (take n after) (in_edition e (contents_of file))
   keeps n h =
       let t = converted-told e file (length before) n (sym answer ∙ h) in
       let w : Bits (in_edition e (contents_of file)) = bits-kept e (contents_of file) (read-bits file bytes) in
       reads-back (in_edition e (contents_of file)) w before after r (h ∙ sym t.wrote) output n h
 
-  goes_back : (n room : ℕ) → r ≡ fine n → length file ≤ room →
-      (converted (counts_of file).edition (take n after) room ≡ fine (length file))
+  goes_back : (n room : ℕ) → r ≡ Ok n → length file ≤ room →
+      (converted (counts_of file).edition (take n after) room ≡ Ok (length file))
       × (file_of (in_edition (counts_of file).edition (contents_of (take n after))) ≡ file)
   goes_back n room h k =
       let t = converted-told e file (length before) n (sym answer ∙ h) in
@@ -169,7 +171,7 @@ module _ (e : ℕ) (file before after : List ℕ) (bytes : All (λ b. b < 256) f
       edition-of g h = counted g ∙ ap (λ (d : Contents). d.counts.edition) h ∙ edition-set e (contents_of file)
 
       again : (d : ℕ) (g : List ℕ) → is_edition d ≡ true → eqb (counts_of g).edition d ≡ false → ReadsAs g (in_edition e (contents_of file)) → (room : ℕ) → {m : ℕ} →
-          written (in_edition d (contents_of g)) room ≡ fine m → converted d g room ≡ fine m
+          written (in_edition d (contents_of g)) room ≡ Ok m → converted d g room ≡ Ok m
       again d g i o a room u = unfold converted in unfold ◌>>=◌ in unfold refuse in rw (i, o, a.accepted.accepted) u
 
   pub convert-promise : ConvertPromise e file before after r

@@ -9,12 +9,10 @@ use lib.ListN.{length}
 use borrow.Author.Tests.{eqb-true, eq-eqb, le-ltb, not-false}
 use Rattle.arith.specs.Bytes.{le32, le64}
 use Rattle.arith.specs.Lists.{all_of}
-use Rattle.reading.specs.Result.{fine, ◌>>=◌, refuse}
+use Rattle.reading.specs.Result.{◌>>=◌, refuse, Refusable}
 use Rattle.reading.proofs.ResultLaws.{bound, not-due}
 use Rattle.case_file.specs.declared.Counts.{Counts}
-use Rattle.case_file.specs.declared.Opened.{Opened}
-use Rattle.case_file.specs.declared.Opened.TheVariants.{Case, Refused}
-use Rattle.case_file.specs.Trailer.{counts_of, words_from, field_from, pressures_from, is_dimension, trailer_right, over_limit, opened, opened_case, words_of}
+use Rattle.case_file.specs.Trailer.{counts_of, words_from, field_from, pressures_from, is_dimension, trailer_right, over_limit, opened, words_of}
 use Rattle.case_file.specs.Field.{cells_of, zones_of, is_at_most, zones_within}
 use Rattle.case_file.proofs.ReadLaws.{length-read_all}
 use Rattle.case_file.proofs.TrailerLaws.{and_left, and_right, within, opens}
@@ -27,6 +25,8 @@ use Rattle.case_contents.specs.Refusals.{is_edition, long_as, parts_right, well_
 use Rattle.case_contents.specs.Accepted.{Accepted, Sized}
 use Rattle.case_contents.proofs.LayoutLaws.{counts-back, right-trailer}
 use Rattle.case_contents.proofs.RoundTrip.{Bits, words_back, zones-back, file-bytes}
+use Rattle.std.specs.Prelude.{Ok, Err}
+use Rattle.refusal.specs.declared.Refusal.TheVariants.{ZonesLost, WrongTrailer, CountOverLimit, ZoneTooLarge}
 
 -- ---- what no refusal tells
 
@@ -67,31 +67,31 @@ pub record Right (c : Contents) : Type 0 where
   pub sized : Sized c
   pub over : over_limit c.counts ≡ false
   pub records : List Definition
-  pub walked : definitions c.counts.cells c.words ≡ fine records
+  pub walked : definitions c.counts.cells c.words ≡ Ok records
   pub zones : all_of (is_at_most 255) c.zones ≡ true
   pub kept : loses_zones c ≡ false
 
-pub right : (c : Contents) (u : Unit {0}) → writable c ≡ fine u → Right c
+pub right : (c : Contents) (u : Unit {0}) → writable c ≡ Ok u → Right c
 unfolding writable
 right c u e =
     let b1 = bound _ _ _ e in
     let b2 = bound _ _ _ b1.then in
     let b3 = bound _ _ _ b2.then in
     let b4 = bound _ _ _ b3.then in
-    let over = not-due 2 _ _ b2.had in
+    let over = not-due CountOverLimit _ _ b2.had in
     record {
-      sized = sized c (not-false _ (not-due 1 _ _ b1.had)) over;
+      sized = sized c (not-false _ (not-due WrongTrailer _ _ b1.had)) over;
       over = over;
       records = b3.value;
       walked = b3.had;
-      zones = not-false _ (not-due 45 _ _ b4.had);
-      kept = not-due 46 _ _ b4.then;
+      zones = not-false _ (not-due ZoneTooLarge _ _ b4.had);
+      kept = not-due ZonesLost _ _ b4.then;
     }
 
 -- ---- a reader accepts what is written
 
 module _ (c : Contents) (r : Right c) (w : Bits c) where
-  opens-written : opened (file_of c) ≡ Case c.counts
+  opens-written : opened (file_of c) ≡ Ok c.counts
   unfolding opened
   opens-written = rw (right-trailer c r.sized, counts-back c r.sized, r.over)
 
@@ -99,8 +99,8 @@ module _ (c : Contents) (r : Right c) (w : Bits c) where
   unfolding zones_within
   zones-written = rw (zones-back c r.sized w r.kept) r.zones
 
-  surveyed-written : survey_of (file_of c) ≡ fine (record { counts = c.counts; definitions = r.records })
-  unfolding survey_of opened_case ◌>>=◌ refuse
+  surveyed-written : survey_of (file_of c) ≡ Ok (record { counts = c.counts; definitions = r.records })
+  unfolding survey_of ◌>>=◌ refuse
   surveyed-written = rw (opens-written, words_back c r.sized w, r.walked, zones-written)
 
   pub accepts-written : Accepted (file_of c)
@@ -114,15 +114,14 @@ pub record Found (file : List ℕ) : Type 0 where
   pub right : trailer_right file ≡ true
   pub over : over_limit (counts_of file) ≡ false
   pub records : List Definition
-  pub walked : definitions (counts_of file).cells (words_of file (counts_of file)) ≡ fine records
+  pub walked : definitions (counts_of file).cells (words_of file (counts_of file)) ≡ Ok records
   pub zones : zones_within file ≡ true
 
-opened-case : (o : Opened) (n : Counts) → opened_case o ≡ fine n → o ≡ Case n
-unfolding opened_case
-opened-case (Case m) n e = let g : m ≡ n = cc in ap Case g
-opened-case (Refused k) n e = absurd (let g : ◌≡◌ {A = ℕ} 0 1 = cc in omega arith)
+opened-case : (o : Refusable Counts) (n : Counts) → o ≡ Ok n → o ≡ Ok n
+opened-case (Ok m) n e = let g : m ≡ n = cc in ap Ok g
+opened-case (Err k) n e = absurd (let g : ◌≡◌ {A = ℕ} 0 1 = cc in omega arith)
 
-pub found : (file : List ℕ) (v : CaseSurvey) → survey_of file ≡ fine v → Found file
+pub found : (file : List ℕ) (v : CaseSurvey) → survey_of file ≡ Ok v → Found file
 unfolding survey_of
 found file v e =
     let b1 = bound _ _ _ e in
@@ -135,7 +134,7 @@ found file v e =
       over = not-over (counts_of file) (rw (← k.same) k.points) (rw (← k.same) k.cells) (rw (← k.same) k.words);
       records = b2.value;
       walked = rw (← k.same) b2.had;
-      zones = not-false _ (not-due 45 _ _ b3.had);
+      zones = not-false _ (not-due ZoneTooLarge _ _ b3.had);
     }
   where
     not-over : (n : Counts) → n.points ≤ 65536 → n.cells ≤ 16384 → n.words ≤ 1048576 → over_limit n ≡ false
@@ -170,7 +169,7 @@ module _ (file : List ℕ) (e : ℕ) (f : Found file) (h : is_edition e ≡ true
   unfolding in_edition with_edition contents_of over_limit
   limits = f.over
 
-  records : definitions (in_edition e (contents_of file)).counts.cells (in_edition e (contents_of file)).words ≡ fine f.records
+  records : definitions (in_edition e (contents_of file)).counts.cells (in_edition e (contents_of file)).words ≡ Ok f.records
   unfolding in_edition with_edition contents_of
   records = f.walked
 
@@ -178,7 +177,7 @@ module _ (file : List ℕ) (e : ℕ) (f : Found file) (h : is_edition e ≡ true
   unfolding in_edition contents_of zones_within
   zoned = f.zones
 
-  pub read-writable : writable (in_edition e (contents_of file)) ≡ refuse 46 (loses_zones (in_edition e (contents_of file)))
+  pub read-writable : writable (in_edition e (contents_of file)) ≡ refuse ZonesLost (loses_zones (in_edition e (contents_of file)))
   unfolding writable ◌>>=◌ refuse
   read-writable = rw (well, limits, records, zoned)
 

@@ -1,9 +1,8 @@
 -- Files that a reader accepts, and contents of the right sizes.
 -- `Accepted`: none of a reader's refusals is due. `Sized`: neither 1 nor 2 of a writer's.
-use Rattle.std.specs.Prelude.{ℕ, ◌*◌, ◌<◌, ◌≤◌, ◌≡◌, true, List, length}
+use Rattle.std.specs.Prelude.{ℕ, ◌*◌, ◌<◌, ◌≤◌, ◌≡◌, true, List, length, Ok}
 use Rattle.arith.specs.All.{All}
 use Rattle.arith.specs.Limits.{most_points, most_cells, most_words}
-use Rattle.reading.specs.Result.{fine}
 use Rattle.case_file.specs.declared.Counts.{Counts}
 use Rattle.case_file.specs.Trailer.{is_dimension}
 use Rattle.case_survey.specs.Survey.{CaseSurvey, survey_of}
@@ -14,7 +13,7 @@ use Rattle.case_contents.specs.Refusals.{is_edition}
 pub record Accepted (file : List ℕ) : Type 0 where
   pub bytes : All (λ b. b < 256) file
   pub survey : CaseSurvey
-  pub accepted : survey_of file ≡ fine survey
+  pub accepted : survey_of file ≡ Ok survey
 
 -- counts of a file that can be written
 pub record SizedCounts (n : Counts) : Type 0 where

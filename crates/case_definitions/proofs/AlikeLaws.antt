@@ -9,21 +9,20 @@ use lib.Seq.{length-take-le}
 use Rattle.arith.specs.All.{All}
 use Rattle.arith.specs.Lists.{fold}
 use Rattle.arith.proofs.All.{all_append}
-use Rattle.reading.specs.Result.{Result, refused, fine, ◌>>=◌}
+use Rattle.reading.specs.Result.{Refusable, ◌>>=◌}
 use Rattle.case_definitions.specs.Faces.{Definition, polygon, solid, face_count, add_face_count}
 use Rattle.case_definitions.specs.Definitions.{numbers, counted, made, kinds, definition, definitions}
 use Rattle.case_definitions.specs.Ensures.{head_of, step_at, HeadTo}
 pub use Rattle.case_definitions.specs.Ensures.{Looks, RunExit}
 use Rattle.case_definitions.specs.declared.Cursor.{Cursor}
 use Rattle.case_definitions.specs.declared.Head.{Head}
-use Rattle.case_definitions.specs.declared.Step.TheVariants.{Record}
-use Rattle.case_definitions.specs.declared.Walked.TheVariants.{Faces}
 use Rattle.case_definitions.proofs.WalkLaws.{numbers-there, counted-within, kind_at}
 use Rattle.case_definitions.proofs.RecordLaws.{IsSolid, is-tetrahedron, is-hexahedron, is-prism, is-pyramid, RecordCase, a-polygon, a-solid, a-polyhedron, record-case, steps-to, walked_from, walk-next}
+use Rattle.std.specs.Prelude.{Ok, Err}
 
 -- d is the record from `at` to `next`
 pub record Ends (ws : List ℕ) (at next : ℕ) (d : Definition) : Type 0 where
-  pub read : definition (drop at ws) ≡ fine (record { read = d; left = drop next ws })
+  pub read : definition (drop at ws) ≡ Ok (record { read = d; left = drop next ws })
   pub within : next ≤ length ws
 
 -- a right record stands from p to `next`, with so many faces
@@ -37,7 +36,7 @@ pub record Alike (ws : List ℕ) (p next faces : ℕ) : Type 0 where
 module _ (ws : List ℕ) (p : ℕ) where
   -- a polygon of n points
   pub polygon-at : (n : ℕ) → get_or ws p 0 ≡ 0 → n ≡ get_or ws (p + 1) 0 → n ≤ 24 → p + 2 + n ≤ length ws →
-      definition (drop p ws) ≡ fine (record { read = polygon (take n (drop (p + 2) ws)); left = drop (p + 2 + n) ws })
+      definition (drop p ws) ≡ Ok (record { read = polygon (take n (drop (p + 2) ws)); left = drop (p + 2 + n) ws })
   unfolding kinds made ◌>>=◌
   polygon-at n k e few room =
       let q : p + 1 + 1 ≡ p + 2 = omega arith in
@@ -48,7 +47,7 @@ module _ (ws : List ℕ) (p : ℕ) where
 
   -- a solid
   pub solid-at : (kind : ℕ) (places : List (List ℕ)) (n : ℕ) → IsSolid kind places n → get_or ws p 0 ≡ kind → p + 1 + n ≤ length ws →
-      definition (drop p ws) ≡ fine (record { read = solid places (take n (drop (p + 1) ws)); left = drop (p + 1 + n) ws })
+      definition (drop p ws) ≡ Ok (record { read = solid places (take n (drop (p + 1) ws)); left = drop (p + 1 + n) ws })
   unfolding kinds made ◌>>=◌
   solid-at kind places n is-tetrahedron k room = kind_at ws p 1 (omega arith) k ∙ rw (numbers-there ws (p + 1) 4 room)
   solid-at kind places n is-hexahedron k room = kind_at ws p 2 (omega arith) k ∙ rw (numbers-there ws (p + 1) 8 room)
@@ -115,19 +114,19 @@ pub record Running (ws : List ℕ) (from at left faces p k : ℕ) : Type 0 where
   pub read : List Definition
   pub long : length read ≡ k
   pub alike : All (λ d. face_count d ≡ faces) read
-  pub rest : (m : ℕ) → definitions (k + m) (drop at ws) ≡ (definitions m (drop p ws) >>= λ ds. fine (read ++ ds))
+  pub rest : (m : ℕ) → definitions (k + m) (drop at ws) ≡ (definitions m (drop p ws) >>= λ ds. Ok (read ++ ds))
 
 module _ (ws : List ℕ) (from at left faces : ℕ) where
-  none_read : (r : Result (List Definition)) → r ≡ (r >>= λ ds. fine ([] ++ ds))
+  none_read : (r : Refusable (List Definition)) → r ≡ (r >>= λ ds. Ok ([] ++ ds))
   unfolding ◌>>=◌
-  none_read (refused n) = refl
-  none_read (fine ds) = refl
+  none_read (Err n) = refl
+  none_read (Ok ds) = refl
 
-  one_more : (l : List Definition) (d : Definition) (r : Result (List Definition)) →
-      ((r >>= λ ds. fine (d ∷ ds)) >>= λ ds. fine (l ++ ds)) ≡ (r >>= λ ds. fine ((l ++ d ∷ []) ++ ds))
+  one_more : (l : List Definition) (d : Definition) (r : Refusable (List Definition)) →
+      ((r >>= λ ds. Ok (d ∷ ds)) >>= λ ds. Ok (l ++ ds)) ≡ (r >>= λ ds. Ok ((l ++ d ∷ []) ++ ds))
   unfolding ◌>>=◌
-  one_more l d (refused n) = refl
-  one_more l d (fine ds) = ap fine (sym (append_assoc l (d ∷ []) ds))
+  one_more l d (Err n) = refl
+  one_more l d (Ok ds) = ap Ok (sym (append_assoc l (d ∷ []) ds))
 
   pub running-starts : at ≤ length ws → Running ws from at left faces at 0
   running-starts h =
@@ -143,7 +142,7 @@ module _ (ws : List ℕ) (from at left faces : ℕ) where
 
   module _ (p k : ℕ) (r : Running ws from at left faces p k) where
     more-rest : (d : Definition) (next : ℕ) → Ends ws p next d → (m : ℕ) →
-        definitions (k + 1 + m) (drop at ws) ≡ (definitions m (drop next ws) >>= λ ds. fine ((r.read ++ d ∷ []) ++ ds))
+        definitions (k + 1 + m) (drop at ws) ≡ (definitions m (drop next ws) >>= λ ds. Ok ((r.read ++ d ∷ []) ++ ds))
     unfolding definitions ◌>>=◌
     more-rest d next e m =
         let z : k + 1 + m ≡ k + suc m = omega arith in
@@ -247,7 +246,7 @@ head-ends ws h next t =
       long = λ few. two-words ws h.at next s.d e (omega arith);
     }
 
-pub head-to : (ws : List ℕ) (at : ℕ) (h : Head) (c : Cursor) → Record h c ≡ step_at ws at → HeadTo ws h c.at
+pub head-to : (ws : List ℕ) (at : ℕ) (h : Head) (c : Cursor) → Ok (h, c) ≡ step_at ws at → HeadTo ws h c.at
 unfolding head_of
 head-to ws at h c e =
     let s = steps-to ws at h c e in
@@ -283,11 +282,11 @@ fold-alike f k (d ∷ l) ds a =
     let z : k + face_count d + length l * f ≡ k + suc (length l) * f = omega (arith, suc-mul (length l) f) in
     fold-alike f (k + face_count d) l ds a.1 ∙ ap (λ x. fold add_face_count x ds) z
 
-walked-alike : (f k : ℕ) (l : List Definition) (r : Result (List Definition)) → All (λ d. face_count d ≡ f) l →
-    walked_from k (r >>= λ ds. fine (l ++ ds)) ≡ walked_from (k + length l * f) r
+walked-alike : (f k : ℕ) (l : List Definition) (r : Refusable (List Definition)) → All (λ d. face_count d ≡ f) l →
+    walked_from k (r >>= λ ds. Ok (l ++ ds)) ≡ walked_from (k + length l * f) r
 unfolding ◌>>=◌ walked_from
-walked-alike f k l (refused n) a = refl
-walked-alike f k l (fine ds) a = ap Faces (fold-alike f k l ds a)
+walked-alike f k l (Err n) a = refl
+walked-alike f k l (Ok ds) a = ap Ok (fold-alike f k l ds a)
 
 pub run-walked : (ws : List ℕ) (from at left f r k m : ℕ) → RunExit ws from at left f r →
     walked_from k (definitions (r + m) (drop at ws)) ≡ walked_from (k + r * f) (definitions m (drop (at + r * (at - from)) ws))
@@ -306,7 +305,7 @@ pub record WalkOn (ws : List ℕ) (cells i at faces : ℕ) (h : Head) (next k : 
   pub goes : walked_from faces (definitions (cells - i) (drop at ws))
       ≡ walked_from (faces + h.faces * (k + 1)) (definitions (cells - (i + (k + 1))) (drop (next + k * (next - h.at)) ws))
 
-pub walk-on : (ws : List ℕ) (cells i at faces : ℕ) (h : Head) (c : Cursor) (k : ℕ) → i < cells → Record h c ≡ step_at ws at →
+pub walk-on : (ws : List ℕ) (cells i at faces : ℕ) (h : Head) (c : Cursor) (k : ℕ) → i < cells → Ok (h, c) ≡ step_at ws at →
     RunExit ws h.at c.at (cells - i - 1) h.faces k → WalkOn ws cells i at faces h c.at k
 unfolding head_of
 walk-on ws cells i at faces h c k more e r =

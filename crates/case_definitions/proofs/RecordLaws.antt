@@ -9,17 +9,17 @@ use lib.Seq.{length-take-le}
 use Rattle.arith.specs.Lists.{fold}
 use Rattle.arith.proofs.ListLaws.{left_at}
 use Rattle.arith.proofs.RecordLaws.{left-suc}
-use Rattle.reading.specs.Result.{Result, refused, fine, ◌>>=◌}
-use Rattle.reading.proofs.ResultLaws.{bound}
+use Rattle.reading.specs.Result.{Refusable, ◌>>=◌}
+use Rattle.reading.proofs.ResultLaws.{bound, ok-pair}
 use Rattle.case_definitions.specs.Faces.{Definition, polygon, solid, polyhedron, tetrahedron, hexahedron, prism, pyramid, face_count, add_face_count, faces_counted}
 use Rattle.case_definitions.specs.Definitions.{Taken, numbers, counted, face_lists, made, kinds, definition, definitions}
 use Rattle.case_definitions.specs.Ensures.{first_of, head_of, cursor_at, stepped, step_at, walked}
 use Rattle.case_definitions.specs.declared.Cursor.{Cursor}
 use Rattle.case_definitions.specs.declared.Head.{Head}
-use Rattle.case_definitions.specs.declared.Step.TheVariants.{Record, Wrong}
-use Rattle.case_definitions.specs.declared.Walked.{Walked}
-use Rattle.case_definitions.specs.declared.Walked.TheVariants.{Faces, Refused}
 use Rattle.case_definitions.proofs.WalkLaws.{numbers-there, numbers-short, counted_none, counted-over, counted-within, Lists, ListCase, missing, there, list-case, no_record, kind_at, faces-read}
+use Rattle.std.specs.Prelude.{Ok, Err}
+use Rattle.refusal.specs.declared.Refusal.{Refusal}
+use Rattle.refusal.specs.declared.Refusal.TheVariants.{WrongDefinitions}
 
 -- a kind with its table and its number of points
 pub data IsSolid : ℕ → List (List ℕ) → ℕ → Type 0 where
@@ -35,10 +35,10 @@ pub data RecordCase (ws : List ℕ) (at : ℕ) (w : Taken Definition) : Type 0 w
   a-solid : (kind : ℕ) (places : List (List ℕ)) (n : ℕ) → get_or ws at 0 ≡ kind → IsSolid kind places n → at + 1 + n ≤ length ws →
       w ≡ record { read = solid places (take n (drop (at + 1) ws)); left = drop (at + 1 + n) ws } → RecordCase ws at w
   a-polyhedron : (n : ℕ) (f : Taken (List (List ℕ))) → get_or ws at 0 ≡ 5 → at + 2 ≤ length ws → n ≡ get_or ws (at + 1) 0 → n ≤ 24 →
-      face_lists n (drop (at + 2) ws) ≡ fine f → w ≡ record { read = polyhedron f.read; left = f.left } → RecordCase ws at w
+      face_lists n (drop (at + 2) ws) ≡ Ok f → w ≡ record { read = polyhedron f.read; left = f.left } → RecordCase ws at w
 
 module _ (ws : List ℕ) (at : ℕ) (w : Taken Definition) where
-  as-polygon : get_or ws at 0 ≡ 0 → made polygon (counted 24 numbers (drop (at + 1) ws)) ≡ fine w → RecordCase ws at w
+  as-polygon : get_or ws at 0 ≡ 0 → made polygon (counted 24 numbers (drop (at + 1) ws)) ≡ Ok w → RecordCase ws at w
   unfolding made
   as-polygon k e = by (list-case ws (at + 1) 24)
     where
@@ -55,7 +55,7 @@ module _ (ws : List ℕ) (at : ℕ) (w : Taken Definition) where
           a-polygon n k l (sym (ap {B = Taken Definition} (λ t. record { read = polygon t.read; left = t.left }) (sym v) ∙ (cc)))
 
   as-solid : (kind : ℕ) (places : List (List ℕ)) (n : ℕ) → at < length ws → get_or ws at 0 ≡ kind → IsSolid kind places n →
-      made (solid places) (numbers n (drop (at + 1) ws)) ≡ fine w → RecordCase ws at w
+      made (solid places) (numbers n (drop (at + 1) ws)) ≡ Ok w → RecordCase ws at w
   unfolding made
   as-solid kind places n here k s e = by (dec_le (at + 1 + n) (length ws))
     where
@@ -73,7 +73,7 @@ module _ (ws : List ℕ) (at : ℕ) (w : Taken Definition) where
           let v : b.value ≡ record { read = take n (drop (at + 1) ws); left = drop (at + 1 + n) ws } = cc in
           a-solid kind places n k s room (sym (ap {B = Taken Definition} (λ t. record { read = solid places t.read; left = t.left }) (sym v) ∙ (cc)))
 
-  as-polyhedron : get_or ws at 0 ≡ 5 → made polyhedron (counted 24 face_lists (drop (at + 1) ws)) ≡ fine w → RecordCase ws at w
+  as-polyhedron : get_or ws at 0 ≡ 5 → made polyhedron (counted 24 face_lists (drop (at + 1) ws)) ≡ Ok w → RecordCase ws at w
   unfolding made
   as-polyhedron k e = by_count (dec_lt (at + 1) (length ws))
     where
@@ -98,7 +98,7 @@ module _ (ws : List ℕ) (at : ℕ) (w : Taken Definition) where
           absurd (let z : ◌≡◌ {A = ℕ} 0 1 = cc in omega arith)
       by_count (yes more) = by-limit more (dec_le (get_or ws (at + 1) 0) 24)
 
-  pub record-case : definition (drop at ws) ≡ fine w → RecordCase ws at w
+  pub record-case : definition (drop at ws) ≡ Ok w → RecordCase ws at w
   unfolding kinds
   record-case e = by_end (dec_lt at (length ws))
     where
@@ -132,7 +132,7 @@ few-faces kind places n is-hexahedron = omega arith
 few-faces kind places n is-prism = omega arith
 few-faces kind places n is-pyramid = omega arith
 
-pub definition-read : (ws : List ℕ) (at : ℕ) (w : Taken Definition) → definition (drop at ws) ≡ fine w → DefinitionRead ws at w
+pub definition-read : (ws : List ℕ) (at : ℕ) (w : Taken Definition) → definition (drop at ws) ≡ Ok w → DefinitionRead ws at w
 unfolding face_count
 definition-read ws at w e = by (record-case ws at w e)
   where
@@ -156,24 +156,25 @@ definition-read ws at w e = by (record-case ws at w e)
 -- d is the record at `at`, h its head, and the next one starts at `next`
 pub record StepsTo (ws : List ℕ) (at : ℕ) (h : Head) (next : ℕ) : Type 0 where
   pub d : Definition
-  pub read : definition (drop at ws) ≡ fine (record { read = d; left = drop next ws })
+  pub read : definition (drop at ws) ≡ Ok (record { read = d; left = drop next ws })
   pub head : h ≡ head_of (get_or ws at 0) at d
   pub past : at + h.faces < next
   pub few : h.faces ≤ 24
   pub within : next ≤ length ws
 
-pub steps-to : (ws : List ℕ) (at : ℕ) (h : Head) (c : Cursor) → Record h c ≡ step_at ws at → StepsTo ws at h c.at
+pub steps-to : (ws : List ℕ) (at : ℕ) (h : Head) (c : Cursor) → Ok (h, c) ≡ step_at ws at → StepsTo ws at h c.at
 unfolding step_at stepped cursor_at head_of
 steps-to ws at h c e = by (definition (drop at ws)) refl
   where
-    by : (t : Result (Taken Definition)) → definition (drop at ws) ≡ t → StepsTo ws at h c.at
-    by (refused r) g = absurd (let z : ◌≡◌ {A = ℕ} 0 1 = cc in omega arith)
-    by (fine w) g =
+    by : (t : Refusable (Taken Definition)) → definition (drop at ws) ≡ t → StepsTo ws at h c.at
+    by (Err r) g = absurd (let z : ◌≡◌ {A = ℕ} 0 1 = cc in omega arith)
+    by (Ok w) g =
         let r = definition-read ws at w g in
         let p = r.past in
         let i = r.within in
-        let f : h ≡ record { kind = get_or ws at 0; faces = face_count w.read; at = at; first = first_of at w.read } = cc in
-        let n : c ≡ record { at = length ws - length w.left } = cc in
+        let both : (h ≡ head_of (get_or ws at 0) at w.read) × (c ≡ cursor_at ws w.left) = ok-pair cc in
+        let f : h ≡ record { kind = get_or ws at 0; faces = face_count w.read; at = at; first = first_of at w.read } = both.0 in
+        let n : c ≡ record { at = length ws - length w.left } = both.1 in
         let k : c.at ≡ length ws - length w.left = ap (λ x. x.at) n in
         let m : length w.left ≡ length (drop r.end ws) = ap length r.left in
         let v : c.at ≡ r.end = omega (arith, length-drop r.end ws) in
@@ -181,56 +182,56 @@ steps-to ws at h c e = by (definition (drop at ws)) refl
         let a : h.faces ≡ face_count w.read = ap (λ x. x.faces) f in
         record {
           d = w.read;
-          read = g ∙ ap {B = Result (Taken Definition)} (λ l. fine (record { read = w.read; left = l })) u;
+          read = g ∙ ap {B = Refusable (Taken Definition)} (λ l. Ok (record { read = w.read; left = l })) u;
           head = f;
           past = omega arith;
           few = omega (arith, r.few);
           within = omega arith;
         }
 
-pub steps-wrong : (ws : List ℕ) (at r : ℕ) → Wrong r ≡ step_at ws at → definition (drop at ws) ≡ refused r
+pub steps-wrong : (ws : List ℕ) (at : ℕ) (r : Refusal) → Err r ≡ step_at ws at → definition (drop at ws) ≡ Err r
 unfolding step_at stepped
 steps-wrong ws at r e = by (definition (drop at ws)) refl
   where
-    by : (t : Result (Taken Definition)) → definition (drop at ws) ≡ t → definition (drop at ws) ≡ refused r
-    by (refused n) g = let w : n ≡ r = cc in rw w at g
-    by (fine w) g = absurd (let z : ◌≡◌ {A = ℕ} 0 1 = cc in omega arith)
+    by : (t : Refusable (Taken Definition)) → definition (drop at ws) ≡ t → definition (drop at ws) ≡ Err r
+    by (Err n) g = let w : n ≡ r = cc in rw w at g
+    by (Ok w) g = absurd (let z : ◌≡◌ {A = ℕ} 0 1 = cc in omega arith)
 
 -- ---- the turns of `walk`
 
 -- F, of which k faces were counted before, or the refusal
-unfoldable pub walked_from : ℕ → Result (List Definition) → Walked
-walked_from k (refused r) = Refused r
-walked_from k (fine ds) = Faces (fold add_face_count k ds)
+unfoldable pub walked_from : ℕ → Refusable (List Definition) → Refusable ℕ
+walked_from k (Err r) = Err r
+walked_from k (Ok ds) = Ok (fold add_face_count k ds)
 
-pub walked_start : (r : Result (List Definition)) → walked_from 0 r ≡ walked r
+pub walked_start : (r : Refusable (List Definition)) → walked_from 0 r ≡ walked r
 unfolding walked_from walked faces_counted
-walked_start (refused n) = refl
-walked_start (fine ds) = refl
+walked_start (Err n) = refl
+walked_start (Ok ds) = refl
 
-walked_more : (k : ℕ) (d : Definition) (r : Result (List Definition)) → walked_from k (r >>= λ ds. fine (d ∷ ds)) ≡ walked_from (k + face_count d) r
+walked_more : (k : ℕ) (d : Definition) (r : Refusable (List Definition)) → walked_from k (r >>= λ ds. Ok (d ∷ ds)) ≡ walked_from (k + face_count d) r
 unfolding ◌>>=◌ walked_from fold add_face_count
-walked_more k d (refused n) = refl
-walked_more k d (fine ds) = refl
+walked_more k d (Err n) = refl
+walked_more k d (Ok ds) = refl
 
 module _ (ws : List ℕ) (cells i at faces : ℕ) where
-  pub walk-wrong : (r : ℕ) → i < cells → Wrong r ≡ step_at ws at → Refused r ≡ walked_from faces (definitions (cells - i) (drop at ws))
+  pub walk-wrong : (r : Refusal) → i < cells → Err r ≡ step_at ws at → Err r ≡ walked_from faces (definitions (cells - i) (drop at ws))
   unfolding definitions ◌>>=◌ walked_from
   walk-wrong r h e = rw (left-suc cells i h, steps-wrong ws at r e)
 
-  pub walk-next : (h : Head) (c : Cursor) → i < cells → Record h c ≡ step_at ws at →
+  pub walk-next : (h : Head) (c : Cursor) → i < cells → Ok (h, c) ≡ step_at ws at →
       walked_from faces (definitions (cells - i) (drop at ws)) ≡ walked_from (faces + h.faces) (definitions (cells - (i + 1)) (drop c.at ws))
   unfolding definitions head_of ◌>>=◌
   walk-next h c b e =
       let s = steps-to ws at h c e in
       let f : h.faces ≡ face_count s.d = ap (λ x. x.faces) s.head in
-      let rest : Result (List Definition) = definitions (cells - (i + 1)) (drop c.at ws) in
+      let rest : Refusable (List Definition) = definitions (cells - (i + 1)) (drop c.at ws) in
       rw (left-suc cells i b, s.read) (walked_more faces s.d rest ∙ ap (λ x. walked_from (faces + x) rest) (sym f))
 
-  pub walk-left : cells ≤ i → at < length ws → Refused 3 ≡ walked_from faces (definitions (cells - i) (drop at ws))
+  pub walk-left : cells ≤ i → at < length ws → Err WrongDefinitions ≡ walked_from faces (definitions (cells - i) (drop at ws))
   unfolding definitions walked_from
   walk-left h b = let z : cells - i ≡ 0 = omega arith in rw (z, left_at ws at 0 b)
 
-  pub walk_end : cells ≤ i → length ws ≤ at → Faces faces ≡ walked_from faces (definitions (cells - i) (drop at ws))
+  pub walk_end : cells ≤ i → length ws ≤ at → Ok faces ≡ walked_from faces (definitions (cells - i) (drop at ws))
   unfolding definitions walked_from fold
   walk_end h b = let z : cells - i ≡ 0 = omega arith in rw (z, drop_of_length-le ws b)

@@ -9,33 +9,33 @@ use lib.Seq.{length-take-le, drop-drop}
 use borrow.Author.Tests.{le-leb, lt-leb}
 use Rattle.arith.proofs.ListLaws.{left_at}
 use Rattle.arith.proofs.RecordLaws.{left-suc}
-use Rattle.reading.specs.Result.{Result, refused, fine, ◌>>=◌}
+use Rattle.reading.specs.Result.{Refusable, ◌>>=◌}
 use Rattle.reading.proofs.ResultLaws.{bound}
 use Rattle.case_definitions.specs.Faces.{Definition, polygon, solid, polyhedron, tetrahedron, hexahedron, prism, pyramid, face_count}
 use Rattle.case_definitions.specs.Definitions.{Taken, numbers, counted, face_lists, made, kinds, definition}
 use Rattle.case_definitions.specs.Ensures.{first_of, head_of, cursor_at, stepped, step_at, listed, list_at, skipped, KindAt, SolidAt}
-use Rattle.case_definitions.specs.declared.Step.TheVariants.{Record, Wrong}
-use Rattle.case_definitions.specs.declared.Listed.TheVariants.{Count, Bad}
-use Rattle.case_definitions.specs.declared.Skipped.TheVariants.{To, Short}
+use Rattle.std.specs.Prelude.{Option, Result, Some, None, Ok, Err, ok_or}
+use Rattle.refusal.specs.declared.Refusal.{Refusal}
+use Rattle.refusal.specs.declared.Refusal.TheVariants.{WrongDefinitions}
 
 -- ---- counts and numbers at a position
 
 module _ (ws : List ℕ) (p : ℕ) where
-  pub numbers-there : (n : ℕ) → p + n ≤ length ws → numbers n (drop p ws) ≡ fine (record { read = take n (drop p ws); left = drop (p + n) ws })
+  pub numbers-there : (n : ℕ) → p + n ≤ length ws → numbers n (drop p ws) ≡ Ok (record { read = take n (drop p ws); left = drop (p + n) ws })
   unfolding numbers
   numbers-there n h = rw (le-leb n (length (drop p ws)) (omega (arith, length-drop p ws)), drop-drop n p ws)
 
-  pub numbers-short : (n : ℕ) → length ws - p < n → numbers n (drop p ws) ≡ refused 3
+  pub numbers-short : (n : ℕ) → length ws - p < n → numbers n (drop p ws) ≡ Err WrongDefinitions
   unfolding numbers
   numbers-short n h = rw (lt-leb n (length (drop p ws)) (omega (arith, length-drop p ws)))
 
-  module _ {A : Type 0} (limit : ℕ) (rest : ℕ → List ℕ → Result (Taken A)) where
-    pub counted_none : length ws ≤ p → counted limit rest (drop p ws) ≡ refused 3
+  module _ {A : Type 0} (limit : ℕ) (rest : ℕ → List ℕ → Refusable (Taken A)) where
+    pub counted_none : length ws ≤ p → counted limit rest (drop p ws) ≡ Err WrongDefinitions
     unfolding counted
     counted_none h = rw (drop_of_length-le ws h)
 
     module _ (more : p < length ws) where
-      pub counted-over : limit < get_or ws p 0 → counted limit rest (drop p ws) ≡ refused 3
+      pub counted-over : limit < get_or ws p 0 → counted limit rest (drop p ws) ≡ Err WrongDefinitions
       unfolding counted
       counted-over h = rw (left_at ws p 0 more, lt-leb (get_or ws p 0) limit h, counted)
 
@@ -43,15 +43,32 @@ module _ (ws : List ℕ) (p : ℕ) where
       unfolding counted
       counted-within h = rw (left_at ws p 0 more, le-leb (get_or ws p 0) limit h, counted)
 
+-- ---- a missing count as a refusal
+
+module _ (o l : Option ℕ) (r : Result ℕ Refusal) where
+  pub count-of : (n : ℕ) → o ≡ l → r ≡ ok_or o WrongDefinitions → r ≡ Ok n → Some n ≡ l
+  count-of n e f g = by o refl
+    where
+      by : (x : Option ℕ) → o ≡ x → Some n ≡ l
+      by None h = cc
+      by (Some k) h = cc
+
+  pub no-count : (q : Refusal) → o ≡ l → r ≡ ok_or o WrongDefinitions → r ≡ Err q → (q ≡ WrongDefinitions) × (None ≡ l)
+  no-count q e f g = by o refl
+    where
+      by : (x : Option ℕ) → o ≡ x → (q ≡ WrongDefinitions) × (None ≡ l)
+      by None h = (cc, cc)
+      by (Some k) h = (cc, cc)
+
 -- n, at most `limit`, stands at p, and n numbers after it
 pub record Lists (ws : List ℕ) (p limit n : ℕ) : Type 0 where
-  pub read : counted limit numbers (drop p ws) ≡ fine (record { read = take n (drop (p + 1) ws); left = drop (p + 1 + n) ws })
+  pub read : counted limit numbers (drop p ws) ≡ Ok (record { read = take n (drop (p + 1) ws); left = drop (p + 1 + n) ws })
   pub count : n ≡ get_or ws p 0
   pub few : n ≤ limit
   pub room : p + 1 + n ≤ length ws
 
 pub data ListCase (ws : List ℕ) (p limit : ℕ) : Type 0 where
-  missing : counted limit numbers (drop p ws) ≡ refused 3 → ListCase ws p limit
+  missing : counted limit numbers (drop p ws) ≡ Err WrongDefinitions → ListCase ws p limit
   there : (n : ℕ) → Lists ws p limit n → ListCase ws p limit
 
 pub list-case : (ws : List ℕ) (p limit : ℕ) → ListCase ws p limit
@@ -73,27 +90,27 @@ list-case ws p limit = by (dec_lt p (length ws))
 -- ---- list_at
 
 module _ (ws : List ℕ) (p limit : ℕ) where
-  no-list : counted limit numbers (drop p ws) ≡ refused 3 → Bad ≡ list_at ws p limit
+  no-list : counted limit numbers (drop p ws) ≡ Err WrongDefinitions → None ≡ list_at ws p limit
   unfolding list_at listed
   no-list e = rw e
 
-  a-list : (n : ℕ) → Lists ws p limit n → Count n ≡ list_at ws p limit
+  a-list : (n : ℕ) → Lists ws p limit n → Some n ≡ list_at ws p limit
   unfolding list_at listed
   a-list n l =
       let e : length (take n (drop (p + 1) ws)) ≡ n = length-take-le n (drop (p + 1) ws) (omega (arith, l.room, length-drop (p + 1) ws)) in
       rw (l.read, e)
 
-  pub list-none : length ws ≤ p → Bad ≡ list_at ws p limit
+  pub list-none : length ws ≤ p → None ≡ list_at ws p limit
   list-none h = no-list (counted_none ws p limit numbers h)
 
   module _ (n : ℕ) (more : p < length ws) (e : n ≡ get_or ws p 0) where
-    pub list_over : limit < n → Bad ≡ list_at ws p limit
+    pub list_over : limit < n → None ≡ list_at ws p limit
     list_over h = no-list (counted-over ws p limit numbers more (omega arith))
 
-    pub list-short : n ≤ limit → length ws - p - 1 < n → Bad ≡ list_at ws p limit
+    pub list-short : n ≤ limit → length ws - p - 1 < n → None ≡ list_at ws p limit
     list-short few h = no-list (counted-within ws p limit numbers more (omega arith) ∙ numbers-short ws (p + 1) (get_or ws p 0) (omega arith))
 
-    pub list-there : n ≤ limit → n ≤ length ws - p - 1 → Count n ≡ list_at ws p limit
+    pub list-there : n ≤ limit → n ≤ length ws - p - 1 → Some n ≡ list_at ws p limit
     list-there few h =
         a-list n
         (record {
@@ -106,14 +123,14 @@ module _ (ws : List ℕ) (p limit : ℕ) where
         })
 
   -- what the answer tells
-  pub list-bad : Bad ≡ list_at ws p limit → counted limit numbers (drop p ws) ≡ refused 3
+  pub list-bad : None ≡ list_at ws p limit → counted limit numbers (drop p ws) ≡ Err WrongDefinitions
   list-bad e = by (list-case ws p limit)
     where
-      by : ListCase ws p limit → counted limit numbers (drop p ws) ≡ refused 3
+      by : ListCase ws p limit → counted limit numbers (drop p ws) ≡ Err WrongDefinitions
       by (missing m) = m
       by (there n l) = absurd (let w = a-list n l in let z : ◌≡◌ {A = ℕ} 0 1 = cc in omega arith)
 
-  pub list_count : (n : ℕ) → Count n ≡ list_at ws p limit → Lists ws p limit n
+  pub list_count : (n : ℕ) → Some n ≡ list_at ws p limit → Lists ws p limit n
   list_count n e = by (list-case ws p limit)
     where
       by : ListCase ws p limit → Lists ws p limit n
@@ -127,42 +144,42 @@ unfolding cursor_at
 cursor-at ws q h = let e : length ws - length (drop q ws) ≡ q = omega (arith, length-drop q ws) in rw e
 
 module _ (ws : List ℕ) (at : ℕ) where
-  pub no_record : length ws ≤ at → definition (drop at ws) ≡ refused 3
+  pub no_record : length ws ≤ at → definition (drop at ws) ≡ Err WrongDefinitions
   unfolding definition
   no_record h = rw (drop_of_length-le ws h)
 
-  pub kind_at : (kind : ℕ) → at < length ws → get_or ws at 0 ≡ kind → definition (drop at ws) ≡ get_or kinds kind (λ l. refused 3) (drop (at + 1) ws)
+  pub kind_at : (kind : ℕ) → at < length ws → get_or ws at 0 ≡ kind → definition (drop at ws) ≡ get_or kinds kind (λ l. Err WrongDefinitions) (drop (at + 1) ws)
   unfolding definition
   kind_at kind more e = rw (left_at ws at 0 more, e)
 
-  pub step-wrong : (r : ℕ) → definition (drop at ws) ≡ refused r → Wrong r ≡ step_at ws at
+  pub step-wrong : (r : Refusal) → definition (drop at ws) ≡ Err r → Err r ≡ step_at ws at
   unfolding step_at stepped
   step-wrong r e = rw e
 
-  step-record : (d : Definition) (q kind faces first : ℕ) → definition (drop at ws) ≡ fine (record { read = d; left = drop q ws }) → q ≤ length ws →
+  step-record : (d : Definition) (q kind faces first : ℕ) → definition (drop at ws) ≡ Ok (record { read = d; left = drop q ws }) → q ≤ length ws →
       get_or ws at 0 ≡ kind → face_count d ≡ faces → first_of at d ≡ first →
-      Record (record { kind = kind; faces = faces; at = at; first = first }) (record { at = q }) ≡ step_at ws at
+      Ok ((record { kind = kind; faces = faces; at = at; first = first }), (record { at = q })) ≡ step_at ws at
   unfolding step_at stepped head_of
   step-record d q kind faces first e h k f g = rw (e, cursor-at ws q h, k, f, g)
 
-  pub step_end : length ws ≤ at → Wrong 3 ≡ step_at ws at
-  step_end h = step-wrong 3 (no_record h)
+  pub step_end : length ws ≤ at → Err WrongDefinitions ≡ step_at ws at
+  step_end h = step-wrong WrongDefinitions (no_record h)
 
-  pub step-unknown : at < length ws → 6 ≤ get_or ws at 0 → Wrong 3 ≡ step_at ws at
+  pub step-unknown : at < length ws → 6 ≤ get_or ws at 0 → Err WrongDefinitions ≡ step_at ws at
   unfolding kinds
   step-unknown more h =
-      step-wrong 3
-      (kind_at (get_or ws at 0) more refl ∙ ap (λ k. k (drop (at + 1) ws)) (get_or-eq_default kinds (λ l. refused 3) h))
+      step-wrong WrongDefinitions
+      (kind_at (get_or ws at 0) more refl ∙ ap (λ k. k (drop (at + 1) ws)) (get_or-eq_default kinds (λ l. Err WrongDefinitions) h))
 
   -- ---- solid
 
   module _ (kind count faces : ℕ) (s : SolidAt ws at kind count faces) where
-    pub solid-short : length ws - at - 1 < count → Wrong 3 ≡ step_at ws at
+    pub solid-short : length ws - at - 1 < count → Err WrongDefinitions ≡ step_at ws at
     unfolding made ◌>>=◌
-    solid-short h = step-wrong 3 (s.reads ∙ rw (numbers-short ws (at + 1) count (omega arith)))
+    solid-short h = step-wrong WrongDefinitions (s.reads ∙ rw (numbers-short ws (at + 1) count (omega arith)))
 
     pub solid-there : count ≤ length ws - at - 1 →
-        Record (record { kind = kind; faces = faces; at = at; first = at + 1 }) (record { at = at + 1 + count }) ≡ step_at ws at
+        Ok ((record { kind = kind; faces = faces; at = at; first = at + 1 }), (record { at = at + 1 + count })) ≡ step_at ws at
     unfolding made ◌>>=◌ face_count first_of
     solid-there h =
         step-record (solid s.places (take count (drop (at + 1) ws))) (at + 1 + count) kind faces (at + 1)
@@ -191,12 +208,12 @@ module _ (ws : List ℕ) (at : ℕ) where
     unfolding kinds
     polygon-reads = kind_at 0 k.there k.same
 
-    pub polygon-bad : Bad ≡ list_at ws (at + 1) 24 → Wrong 3 ≡ step_at ws at
+    pub polygon-bad : None ≡ list_at ws (at + 1) 24 → Err WrongDefinitions ≡ step_at ws at
     unfolding made ◌>>=◌
-    polygon-bad e = step-wrong 3 (polygon-reads ∙ rw (list-bad ws (at + 1) 24 e))
+    polygon-bad e = step-wrong WrongDefinitions (polygon-reads ∙ rw (list-bad ws (at + 1) 24 e))
 
-    pub polygon-there : (n : ℕ) → Count n ≡ list_at ws (at + 1) 24 →
-        Record (record { kind = 0; faces = n; at = at; first = at + 2 }) (record { at = at + 2 + n }) ≡ step_at ws at
+    pub polygon-there : (n : ℕ) → Some n ≡ list_at ws (at + 1) 24 →
+        Ok ((record { kind = 0; faces = n; at = at; first = at + 2 }), (record { at = at + 2 + n })) ≡ step_at ws at
     unfolding made ◌>>=◌ face_count first_of
     polygon-there n e =
         let l = list_count ws (at + 1) 24 n e in
@@ -207,25 +224,25 @@ module _ (ws : List ℕ) (at : ℕ) where
 -- ---- the faces of a polyhedron
 
 module _ (ws : List ℕ) where
-  pub skipped-more : (f : List ℕ) (r : Result (Taken (List (List ℕ)))) →
-      skipped ws (r >>= λ fs. fine (record { read = f ∷ fs.read; left = fs.left })) ≡ skipped ws r
+  pub skipped-more : (f : List ℕ) (r : Refusable (Taken (List (List ℕ)))) →
+      skipped ws (r >>= λ fs. Ok (record { read = f ∷ fs.read; left = fs.left })) ≡ skipped ws r
   unfolding ◌>>=◌ skipped
-  skipped-more f (refused n) = refl
-  skipped-more f (fine fs) = refl
+  skipped-more f (Err n) = refl
+  skipped-more f (Ok fs) = refl
 
   module _ (n i at : ℕ) where
-    pub skip-bad : i < n → Bad ≡ list_at ws at 8 → Short 3 ≡ skipped ws (face_lists (n - i) (drop at ws))
+    pub skip-bad : i < n → None ≡ list_at ws at 8 → Err WrongDefinitions ≡ skipped ws (face_lists (n - i) (drop at ws))
     unfolding face_lists ◌>>=◌ skipped
     skip-bad h e = rw (left-suc n i h, list-bad ws at 8 e)
 
-    pub skip-next : (k : ℕ) → i < n → Count k ≡ list_at ws at 8 →
+    pub skip-next : (k : ℕ) → i < n → Some k ≡ list_at ws at 8 →
         skipped ws (face_lists (n - i) (drop at ws)) ≡ skipped ws (face_lists (n - (i + 1)) (drop (at + 1 + k) ws))
     unfolding face_lists
     skip-next k h e =
         rw (left-suc n i h, (list_count ws at 8 k e).read)
         (unfold ◌>>=◌ in skipped-more (take k (drop (at + 1) ws)) (face_lists (n - (i + 1)) (drop (at + 1 + k) ws)))
 
-    pub skip-end : n ≤ i → at ≤ length ws → To at ≡ skipped ws (face_lists (n - i) (drop at ws))
+    pub skip-end : n ≤ i → at ≤ length ws → Ok at ≡ skipped ws (face_lists (n - i) (drop at ws))
     unfolding face_lists skipped
     skip-end h b =
         let z : n - i ≡ 0 = omega arith in
@@ -233,20 +250,20 @@ module _ (ws : List ℕ) where
         rw (z, e)
 
   -- what the answer tells
-  pub skipped-short : {A : Type 0} (t : Result (Taken A)) (r : ℕ) → Short r ≡ skipped ws t → t ≡ refused r
+  pub skipped-short : {A : Type 0} (t : Refusable (Taken A)) (r : Refusal) → Err r ≡ skipped ws t → t ≡ Err r
   unfolding skipped
-  skipped-short (refused n) r e = let w : r ≡ n = cc in rw w
-  skipped-short (fine t) r e = absurd (let z : ◌≡◌ {A = ℕ} 0 1 = cc in omega arith)
+  skipped-short (Err n) r e = let w : r ≡ n = cc in rw w
+  skipped-short (Ok t) r e = absurd (let z : ◌≡◌ {A = ℕ} 0 1 = cc in omega arith)
 
 -- the first of some faces, and the rest
 pub record FaceFirst (ws : List ℕ) (n p : ℕ) (w : Taken (List (List ℕ))) : Type 0 where
   pub count : ℕ
   pub first : Lists ws p 8 count
   pub rest : Taken (List (List ℕ))
-  pub more : face_lists n (drop (p + 1 + count) ws) ≡ fine rest
+  pub more : face_lists n (drop (p + 1 + count) ws) ≡ Ok rest
   pub same : record { read = take count (drop (p + 1) ws) ∷ rest.read; left = rest.left } ≡ w
 
-pub face-first : (ws : List ℕ) (n p : ℕ) (w : Taken (List (List ℕ))) → face_lists (suc n) (drop p ws) ≡ fine w → FaceFirst ws n p w
+pub face-first : (ws : List ℕ) (n p : ℕ) (w : Taken (List (List ℕ))) → face_lists (suc n) (drop p ws) ≡ Ok w → FaceFirst ws n p w
 unfolding face_lists
 face-first ws n p w e = by (list-case ws p 8)
   where
@@ -275,7 +292,7 @@ pub record FacesRead (ws : List ℕ) (n p : ℕ) (w : Taken (List (List ℕ))) :
   pub past : p + n ≤ end
   pub within : end ≤ length ws
 
-pub faces-read : (ws : List ℕ) (n p : ℕ) (w : Taken (List (List ℕ))) → p ≤ length ws → face_lists n (drop p ws) ≡ fine w → FacesRead ws n p w
+pub faces-read : (ws : List ℕ) (n p : ℕ) (w : Taken (List (List ℕ))) → p ≤ length ws → face_lists n (drop p ws) ≡ Ok w → FacesRead ws n p w
 faces-read ws zero p w h e =
     let m : record { read = []; left = drop p ws } ≡ w = unfold face_lists in cc in
     record { end = p; left = sym (ap (λ t. t.left) m); all = sym (ap (λ t. length t.read) m); past = omega arith; within = h }
@@ -297,14 +314,14 @@ module _ (ws : List ℕ) (at : ℕ) (k : KindAt ws at 5) where
   unfolding kinds
   polyhedron-reads = kind_at ws at 5 k.there k.same
 
-  pub polyhedron-none : length ws ≤ at + 1 → Wrong 3 ≡ step_at ws at
+  pub polyhedron-none : length ws ≤ at + 1 → Err WrongDefinitions ≡ step_at ws at
   unfolding made ◌>>=◌
-  polyhedron-none h = step-wrong ws at 3 (polyhedron-reads ∙ rw (counted_none ws (at + 1) 24 face_lists h))
+  polyhedron-none h = step-wrong ws at WrongDefinitions (polyhedron-reads ∙ rw (counted_none ws (at + 1) 24 face_lists h))
 
   module _ (n : ℕ) (more : at + 1 < length ws) (e : n ≡ get_or ws (at + 1) 0) where
-    pub polyhedron-over : 24 < n → Wrong 3 ≡ step_at ws at
+    pub polyhedron-over : 24 < n → Err WrongDefinitions ≡ step_at ws at
     unfolding made ◌>>=◌
-    polyhedron-over h = step-wrong ws at 3 (polyhedron-reads ∙ rw (counted-over ws (at + 1) 24 face_lists more (omega arith)))
+    polyhedron-over h = step-wrong ws at WrongDefinitions (polyhedron-reads ∙ rw (counted-over ws (at + 1) 24 face_lists more (omega arith)))
 
     module _ (few : n ≤ 24) where
       faces-left : counted 24 face_lists (drop (at + 1) ws) ≡ face_lists n (drop (at + 2) ws)
@@ -312,19 +329,19 @@ module _ (ws : List ℕ) (at : ℕ) (k : KindAt ws at 5) where
           let q : at + 1 + 1 ≡ at + 2 = omega arith in
           counted-within ws (at + 1) 24 face_lists more (omega arith) ∙ rw (← e, q)
 
-      pub polyhedron-short : (r : ℕ) → Short r ≡ skipped ws (face_lists n (drop (at + 2) ws)) → Wrong r ≡ step_at ws at
+      pub polyhedron-short : (r : Refusal) → Err r ≡ skipped ws (face_lists n (drop (at + 2) ws)) → Err r ≡ step_at ws at
       unfolding made ◌>>=◌
       polyhedron-short r h = step-wrong ws at r (polyhedron-reads ∙ rw (faces-left, skipped-short ws _ r h))
 
-      pub polyhedron-there : (q : ℕ) → To q ≡ skipped ws (face_lists n (drop (at + 2) ws)) →
-          Record (record { kind = 5; faces = n; at = at; first = at + 2 }) (record { at = q }) ≡ step_at ws at
+      pub polyhedron-there : (q : ℕ) → Ok q ≡ skipped ws (face_lists n (drop (at + 2) ws)) →
+          Ok ((record { kind = 5; faces = n; at = at; first = at + 2 }), (record { at = q })) ≡ step_at ws at
       unfolding skipped made ◌>>=◌ face_count first_of
       polyhedron-there q h = by (face_lists n (drop (at + 2) ws)) refl
         where
-          by : (t : Result (Taken (List (List ℕ)))) → face_lists n (drop (at + 2) ws) ≡ t →
-              Record (record { kind = 5; faces = n; at = at; first = at + 2 }) (record { at = q }) ≡ step_at ws at
-          by (refused r) g = absurd (let z : ◌≡◌ {A = ℕ} 0 1 = cc in omega arith)
-          by (fine w) g =
+          by : (t : Refusable (Taken (List (List ℕ)))) → face_lists n (drop (at + 2) ws) ≡ t →
+              Ok ((record { kind = 5; faces = n; at = at; first = at + 2 }), (record { at = q })) ≡ step_at ws at
+          by (Err r) g = absurd (let z : ◌≡◌ {A = ℕ} 0 1 = cc in omega arith)
+          by (Ok w) g =
               let f = faces-read ws n (at + 2) w (omega arith) g in
               let b = f.within in
               let l : q ≡ length ws - length w.left = cc in
@@ -332,5 +349,5 @@ module _ (ws : List ℕ) (at : ℕ) (k : KindAt ws at 5) where
               let v : q ≡ f.end = omega (arith, length-drop f.end ws) in
               let u : w.left ≡ drop q ws = f.left ∙ ap (λ e. drop e ws) (sym v) in
               step-record ws at (polyhedron w.read) q 5 n (at + 2)
-              (polyhedron-reads ∙ rw (faces-left, g) (ap {B = Result (Taken Definition)} (λ l. fine (record { read = polyhedron w.read; left = l })) u))
+              (polyhedron-reads ∙ rw (faces-left, g) (ap {B = Refusable (Taken Definition)} (λ l. Ok (record { read = polyhedron w.read; left = l })) u))
               (omega arith) k.same f.all refl

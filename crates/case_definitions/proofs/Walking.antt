@@ -9,7 +9,7 @@ use Rattle.arith.specs.Lists.{sides}
 use Rattle.arith.specs.Records.{part}
 use Rattle.arith.proofs.ListLaws.{left_at, length-sides}
 use Rattle.arith.proofs.RecordLaws.{left-suc}
-use Rattle.reading.specs.Result.{Result, refused, fine}
+use Rattle.reading.specs.Result.{Refusable}
 use Rattle.reading.proofs.ResultLaws.{bound}
 use Rattle.case_file.specs.Trailer.{words_from, words_in, words_of}
 use Rattle.case_file.specs.declared.Counts.{Counts}
@@ -19,9 +19,9 @@ use Rattle.case_definitions.specs.Definitions.{definitions}
 use Rattle.case_definitions.specs.Ensures.{head_of, step_at, walked, read_of, definition_at, HeadAt}
 use Rattle.case_definitions.specs.declared.Cursor.{Cursor}
 use Rattle.case_definitions.specs.declared.Head.{Head}
-use Rattle.case_definitions.specs.declared.Step.TheVariants.{Record, Wrong}
-use Rattle.case_definitions.specs.declared.Walked.TheVariants.{Faces}
 use Rattle.case_definitions.proofs.RecordLaws.{steps-to, steps-wrong}
+use Rattle.std.specs.Prelude.{Ok, Err}
+use Rattle.refusal.specs.declared.Refusal.{Refusal}
 
 -- the slice of a case's definition words has its words
 pub words-part : (file : List ℕ) (n : Counts) → words_from n + 4 * n.words ≤ length file → words_in (part file (words_from n) (4 * n.words)) ≡ words_of file n
@@ -31,7 +31,7 @@ words-part file n h =
     rw e at (words-lent file (words_from n) n.words h)
 
 -- as many definitions as cells
-pub length-definitions : (n : ℕ) (ws : List ℕ) (ds : List Definition) → definitions n ws ≡ fine ds → length ds ≡ n
+pub length-definitions : (n : ℕ) (ws : List ℕ) (ds : List Definition) → definitions n ws ≡ Ok ds → length ds ≡ n
 unfolding definitions
 length-definitions zero [] ds e = let w : [] ≡ ds = cc in rw (← w)
 length-definitions zero (x ∷ ws) ds e = absurd (let z : ◌≡◌ {A = ℕ} 0 1 = cc in omega arith)
@@ -51,16 +51,16 @@ length-faces_of (polyhedron faces) = refl
 -- the walk succeeded: the definitions, and F
 pub record Walks (ws : List ℕ) (cells f : ℕ) : Type 0 where
   pub ds : List Definition
-  pub read : definitions cells ws ≡ fine ds
+  pub read : definitions cells ws ≡ Ok ds
   pub count : f ≡ faces_counted ds
 
-pub walks : (ws : List ℕ) (cells f : ℕ) → Faces f ≡ walked (definitions cells ws) → Walks ws cells f
+pub walks : (ws : List ℕ) (cells f : ℕ) → Ok f ≡ walked (definitions cells ws) → Walks ws cells f
 unfolding walked
 walks ws cells f e = by (definitions cells ws) refl
   where
-    by : (t : Result (List Definition)) → definitions cells ws ≡ t → Walks ws cells f
-    by (refused n) g = absurd (let z : ◌≡◌ {A = ℕ} 0 1 = cc in omega arith)
-    by (fine ds) g = record { ds = ds; read = g; count = cc }
+    by : (t : Refusable (List Definition)) → definitions cells ws ≡ t → Walks ws cells f
+    by (Err n) g = absurd (let z : ◌≡◌ {A = ℕ} 0 1 = cc in omega arith)
+    by (Ok ds) g = record { ds = ds; read = g; count = cc }
 
 -- ---- record i of a walk that succeeds: `definitions (cells - i) (drop at ws) ≡ fine (drop i ds)`
 
@@ -68,29 +68,29 @@ walks ws cells f e = by (definitions cells ws) refl
 pub record CellRead (ws : List ℕ) (cells i : ℕ) (ds : List Definition) (h : Head) (at next : ℕ) (none : Definition) : Type 0 where
   pub same : get_or ds i none ≡ definition_at ws at
   pub head : h ≡ head_of (get_or ws at 0) at (get_or ds i none)
-  pub rest : definitions (cells - (i + 1)) (drop next ws) ≡ fine (drop (i + 1) ds)
+  pub rest : definitions (cells - (i + 1)) (drop next ws) ≡ Ok (drop (i + 1) ds)
   pub within : next ≤ length ws
 
 module _ (ws : List ℕ) (cells i at : ℕ) (ds : List Definition) (more : i < cells) (length-is : length ds ≡ cells)
-    (left : definitions (cells - i) (drop at ws) ≡ fine (drop i ds)) where
+    (left : definitions (cells - i) (drop at ws) ≡ Ok (drop i ds)) where
   -- it is right
-  pub never-wrong : (r : ℕ) → Wrong r ≡ step_at ws at → ⊥
+  pub never-wrong : (r : Refusal) → Err r ≡ step_at ws at → ⊥
   unfolding definitions
   never-wrong r e =
       let n = left-suc cells i more in
       let g = steps-wrong ws at r e in
-      let t : definitions (suc (cells - (i + 1))) (drop at ws) ≡ fine (drop i ds) = rw n at left in
+      let t : definitions (suc (cells - (i + 1))) (drop at ws) ≡ Ok (drop i ds) = rw n at left in
       let u = bound _ _ _ t in
       let v = u.had in
       let z : ◌≡◌ {A = ℕ} 0 1 = cc in
       omega arith
 
-  pub cell-read : (h : Head) (c : Cursor) (none : Definition) → Record h c ≡ step_at ws at → CellRead ws cells i ds h at c.at none
+  pub cell-read : (h : Head) (c : Cursor) (none : Definition) → Ok (h, c) ≡ step_at ws at → CellRead ws cells i ds h at c.at none
   unfolding definitions definition_at read_of
   cell-read h c none e =
       let n = left-suc cells i more in
       let s = steps-to ws at h c e in
-      let t : definitions (suc (cells - (i + 1))) (drop at ws) ≡ fine (drop i ds) = rw n at left in
+      let t : definitions (suc (cells - (i + 1))) (drop at ws) ≡ Ok (drop i ds) = rw n at left in
       let u = bound _ _ _ t in
       let v = u.had in
       let w = bound _ _ _ u.then in
@@ -104,7 +104,7 @@ module _ (ws : List ℕ) (cells i at : ℕ) (ds : List Definition) (more : i < c
       record {
         same = a ∙ sym (ap read_of s.read);
         head = s.head ∙ ap (head_of (get_or ws at 0) at) (sym a);
-        rest = ap (λ k. definitions (cells - (i + 1)) k.left) (sym d) ∙ w.had ∙ ap fine (sym q);
+        rest = ap (λ k. definitions (cells - (i + 1)) k.left) (sym d) ∙ w.had ∙ ap Ok (sym q);
         within = s.within;
       }
 

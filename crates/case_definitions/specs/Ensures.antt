@@ -5,35 +5,28 @@
 -- `stepped`, `step_at`: the record at a position. `walked`, `walked_faces`: all of them.
 -- `read_of`, `definition_at`, `face_at`: what stands there. `HeadAt`: its head.
 -- `HeadTo`, `Looks`, `RunExit`: records that look like the one before them.
-use Rattle.std.specs.Prelude.{ℕ, ◌+◌, ◌-◌, ◌*◌, ◌<◌, ◌≤◌, ◌≡◌, List, [], ◌++◌, length, get_or, drop}
+use Rattle.std.specs.Prelude.{ℕ, ◌+◌, ◌-◌, ◌*◌, ◌<◌, ◌≤◌, ◌≡◌, List, [], ◌++◌, length, get_or, drop, Some, None, Ok, Err}
 use Rattle.arith.specs.All.{All}
-use Rattle.reading.specs.Result.{Result, refused, fine, ◌>>=◌}
+use Rattle.reading.specs.Result.{Refusable, ◌>>=◌}
 use Rattle.case_definitions.specs.Faces.{solid, Definition, polygon, polyhedron, face_count, faces_counted, faces_of}
 use Rattle.case_definitions.specs.Definitions.{Taken, numbers, counted, made, definition, definitions}
-use Rattle.case_definitions.specs.declared.Listed.{Listed}
-use Rattle.case_definitions.specs.declared.Listed.TheVariants.{Count, Bad}
-use Rattle.case_definitions.specs.declared.Skipped.{Skipped}
-use Rattle.case_definitions.specs.declared.Skipped.TheVariants.{To, Short}
 use Rattle.case_definitions.specs.declared.Cursor.{Cursor}
 use Rattle.case_definitions.specs.declared.Head.{Head}
-use Rattle.case_definitions.specs.declared.Step.{Step}
-use Rattle.case_definitions.specs.declared.Step.TheVariants.{Record, Wrong}
-use Rattle.case_definitions.specs.declared.Walked.{Walked}
-use Rattle.case_definitions.specs.declared.Walked.TheVariants.{Faces, Refused}
+use Rattle.std.specs.declared.option.Option.{Option}
 
 -- the count of a list that was read, or that it was refused
-unfoldable pub listed : Result (Taken (List ℕ)) → Listed
-listed (refused r) = Bad
-listed (fine w) = Count (length w.read)
+unfoldable pub listed : Refusable (Taken (List ℕ)) → Option ℕ
+listed (Err r) = None
+listed (Ok w) = Some (length w.read)
 
 -- a count of at most `limit` at a position, with as many words after it
-unfoldable pub list_at : List ℕ → ℕ → ℕ → Listed
+unfoldable pub list_at : List ℕ → ℕ → ℕ → Option ℕ
 list_at ws at limit = listed (counted limit numbers (drop at ws))
 
 -- the position after what was read
-unfoldable pub skipped : {A : Type 0} → List ℕ → Result (Taken A) → Skipped
-skipped ws (refused r) = Short r
-skipped ws (fine w) = To (length ws - length w.left)
+unfoldable pub skipped : {A : Type 0} → List ℕ → Refusable (Taken A) → Refusable ℕ
+skipped ws (Err r) = Err r
+skipped ws (Ok w) = Ok (length ws - length w.left)
 
 -- the word at a position is the kind word `kind`
 pub record KindAt (ws : List ℕ) (at kind : ℕ) : Type 0 where
@@ -64,30 +57,30 @@ unfoldable pub cursor_at : List ℕ → List ℕ → Cursor
 cursor_at ws left = record { at = length ws - length left }
 
 -- refusal 3, or a record and what is left
-unfoldable pub stepped : List ℕ → ℕ → Result (Taken Definition) → Step
-stepped ws at (refused r) = Wrong r
-stepped ws at (fine w) = Record (head_of (get_or ws at 0) at w.read) (cursor_at ws w.left)
+unfoldable pub stepped : List ℕ → ℕ → Refusable (Taken Definition) → Refusable (Head × Cursor)
+stepped ws at (Err r) = Err r
+stepped ws at (Ok w) = Ok ((head_of (get_or ws at 0) at w.read), (cursor_at ws w.left))
 
 -- the record at a position
-unfoldable pub step_at : List ℕ → ℕ → Step
+unfoldable pub step_at : List ℕ → ℕ → Refusable (Head × Cursor)
 step_at ws at = stepped ws at (definition (drop at ws))
 
 -- F, or the refusal
-unfoldable pub walked : Result (List Definition) → Walked
-walked (refused r) = Refused r
-walked (fine ds) = Faces (faces_counted ds)
+unfoldable pub walked : Refusable (List Definition) → Refusable ℕ
+walked (Err r) = Err r
+walked (Ok ds) = Ok (faces_counted ds)
 
 -- what each case of the answer stands for
-unfoldable pub walked_faces : Walked → Result ℕ
-walked_faces (Faces f) = fine f
-walked_faces (Refused r) = refused r
+unfoldable pub walked_faces : Refusable ℕ → Refusable ℕ
+walked_faces (Ok f) = Ok f
+walked_faces (Err r) = Err r
 
 -- ---- the faces of one record
 
 -- what a right record was read as
-unfoldable pub read_of : Result (Taken Definition) → Definition
-read_of (refused r) = polygon []
-read_of (fine w) = w.read
+unfoldable pub read_of : Refusable (Taken Definition) → Definition
+read_of (Err r) = polygon []
+read_of (Ok w) = w.read
 
 -- the definition at a position
 unfoldable pub definition_at : List ℕ → ℕ → Definition
@@ -100,13 +93,13 @@ face_at ws at k = get_or (faces_of (definition_at ws at)) k []
 -- h is the head of a right record
 pub record HeadAt (ws : List ℕ) (h : Head) : Type 0 where
   pub next : Cursor
-  pub step : step_at ws h.at ≡ Record h next
+  pub step : step_at ws h.at ≡ Ok (h, next)
 
 -- ---- records that look alike
 
 -- h is the head of a right record that ends at `next`
 pub record HeadTo (ws : List ℕ) (h : Head) (next : ℕ) : Type 0 where
-  pub step : step_at ws h.at ≡ Record h (record { at = next })
+  pub step : step_at ws h.at ≡ Ok (h, (record { at = next }))
 
 -- the record from p on has room for `size` words, the kind word of the one at `from` and, where that is a polygon, its count
 pub record Looks (ws : List ℕ) (from size p : ℕ) : Type 0 where
@@ -122,4 +115,4 @@ pub record RunExit (ws : List ℕ) (from at left faces r : ℕ) : Type 0 where
   pub read : List Definition
   pub long : length read ≡ r
   pub alike : All (λ d. face_count d ≡ faces) read
-  pub rest : (m : ℕ) → definitions (r + m) (drop at ws) ≡ (definitions m (drop (at + r * (at - from)) ws) >>= λ ds. fine (read ++ ds))
+  pub rest : (m : ℕ) → definitions (r + m) (drop at ws) ≡ (definitions m (drop (at + r * (at - from)) ws) >>= λ ds. Ok (read ++ ds))

@@ -19,31 +19,3 @@ pub struct Head {
     pub at: usize,
     pub first: usize,
 }
-
-// The record at a cursor, with the cursor after it; or the refusal.
-#[derive(Clone, Copy)]
-pub enum Step {
-    Record(Head, Cursor),
-    Wrong(u64),
-}
-
-// The number of faces of all records, or the refusal.
-#[derive(Clone, Copy)]
-pub enum Walked {
-    Faces(usize),
-    Refused(u64),
-}
-
-// A count with as many words after it.
-#[derive(Clone, Copy)]
-enum Listed {
-    Count(usize),
-    Bad,
-}
-
-// The position after some faces of a polyhedron; or the refusal.
-#[derive(Clone, Copy)]
-pub enum Skipped {
-    To(usize),
-    Short(u64),
-}

@@ -8,9 +8,10 @@ ghost use Rattle.case_definitions.specs.Definitions.{definitions, face_lists};
 ghost use Rattle.case_definitions.specs.Ensures.{step_at, walked};
 ghost use Rattle.case_definitions.specs.Ensures as Ensures;
 
-use crate::{Cursor, Head, Listed, Skipped, Step, Walked};
+use crate::{Cursor, Head};
 use arith::bytes;
 use case_file::Counts;
+use refusal::Refusal;
 
 // The definition words, from a position on.
 #[derive(Clone, Copy)]
@@ -45,51 +46,55 @@ fn word_at(words: &[u8], at: usize) -> u32
 }
 
 // A count of at most `limit` at a position, with as many words after it.
-fn list_at(words: &[u8], at: usize, limit: usize) -> Listed
+fn list_at(words: &[u8], at: usize, limit: usize) -> Option<usize>
     ensures { result ≡ Ensures.list_at (words_in words.now) at limit }
 {
     let all = total(words);
     if all <= at {
-        return Listed::Bad;
+        return None;
     }
     let n = word_at(words, at) as usize;
     if limit < n {
-        return Listed::Bad;
+        return None;
     }
     if all - at - 1 < n {
-        return Listed::Bad;
+        return None;
     }
-    Listed::Count(n)
+    Some(n)
 }
 
 // A polygon: a count of at most 24, then its numbers.
-fn polygon(words: &[u8], at: usize) -> Step
+fn polygon(words: &[u8], at: usize) -> Result<(Head, Cursor), Refusal>
     requires { Ensures.KindAt (words_in words.now) at 0 }
     ensures { result ≡ step_at (words_in words.now) at }
 {
-    match list_at(words, at + 1, 24) {
-        Listed::Bad => Step::Wrong(3),
-        Listed::Count(n) => Step::Record(
-            Head {
-                kind: 0,
-                faces: n,
-                at,
-                first: at + 2,
-            },
-            Cursor { at: at + 2 + n },
-        ),
-    }
+    let n = list_at(words, at + 1, 24).ok_or(Refusal::WrongDefinitions)?;
+    Ok((
+        Head {
+            kind: 0,
+            faces: n,
+            at,
+            first: at + 2,
+        },
+        Cursor { at: at + 2 + n },
+    ))
 }
 
 // A solid: its numbers.
-fn solid(words: &[u8], at: usize, kind: u32, numbers: usize, faces: usize) -> Step
+fn solid(
+    words: &[u8],
+    at: usize,
+    kind: u32,
+    numbers: usize,
+    faces: usize,
+) -> Result<(Head, Cursor), Refusal>
     requires { Ensures.SolidAt (words_in words.now) at kind numbers faces }
     ensures { result ≡ step_at (words_in words.now) at }
 {
     if total(words) - at - 1 < numbers {
-        return Step::Wrong(3);
+        return Err(Refusal::WrongDefinitions);
     }
-    Step::Record(
+    Ok((
         Head {
             kind,
             faces,
@@ -99,59 +104,55 @@ fn solid(words: &[u8], at: usize, kind: u32, numbers: usize, faces: usize) -> St
         Cursor {
             at: at + 1 + numbers,
         },
-    )
+    ))
 }
 
 // The position after n faces of a polyhedron.
-fn skip_faces(words: &[u8], first: usize, n: usize) -> Skipped
+fn skip_faces(words: &[u8], first: usize, n: usize) -> Result<usize, Refusal>
     requires { first ≤ length (words_in words.now) }
     ensures { result ≡ Ensures.skipped (words_in words.now)
         (face_lists n (drop first (words_in words.now))) }
 {
     let mut at = first;
     for _ in 0..n {
-        let Listed::Count(count) = list_at(words, at, 8) else {
-            return Skipped::Short(3);
-        };
+        let count = list_at(words, at, 8).ok_or(Refusal::WrongDefinitions)?;
         at += 1 + count;
     }
-    Skipped::To(at)
+    Ok(at)
 }
 
 // A polyhedron: a face count of at most 24, then its faces.
-fn polyhedron(words: &[u8], at: usize) -> Step
+fn polyhedron(words: &[u8], at: usize) -> Result<(Head, Cursor), Refusal>
     requires { Ensures.KindAt (words_in words.now) at 5 }
     ensures { result ≡ step_at (words_in words.now) at }
 {
     let all = total(words);
     if all <= at + 1 {
-        return Step::Wrong(3);
+        return Err(Refusal::WrongDefinitions);
     }
     let n = word_at(words, at + 1) as usize;
     if 24 < n {
-        return Step::Wrong(3);
+        return Err(Refusal::WrongDefinitions);
     }
-    match skip_faces(words, at + 2, n) {
-        Skipped::Short(r) => Step::Wrong(r),
-        Skipped::To(next) => Step::Record(
-            Head {
-                kind: 5,
-                faces: n,
-                at,
-                first: at + 2,
-            },
-            Cursor { at: next },
-        ),
-    }
+    let next = skip_faces(words, at + 2, n)?;
+    Ok((
+        Head {
+            kind: 5,
+            faces: n,
+            at,
+            first: at + 2,
+        },
+        Cursor { at: next },
+    ))
 }
 
 // The record at a cursor, and the cursor after it.
-fn step(words: &[u8], c: Cursor) -> Step
+fn step(words: &[u8], c: Cursor) -> Result<(Head, Cursor), Refusal>
     ensures { result ≡ step_at (words_in words.now) c.at }
 {
     let at = c.at;
     if total(words) <= at {
-        return Step::Wrong(3);
+        return Err(Refusal::WrongDefinitions);
     }
     match word_at(words, at) {
         0 => polygon(words, at),
@@ -160,7 +161,7 @@ fn step(words: &[u8], c: Cursor) -> Step
         3 => solid(words, at, 3, 6, 5),
         4 => solid(words, at, 4, 5, 5),
         5 => polyhedron(words, at),
-        6..=0xffff_ffff => Step::Wrong(3),
+        6..=0xffff_ffff => Err(Refusal::WrongDefinitions),
     }
 }
 
@@ -182,14 +183,14 @@ fn past<'a>(w: Walker<'a>, next: Cursor) -> Walker<'a>
 }
 
 // The record at a walker, and the cursor after it.
-fn head<'a>(w: Walker<'a>) -> Step
+fn head<'a>(w: Walker<'a>) -> Result<(Head, Cursor), Refusal>
     ensures { result ≡ step_at (words_in w.entry.words.now) w.entry.at }
 {
     step(w.words, Cursor { at: w.at })
 }
 
 // The record at a cursor, and the cursor after it, read through a walker.
-pub fn record_at(words: &[u8], c: Cursor) -> Step
+pub fn record_at(words: &[u8], c: Cursor) -> Result<(Head, Cursor), Refusal>
     ensures { result ≡ step_at (words_in words.now) c.at }
 {
     head(past(start(words), c))
@@ -264,7 +265,7 @@ fn next_wait(wait: usize, k: usize) -> usize {
 }
 
 // The number of faces of all records, which are exactly as many as the cells; or refusal 3.
-pub fn walk(words: &[u8], cells: usize) -> Walked
+pub fn walk(words: &[u8], cells: usize) -> Result<usize, Refusal>
     ensures { result ≡ walked (definitions cells (words_in words.now)) }
 {
     let mut at = 0;
@@ -273,19 +274,15 @@ pub fn walk(words: &[u8], cells: usize) -> Walked
     let mut wait = 0;
     // No `for`: a turn passes over a record and all that look like it.
     while i < cells {
-        match record_at(words, Cursor { at }) {
-            Step::Wrong(r) => return Walked::Refused(r),
-            Step::Record(head, next) => {
-                let k = run_if(wait, words, head, next.at, cells - i - 1);
-                faces += head.faces * (k + 1);
-                at = next.at + k * (next.at - head.at);
-                i += k + 1;
-                wait = next_wait(wait, k);
-            }
-        }
+        let (head, next) = record_at(words, Cursor { at })?;
+        let k = run_if(wait, words, head, next.at, cells - i - 1);
+        faces += head.faces * (k + 1);
+        at = next.at + k * (next.at - head.at);
+        i += k + 1;
+        wait = next_wait(wait, k);
     }
     if at < total(words) {
-        return Walked::Refused(3);
+        return Err(Refusal::WrongDefinitions);
     }
-    Walked::Faces(faces)
+    Ok(faces)
 }

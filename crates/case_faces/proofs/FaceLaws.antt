@@ -15,7 +15,6 @@ use Rattle.arith.proofs.All.{All, all_get_or, all_more}
 use Rattle.arith.proofs.ListLaws.{left_at, length-sides, sides-at}
 use Rattle.arith.proofs.RoundLaws.{after_less}
 use Rattle.arith.proofs.RecordLaws.{get_or_part}
-use Rattle.reading.specs.Result.{fine}
 use Rattle.case_definitions.specs.Faces.{Definition, polygon, solid, polyhedron, tetrahedron, hexahedron, prism, pyramid, ends, picked, faces_of, face_count}
 use Rattle.case_definitions.specs.Definitions.{Taken, face_lists}
 use Rattle.case_definitions.specs.Ensures.{first_of, head_of, step_at, read_of, definition_at, face_at, HeadAt}
@@ -26,9 +25,9 @@ use Rattle.case_faces.specs.declared.Places.{Places}
 use Rattle.case_faces.specs.declared.Places.TheVariants.{Three, Four}
 use Rattle.case_faces.specs.declared.FaceCursor.{FaceCursor}
 use Rattle.case_definitions.specs.declared.Cursor.{Cursor}
-use Rattle.case_definitions.specs.declared.Step.TheVariants.{Record}
 use Rattle.case_definitions.proofs.WalkLaws.{Lists, face-first, faces-read}
 use Rattle.case_definitions.proofs.RecordLaws.{IsSolid, is-tetrahedron, is-hexahedron, is-prism, is-pyramid, RecordCase, a-polygon, a-solid, a-polyhedron, record-case, StepsTo, steps-to}
+use Rattle.std.specs.Prelude.{Ok}
 
 -- ---- what a head tells, kind by kind
 
@@ -49,7 +48,7 @@ pub record SolidHead (ws : List ℕ) (h : Head) : Type 0 where
 -- a polyhedron's faces
 pub record PolyhedronHead (ws : List ℕ) (h : Head) : Type 0 where
   pub lists : Taken (List (List ℕ))
-  pub list : face_lists h.faces (drop h.first ws) ≡ fine lists
+  pub list : face_lists h.faces (drop h.first ws) ≡ Ok lists
   pub read : definition_at ws h.at ≡ polyhedron lists.read
   pub room : h.first ≤ length ws
 
@@ -232,7 +231,7 @@ record FaceIn (ws : List ℕ) (w : Taken (List (List ℕ))) (k at : ℕ) : Type 
   lists : Lists ws at 8 (get_or ws at 0)
   same : get_or w.read k [] ≡ take (get_or ws at 0) (drop (at + 1) ws)
 
-face-in : (ws : List ℕ) (n p : ℕ) (w : Taken (List (List ℕ))) → face_lists n (drop p ws) ≡ fine w → (k : ℕ) → k < n → FaceIn ws w k (face_from ws p k)
+face-in : (ws : List ℕ) (n p : ℕ) (w : Taken (List (List ℕ))) → face_lists n (drop p ws) ≡ Ok w → (k : ℕ) → k < n → FaceIn ws w k (face_from ws p k)
 face-in ws zero p w e k b = absurd (omega arith)
 face-in ws (suc n) p w e zero b =
     let f = face-first ws n p w e in
@@ -317,7 +316,7 @@ module _ (ws : List ℕ) (h : Head) (c : FaceCursor) (a : AtFace ws h c) (b : c.
           rw (eq-eqb h.kind 5 k, add-one c.face, ← a.place k) (ap (λ x. c.at + 1 + x) (e ∙ sym p.count))
 
 -- the head of a step is a right record's, and its first face starts where the head says
-pub headed : (ws : List ℕ) (at : ℕ) (h : Head) (n : Cursor) → Record h n ≡ step_at ws at → HeadAt ws h
+pub headed : (ws : List ℕ) (at : ℕ) (h : Head) (n : Cursor) → Ok (h, n) ≡ step_at ws at → HeadAt ws h
 unfolding head_of
 headed ws at h n e =
     let s = steps-to ws at h n e in

@@ -18,8 +18,8 @@ use Rattle.case_file.proofs.TrailerLaws.{zones-some, ends, Opens, opens}
 use Rattle.arith.specs.F64.{0·0}
 use Rattle.arith.specs.Vec.{origin}
 use Rattle.case_file.specs.declared.Counts.{Counts}
-use Rattle.case_file.specs.declared.Opened.TheVariants.{Case}
 use Rattle.case_file.specs.Field.{blank, outside, cells_of, zero_values, values_in, values_of, zone_in, zone_of, zones_of, is_at_most, zones_within}
+use Rattle.std.specs.Prelude.{Ok}
 
 module _ (at n : ℕ) (l : List ℕ) (fits : at + n ≤ length l) where
   pub length-blank : length (blank at n l) ≡ length l
@@ -175,7 +175,7 @@ module _ (file : List ℕ) where
   unfolding zones_within
   outside-zones-within = ap (all_of (is_at_most 255)) outside-zones
 
-  module _ (n : Counts) (e : opened file ≡ Case n) where
+  module _ (n : Counts) (e : opened file ≡ Ok n) where
     o : Opens file n
     o = opens file n e
 

@@ -8,8 +8,9 @@ use lib.Dec.{leb, ltb}
 use lib.ListN.{length}
 use borrow.Author.Tests.{eq-eqb, ne_eqb, le-leb, lt-leb, eqb-true, ltb-false}
 use Rattle.case_file.specs.declared.Counts.{Counts}
-use Rattle.case_file.specs.declared.Opened.TheVariants.{Case, Refused}
 use Rattle.case_file.specs.Trailer.{counts_of, zones_from, zone_bytes, trailer_from, is_dimension, has_offsets, has_zones, has_parts, trailer_right, over_limit, opened}
+use Rattle.std.specs.Prelude.{Ok, Err}
+use Rattle.refusal.specs.declared.Refusal.TheVariants.{WrongTrailer, CountOverLimit}
 
 pub and_left : (a b : Bool) → (a && b) ≡ true → a ≡ true
 and_left true b e = refl
@@ -33,12 +34,12 @@ zones-some n h = rw (eq-eqb n.edition 2 h)
 -- ---- the answers of `open`
 
 module _ (file : List ℕ) where
-  pub open-short : length file < 32 → Refused 1 ≡ opened file
+  pub open-short : length file < 32 → Err WrongTrailer ≡ opened file
   unfolding opened trailer_right
   open-short h = rw (lt-leb 32 (length file) h)
 
   module _ (long : 32 ≤ length file) (n : Counts) (same : n ≡ counts_of file) where
-    pub open-flat : is_dimension n.dimension ≡ false → Refused 1 ≡ opened file
+    pub open-flat : is_dimension n.dimension ≡ false → Err WrongTrailer ≡ opened file
     unfolding opened trailer_right
     open-flat e = let d : is_dimension (counts_of file).dimension ≡ false = rw (← same) e in rw (le-leb 32 (length file) long, d)
 
@@ -46,7 +47,7 @@ module _ (file : List ℕ) where
       d : is_dimension (counts_of file).dimension ≡ true
       d = rw (← same) dim
 
-      pub open-wrong : has_parts file n ≡ false → Refused 1 ≡ opened file
+      pub open-wrong : has_parts file n ≡ false → Err WrongTrailer ≡ opened file
       unfolding opened trailer_right
       open-wrong e = let p : has_parts file (counts_of file) ≡ false = rw (← same) e in rw (le-leb 32 (length file) long, d, p)
 
@@ -55,11 +56,11 @@ module _ (file : List ℕ) where
         unfolding trailer_right
         right = let p : has_parts file (counts_of file) ≡ true = rw (← same) parts in rw (le-leb 32 (length file) long, d, p)
 
-        pub open-over : over_limit n ≡ true → Refused 2 ≡ opened file
+        pub open-over : over_limit n ≡ true → Err CountOverLimit ≡ opened file
         unfolding opened
         open-over e = let o : over_limit (counts_of file) ≡ true = rw (← same) e in rw (right, o)
 
-        pub open-case : over_limit n ≡ false → Case n ≡ opened file
+        pub open-case : over_limit n ≡ false → Ok n ≡ opened file
         unfolding opened
         open-case e = let o : over_limit (counts_of file) ≡ false = rw (← same) e in rw (right, o, same)
 
@@ -97,7 +98,7 @@ within n e =
     or_right true b e = absurd (let z : ◌≡◌ {A = ℕ} 0 1 = cc in omega arith)
     or_right false b e = e
 
-pub opens : (file : List ℕ) (n : Counts) → opened file ≡ Case n → Opens file n
+pub opens : (file : List ℕ) (n : Counts) → opened file ≡ Ok n → Opens file n
 unfolding opened
 opens file n e = by (trailer_right file) refl (over_limit (counts_of file)) refl
   where

@@ -1,29 +1,24 @@
--- The zones of a case that opened: where they stand, and a test of them by number. Assumes nothing.
-use Prim.Native.Nat.{ℕ, zero, suc, ◌+◌, ◌*◌, ◌≤◌, ◌<◌}
-use native.Mathlib.Nat.{zero-add}
+-- The zones of a case that opened: where they stand, and the walk for the largest of them. Assumes nothing.
+use Prim.Native.Nat.{ℕ, ◌+◌, ◌*◌, ◌≤◌, ◌<◌}
 use native.Mathlib.Omega.{arith}
 use mathlib.Core.Path.{◌≡◌, refl, ap, sym, ◌∙◌}
 use mathlib.Core.Bool.{Bool, true, false, cond, ◌&&◌}
-use mathlib.Core.List.{List, [], ◌∷◌, ◌++◌, map}
-use lib.Dec.{ltb, eqb}
-use lib.ListN.{length, get_or, get_or-eq_default}
+use mathlib.Core.List.{List, [], ◌∷◌}
+use lib.Dec.{leb, ltb, eqb}
+use lib.ListN.{length, get_or, drop, drop_of_length-le, get_or-eq_default}
 use mathlib.Core.Logic.{⊎_elim}
-use borrow.Author.Tests.{lt-ltb, le-ltb, eq-eqb, ne_eqb}
+use borrow.Author.Tests.{lt-ltb, le-ltb, ltb-true, ltb-false, le-leb, lt-leb, leb-true, leb-false, eq-eqb, ne_eqb}
+use Rattle.std.specs.Prelude.{max, Ok}
 use Rattle.arith.specs.Bytes.{le32}
-use Rattle.std.proofs.Common.{add-one}
-use Rattle.std.specs.List.{list_all, range_with_len}
-use Rattle.std.proofs.lemmas.List.Folds.{list_all-map}
-use Rattle.std.proofs.lemmas.List.FromFn.{map-range_with_len_more}
-use Rattle.arith.specs.Lists.{all_of}
-use Rattle.arith.specs.Records.{tab}
+use Rattle.arith.specs.Lists.{fold, all_of}
+use Rattle.arith.proofs.ListLaws.{foldl-next}
 use Rattle.arith.proofs.RecordLaws.{length-tab, get_or-tab, lt-or-ge}
 use Rattle.case_file.specs.declared.Counts.{Counts}
-use Rattle.case_file.specs.declared.Opened.TheVariants.{Case}
 use Rattle.case_file.specs.Trailer.{counts_of, zones_from, opened}
-use Rattle.case_file.specs.Field.{cells_of, zone_in, zone_of, zones_of}
+use Rattle.case_file.specs.Field.{cells_of, zone_in, zone_of, zones_of, is_at_most, larger}
 use Rattle.case_file.proofs.TrailerLaws.{zones-some, Opens, opens}
 
-module _ (file : List ℕ) (n : Counts) (e : opened file ≡ Case n) where
+module _ (file : List ℕ) (n : Counts) (e : opened file ≡ Ok n) where
   o : Opens file n
   o = opens file n e
 
@@ -46,6 +41,16 @@ module _ (file : List ℕ) (n : Counts) (e : opened file ≡ Case n) where
 
     pub zone-fits : i < n.cells → 24 * n.points + 4 * n.words + 32 * n.cells + 4 * i + 4 ≤ length file
     zone-fits h = omega (arith, o.whole, zones-some n two)
+
+-- ---- the larger of two
+
+pub larger-max : (a b : ℕ) → max a b ≡ larger a b
+unfolding larger
+larger-max a b = by (ltb a b) refl
+  where
+    by : (x : Bool) → ltb a b ≡ x → max a b ≡ cond x b a
+    by true f = omega (arith, ltb-true a b f)
+    by false f = omega (arith, ltb-false a b f)
 
 -- ---- the list of them
 
@@ -73,30 +78,37 @@ module _ (file : List ℕ) where
       beyond : cells_of file ≤ i → get_or (zones_of file) i 0 ≡ zone_of file i
       beyond h = get_or-eq_default (zones_of file) 0 (rw length-zones h) ∙ sym (none i h)
 
--- ---- a test of every cell's zone
+  module _ (n : Counts) (e : opened file ≡ Ok n) (i : ℕ) where
+    cells : n.cells ≡ length (zones_of file)
+    unfolding cells_of
+    cells = ap (λ (m : Counts). m.cells) (opens file n e).same ∙ sym length-zones
 
-pub every : (p : ℕ → Bool) (l : List ℕ) → list_all p l ≡ all_of p l
-unfolding all_of
-every p [] = refl
-every p (z ∷ l) = by (p z) (every p l)
+    -- one turn of the walk for the largest, and its end
+    pub largest-next : (most r : ℕ) → i < n.cells → r ≡ zone_of file i → fold larger most (drop i (zones_of file)) ≡ fold larger (max most r) (drop (i + 1) (zones_of file))
+    largest-next most r less er =
+        foldl-next (zones_of file) i 0 (rw (← cells) less) larger most ∙ ap (λ (m : ℕ). fold larger m (drop (i + 1) (zones_of file))) (ap (larger most) (get_or-zones i ∙ sym er) ∙ sym (larger-max most r))
+
+    pub largest-end : (most : ℕ) → n.cells ≤ i → fold larger most (drop i (zones_of file)) ≡ most
+    unfolding fold
+    largest-end most h = rw (drop_of_length-le (zones_of file) {i = i} (rw (← cells) h))
+
+-- ---- none is above a bound where the largest is not
+
+larger-within : (most a z : ℕ) → a ≤ most → z ≤ most → larger a z ≤ most
+larger-within most a z h k = omega (arith, larger-max a z)
+
+grows : (a : ℕ) (zones : List ℕ) → a ≤ fold larger a zones
+unfolding fold
+grows a [] = omega arith
+grows a (z ∷ zones) = omega (arith, larger-max a z, grows (larger a z) zones)
+
+pub at_most : (most a : ℕ) (zones : List ℕ) → a ≤ most → leb (fold larger a zones) most ≡ all_of (is_at_most most) zones
+unfolding fold all_of is_at_most
+at_most most a [] h = le-leb a most h
+at_most most a (z ∷ zones) h = by (leb z most) refl (λ k. at_most most (larger a z) zones k)
   where
-    by : (t : Bool) → list_all p l ≡ all_of p l → (t && list_all p l) ≡ elim t [ true ↦ all_of p l | false ↦ false ]
-    by true e = e
-    by false e = refl
-
-by-number : (f : ℕ → ℕ) (n : ℕ) → map f (range_with_len 0 n) ≡ tab f n
-unfolding tab
-by-number f zero = refl
-by-number f (suc n) =
-    ap (λ k. map f (range_with_len 0 k)) (sym (add-one n)) ∙ map-range_with_len_more f 0 n n (zero-add n) ∙ ap (λ l. l ++ f n ∷ []) (by-number f n)
-
-module _ (file : List ℕ) (n : Counts) (e : opened file ≡ Case n) where
-  cells : n.cells ≡ cells_of file
-  unfolding cells_of
-  cells = ap (λ (m : Counts). m.cells) (opens file n e).same
-
-  pub every-zone : (p : ℕ → Bool) → list_all (λ i. p (zone_of file i)) (range_with_len 0 n.cells) ≡ all_of p (zones_of file)
-  unfolding zones_of
-  every-zone p =
-      sym (list_all-map p (zone_of file) (range_with_len 0 n.cells)) ∙ every p (map (zone_of file) (range_with_len 0 n.cells))
-      ∙ ap (all_of p) (by-number (zone_of file) n.cells ∙ ap (tab (zone_of file)) cells)
+    by : (x : Bool) → leb z most ≡ x → (larger a z ≤ most → leb (fold larger (larger a z) zones) most ≡ all_of (is_at_most most) zones) →
+        leb (fold larger (larger a z) zones) most ≡ all_of (is_at_most most) (z ∷ zones)
+    by true f ih = rw (f, all_of) (ih (larger-within most a z h (leb-true z most f)))
+    by false f ih =
+        rw (f, all_of) (lt-leb (fold larger (larger a z) zones) most (omega (arith, leb-false z most f, larger-max a z, grows (larger a z) zones)))

@@ -3,15 +3,14 @@
 -- the four bytes before the trailer"; "both are read".
 -- `trailer_word`, `edition_of`, `dimension_of`, `counts_of`: a word of the trailer, and its counts.
 -- `words_from`, `field_from`, `pressures_from`, `zones_from`, `zone_bytes`, `trailer_from`: where the parts of the file start.
--- `is_dimension`, `has_offsets`, `has_zones`, `has_parts`, `trailer_right`: refusal 1. `over_limit`: refusal 2. `opened`, `opened_case`: the counts, or the refusal.
+-- `is_dimension`, `has_offsets`, `has_zones`, `has_parts`, `trailer_right`: refusal 1. `over_limit`: refusal 2. `opened`: the counts, or the refusal.
 -- `words_in`, `words_of`: the definition words.
-use Rattle.std.specs.Prelude.{ℕ, ◌+◌, ◌-◌, ◌*◌, ◌/◌, Bool, true, cond, ◌&&◌, ◌||◌, List, leb, ltb, eqb, length}
+use Rattle.std.specs.Prelude.{ℕ, ◌+◌, ◌-◌, ◌*◌, ◌/◌, Bool, true, cond, ◌&&◌, ◌||◌, List, leb, ltb, eqb, length, Ok, Err}
 use Rattle.arith.specs.Limits.{most_points, most_cells, most_words}
 use Rattle.arith.specs.Bytes.{le32, read_all}
-use Rattle.reading.specs.Result.{Result, refused, fine}
+use Rattle.reading.specs.Result.{Refusable}
 use Rattle.case_file.specs.declared.Counts.{Counts}
-use Rattle.case_file.specs.declared.Opened.{Opened}
-use Rattle.case_file.specs.declared.Opened.TheVariants.{Case, Refused}
+use Rattle.refusal.specs.declared.Refusal.TheVariants.{WrongTrailer, CountOverLimit}
 
 -- word k of the trailer
 unfoldable pub trailer_word : List ℕ → ℕ → ℕ
@@ -89,13 +88,10 @@ unfoldable pub over_limit : Counts → Bool
 over_limit n = ltb most_points n.points || ltb most_cells n.cells || ltb most_words n.words
 
 -- refusals 1 and 2, in rising order
-unfoldable pub opened : List ℕ → Opened
-opened file = cond (trailer_right file) (cond (over_limit (counts_of file)) (Refused 2) (Case (counts_of file))) (Refused 1)
+unfoldable pub opened : List ℕ → Refusable Counts
+opened file = cond (trailer_right file) (cond (over_limit (counts_of file)) (Err CountOverLimit) (Ok (counts_of file))) (Err WrongTrailer)
 
 -- what each case of the answer stands for
-unfoldable pub opened_case : Opened → Result Counts
-opened_case (Case n) = fine n
-opened_case (Refused r) = refused r
 
 -- "definition words (u32)": all of some bytes
 unfoldable pub words_in : List ℕ → List ℕ

@@ -5,15 +5,16 @@ ghost use Rattle.reading.specs.Asks.{ask, give};
 ghost use Rattle.reading.specs.Served.{Served};
 ghost use Rattle.case_file.specs.Trailer.{opened};
 ghost use Rattle.arith.specs.Lists.{all_of};
+ghost use Rattle.case_file.specs.Field as Field;
 ghost use Rattle.case_file.specs.Field.{values_of, zone_of, zones_of, is_at_most, zones_within};
 
-use crate::{Counts, Opened};
+use crate::Counts;
 use arith::{Vec3, bytes};
 use reading::Values;
 
 // The velocity and the pressure of cell i; zeros where there is none.
 fn values(case: &[u8], n: Counts, i: usize) -> Values
-    requires { opened case.now ≡ Opened.Case n }
+    requires { opened case.now ≡ Ok n }
     ensures { result ≡ values_of case.now i }
 {
     if n.cells <= i {
@@ -45,7 +46,7 @@ fn mark(marks: &mut [u8], i: usize)
 
 // Reads the values of cell i, and marks it.
 pub fn read_cell(case: &[u8], n: Counts, marks: &mut [u8], i: usize) -> Values
-    requires { opened case.now ≡ Opened.Case n }
+    requires { opened case.now ≡ Ok n }
     ensures { Served (ask i give) (values_of case.now) marks.old marks.new result }
 {
     mark(marks, i);
@@ -54,7 +55,7 @@ pub fn read_cell(case: &[u8], n: Counts, marks: &mut [u8], i: usize) -> Values
 
 // The zone of cell i; 0 in edition 1, and for what is no cell.
 pub fn zone(case: &[u8], n: Counts, i: usize) -> u32
-    requires { opened case.now ≡ Opened.Case n }
+    requires { opened case.now ≡ Ok n }
     ensures { result ≡ zone_of case.now i }
 {
     if n.edition != 2 || n.cells <= i {
@@ -64,17 +65,29 @@ pub fn zone(case: &[u8], n: Counts, i: usize) -> u32
     bytes::word_at(case, zones + 4 * i)
 }
 
+// The largest zone; 0 where there is no cell.
+fn largest_zone(case: &[u8], n: Counts) -> u32
+    requires { opened case.now ≡ Ok n }
+    ensures { result ≡ Field.largest (zones_of case.now) }
+{
+    let mut most = 0u32;
+    for i in 0..n.cells {
+        most = most.max(zone(case, n, i));
+    }
+    most
+}
+
 // No zone is above `most`.
 pub fn zones_at_most(case: &[u8], n: Counts, most: u32) -> bool
-    requires { opened case.now ≡ Opened.Case n }
+    requires { opened case.now ≡ Ok n }
     ensures { result ≡ all_of (is_at_most most) (zones_of case.now) }
 {
-    (0..n.cells).all(|i| zone(case, n, i) <= most)
+    largest_zone(case, n) <= most
 }
 
 // No zone is above 255.
 pub fn zones_within(case: &[u8], n: Counts) -> bool
-    requires { opened case.now ≡ Opened.Case n }
+    requires { opened case.now ≡ Ok n }
     ensures { result ≡ zones_within case.now }
 {
     zones_at_most(case, n, 255)

@@ -4,8 +4,9 @@ ghost use Rattle.arith.specs.Limits.{2^32};
 ghost use Rattle.case_file.specs.Trailer as Trailer;
 ghost use Rattle.case_file.specs.Ensures as Ensures;
 
-use crate::{Counts, Opened};
+use crate::Counts;
 use arith::bytes;
+use refusal::Refusal;
 
 // Word k of the trailer.
 fn trailer_word(case: &[u8], k: usize) -> usize
@@ -104,21 +105,21 @@ pub fn is_over(n: Counts) -> bool
 }
 
 // The counts of a case, or refusal 1 or 2.
-pub fn open(case: &[u8]) -> Opened
+pub fn open(case: &[u8]) -> Result<Counts, Refusal>
     ensures { result ≡ Trailer.opened case.now }
 {
     if case.len() < 32 {
-        return Opened::Refused(1);
+        return Err(Refusal::WrongTrailer);
     }
     let n = counts(case);
     if !is_dimension(n.dimension) {
-        return Opened::Refused(1);
+        return Err(Refusal::WrongTrailer);
     }
     if !has_parts(case, n) {
-        return Opened::Refused(1);
+        return Err(Refusal::WrongTrailer);
     }
     if is_over(n) {
-        return Opened::Refused(2);
+        return Err(Refusal::CountOverLimit);
     }
-    Opened::Case(n)
+    Ok(n)
 }

@@ -4,20 +4,19 @@ use native.Mathlib.Omega.{arith}
 use mathlib.Core.Path.{◌≡◌, refl, ap, sym, ◌∙◌}
 use mathlib.Core.List.{List, ◌++◌}
 use lib.ListN.{length, get_or, drop, length-drop}
-use Rattle.reading.specs.Result.{Result, refused, fine, ◌>>=◌}
+use Rattle.reading.specs.Result.{Refusable, ◌>>=◌}
 use Rattle.case_definitions.specs.Faces.{Definition, face_count}
 use Rattle.case_definitions.specs.Definitions.{definition, definitions}
 use Rattle.case_definitions.specs.Ensures.{skipped, read_of, definition_at, Looks, RunExit}
-use Rattle.case_definitions.specs.declared.Skipped.TheVariants.{To}
 use Rattle.case_definitions.proofs.RecordLaws.{definition-read}
 use Rattle.case_definitions.proofs.AlikeLaws.{Ends, alike, Running, running-starts, running-next}
 use Rattle.case_records.specs.Ensures.{checked}
-use Rattle.case_records.specs.declared.Checked.{Checked}
 use Rattle.case_records.proofs.EndLaws.{record-told}
+use Rattle.std.specs.Prelude.{Ok, Err}
 
 -- ---- run
 
-module _ (ws : List ℕ) (from at : ℕ) (e : To at ≡ skipped ws (definition (drop from ws))) where
+module _ (ws : List ℕ) (from at : ℕ) (e : Ok at ≡ skipped ws (definition (drop from ws))) where
   ends-told : Ends ws from at (definition_at ws from)
   unfolding definition_at read_of
   ends-told =
@@ -40,12 +39,12 @@ module _ (ws : List ℕ) (from at : ℕ) (e : To at ≡ skipped ws (definition (
 
 -- ---- walk
 
-checked-run : (l : List Definition) (t : Result (List Definition)) → checked (t >>= λ ds. fine (l ++ ds)) ≡ checked t
+checked-run : (l : List Definition) (t : Refusable (List Definition)) → checked (t >>= λ ds. Ok (l ++ ds)) ≡ checked t
 unfolding ◌>>=◌ checked
-checked-run l (refused n) = refl
-checked-run l (fine ds) = refl
+checked-run l (Err n) = refl
+checked-run l (Ok ds) = refl
 
-pub walk-run : (ws : List ℕ) (cells i at next faces k : ℕ) (whole : Checked) → i < cells → checked (definitions (cells - (i + 1)) (drop next ws)) ≡ whole →
+pub walk-run : (ws : List ℕ) (cells i at next faces k : ℕ) (whole : Refusable (Unit {0})) → i < cells → checked (definitions (cells - (i + 1)) (drop next ws)) ≡ whole →
     RunExit ws at next (cells - i - 1) faces k → checked (definitions (cells - (i + (k + 1))) (drop (next + k * (next - at)) ws)) ≡ whole
 walk-run ws cells i at next faces k whole h e r =
     let f = r.few in
@@ -55,7 +54,7 @@ walk-run ws cells i at next faces k whole h e r =
     ∙ rw m at e
 
 -- a record ends behind its start
-pub run_past : (ws : List ℕ) (at q : ℕ) → To q ≡ skipped ws (definition (drop at ws)) → at ≤ q
+pub run_past : (ws : List ℕ) (at q : ℕ) → Ok q ≡ skipped ws (definition (drop at ws)) → at ≤ q
 run_past ws at q e =
     let t = ends-told ws at q e in
     let r = definition-read ws at _ t.read in

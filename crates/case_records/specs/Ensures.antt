@@ -1,9 +1,8 @@
 -- The contract of `walk`.
-use Rattle.reading.specs.Result.{Result, refused, fine}
-use Rattle.case_records.specs.declared.Checked.{Checked}
-use Rattle.case_records.specs.declared.Checked.TheVariants.{Right, Wrong}
+use Rattle.reading.specs.Result.{Refusable}
+use Rattle.std.specs.Prelude.{Ok, Err}
 
 -- whether something is refused
-unfoldable pub checked : {A : Type 0} → Result A → Checked
-checked (refused r) = Wrong r
-checked (fine a) = Right
+unfoldable pub checked : {A : Type 0} → Refusable A → Refusable (Unit {0})
+checked (Err r) = Err r
+checked (Ok a) = (Ok tt)

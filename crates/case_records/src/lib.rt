@@ -9,77 +9,65 @@ ghost use Rattle.case_definitions.specs.Faces.{face_count};
 ghost use Rattle.case_definitions.specs.Ensures.{skipped, definition_at, Looks, RunExit};
 ghost use Rattle.case_records.specs.Ensures.{checked};
 
-use case_definitions::Skipped;
-
-// Nothing is refused; or the refusal.
-#[derive(Clone, Copy)]
-pub enum Checked {
-    Right,
-    Wrong(u64),
-}
+use refusal::Refusal;
 
 // After n words.
-fn numbers_end(words: &[u32], at: usize, n: usize) -> Skipped
+fn numbers_end(words: &[u32], at: usize, n: usize) -> Result<usize, Refusal>
     requires { at ≤ length words.now }
     ensures { result ≡ skipped words.now (numbers n (drop at words.now)) }
 {
     if words.len() - at < n {
-        return Skipped::Short(3);
+        return Err(Refusal::WrongDefinitions);
     }
-    Skipped::To(at + n)
+    Ok(at + n)
 }
 
 // After a count of at most `limit` and as many words.
-fn list_end(words: &[u32], at: usize, limit: usize) -> Skipped
+fn list_end(words: &[u32], at: usize, limit: usize) -> Result<usize, Refusal>
     ensures { result ≡ skipped words.now (counted limit numbers (drop at words.now)) }
 {
     if words.len() <= at {
-        return Skipped::Short(3);
+        return Err(Refusal::WrongDefinitions);
     }
     let n = words[at] as usize;
     if limit < n {
-        return Skipped::Short(3);
+        return Err(Refusal::WrongDefinitions);
     }
     numbers_end(words, at + 1, n)
 }
 
 // After n faces of a polyhedron.
-fn skip_faces(words: &[u32], first: usize, n: usize) -> Skipped
+fn skip_faces(words: &[u32], first: usize, n: usize) -> Result<usize, Refusal>
     requires { first ≤ length words.now }
     ensures { result ≡ skipped words.now (face_lists n (drop first words.now)) }
 {
     let mut at = first;
     for _ in 0..n {
-        match list_end(words, at, 8) {
-            Skipped::Short(r) => return Skipped::Short(r),
-            Skipped::To(next) => {
-                at = next;
-            }
-        }
+        at = list_end(words, at, 8)?;
     }
-    Skipped::To(at)
+    Ok(at)
 }
 
 // After a face count of at most 24 and as many faces.
-fn faces_end(words: &[u32], at: usize) -> Skipped
+fn faces_end(words: &[u32], at: usize) -> Result<usize, Refusal>
     ensures { result ≡ skipped words.now (counted 24 face_lists (drop at words.now)) }
 {
     if words.len() <= at {
-        return Skipped::Short(3);
+        return Err(Refusal::WrongDefinitions);
     }
     let n = words[at] as usize;
     if 24 < n {
-        return Skipped::Short(3);
+        return Err(Refusal::WrongDefinitions);
     }
     skip_faces(words, at + 1, n)
 }
 
 // After the record at a position.
-fn record_end(words: &[u32], at: usize) -> Skipped
+fn record_end(words: &[u32], at: usize) -> Result<usize, Refusal>
     ensures { result ≡ skipped words.now (definition (drop at words.now)) }
 {
     if words.len() <= at {
-        return Skipped::Short(3);
+        return Err(Refusal::WrongDefinitions);
     }
     match words[at] {
         0 => list_end(words, at + 1, 24),
@@ -88,7 +76,7 @@ fn record_end(words: &[u32], at: usize) -> Skipped
         3 => numbers_end(words, at + 1, 6),
         4 => numbers_end(words, at + 1, 5),
         5 => faces_end(words, at + 1),
-        6..=0xffff_ffff => Skipped::Short(3),
+        6..=0xffff_ffff => Err(Refusal::WrongDefinitions),
     }
 }
 
@@ -112,7 +100,7 @@ fn room_for(left: usize, room: usize, size: usize) -> usize
 // How many records from `at` on, at most `left`, look like the one from `from` to `at`; 0 for a
 // polyhedron. They are right, and as long.
 fn run(words: &[u32], from: usize, at: usize, left: usize) -> usize
-    requires { Skipped.To at ≡ skipped words.now (definition (drop from words.now)) }
+    requires { Ok at ≡ skipped words.now (definition (drop from words.now)) }
     ensures { RunExit words.now from at left
         (face_count (definition_at words.now from)) result }
 {
@@ -133,7 +121,7 @@ fn run(words: &[u32], from: usize, at: usize, left: usize) -> usize
 
 // The same, but 0 while there is a wait.
 fn run_after(wait: usize, words: &[u32], from: usize, at: usize, left: usize) -> usize
-    requires { Skipped.To at ≡ skipped words.now (definition (drop from words.now)) }
+    requires { Ok at ≡ skipped words.now (definition (drop from words.now)) }
     ensures { RunExit words.now from at left
         (face_count (definition_at words.now from)) result }
 {
@@ -159,7 +147,7 @@ fn wait_after(wait: usize, records: usize) -> usize
 }
 
 // The words are exactly as many records as there are cells; or refusal 3.
-pub fn walk(words: &[u32], cells: usize) -> Checked
+pub fn walk(words: &[u32], cells: usize) -> Result<(), Refusal>
     ensures { result ≡ checked (definitions cells words.now) }
 {
     let mut at = 0;
@@ -167,18 +155,14 @@ pub fn walk(words: &[u32], cells: usize) -> Checked
     let mut wait = 0;
     // No `for`: a turn passes over a record and all that look like it.
     while i < cells {
-        match record_end(words, at) {
-            Skipped::Short(r) => return Checked::Wrong(r),
-            Skipped::To(next) => {
-                let records = run_after(wait, words, at, next, cells - i - 1);
-                wait = wait_after(wait, records);
-                at = next + records * (next - at);
-                i += records + 1;
-            }
-        }
+        let next = record_end(words, at)?;
+        let records = run_after(wait, words, at, next, cells - i - 1);
+        wait = wait_after(wait, records);
+        at = next + records * (next - at);
+        i += records + 1;
     }
     if at < words.len() {
-        return Checked::Wrong(3);
+        return Err(Refusal::WrongDefinitions);
     }
-    Checked::Right
+    Ok(())
 }

@@ -3,30 +3,19 @@
 
 ghost use Rattle.case_survey.specs.Ensures.{SurveyExit};
 
-use case_definitions::{Walked, walker};
-use case_file::{Counts, Opened, field, trailer};
+use case_definitions::walker;
+use case_file::{Counts, field, trailer};
+use refusal::Refusal;
 
-// The counts of a case and the number of faces of all its definitions, or refusal 1, 2, 3 or 45.
-#[derive(Clone, Copy)]
-pub enum Surveyed {
-    Case(Counts, usize),
-    Refused(u64),
-}
-
-// Opens a case, walks its definitions and looks at its zones.
-pub fn survey(case: &[u8]) -> Surveyed
+// Opens a case, walks its definitions and looks at its zones: its counts and the number of faces of
+// all its definitions, or refusal 1, 2, 3 or 45.
+pub fn survey(case: &[u8]) -> Result<(Counts, usize), Refusal>
     ensures { SurveyExit case.now result }
 {
-    match trailer::open(case) {
-        Opened::Refused(k) => Surveyed::Refused(k),
-        Opened::Case(n) => match walker::walk(walker::words(case, n), n.cells) {
-            Walked::Refused(k) => Surveyed::Refused(k),
-            Walked::Faces(f) => {
-                if !field::zones_within(case, n) {
-                    return Surveyed::Refused(45);
-                }
-                Surveyed::Case(n, f)
-            }
-        },
+    let n = trailer::open(case)?;
+    let faces = walker::walk(walker::words(case, n), n.cells)?;
+    if !field::zones_within(case, n) {
+        return Err(Refusal::ZoneTooLarge);
     }
+    Ok((n, faces))
 }

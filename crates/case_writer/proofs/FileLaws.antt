@@ -12,7 +12,7 @@ use mir.Syntax.{w8, w32, w64}
 use Rattle.arith.proofs.All.{All}
 use Rattle.arith_bytes.specs.Stored.{all_bytes, stored}
 use Rattle.arith_bytes.proofs.ByteLaws.{length-all_bytes, stored-first}
-use Rattle.reading.specs.Result.{Result, refused, fine, ◌>>=◌, refuse}
+use Rattle.reading.specs.Result.{Refusable, ◌>>=◌, refuse}
 use Rattle.case_file.specs.declared.Counts.{Counts}
 use Rattle.case_file.specs.Trailer.{counts_of, zones_from, trailer_from}
 use Rattle.case_file.specs.Field.{zones_of}
@@ -20,7 +20,6 @@ use Rattle.case_file.proofs.TrailerLaws.{Opens, opens, open-short}
 use Rattle.case_survey.specs.Survey.{CaseSurvey, survey_of}
 use Rattle.case_survey.proofs.Laws.{survey-shut}
 use Rattle.case_records.specs.Ensures.{checked}
-use Rattle.case_records.specs.declared.Checked.TheVariants.{Right, Wrong}
 use Rattle.case_contents.specs.Contents.{Contents, with_edition, in_edition, contents_of, zone_words, front_of, file_of}
 use Rattle.case_contents.specs.Refusals.{is_edition, loses_zones, writable, written, converted}
 use Rattle.case_contents.specs.Accepted.{SizedCounts, Sized}
@@ -30,10 +29,11 @@ use Rattle.case_contents.proofs.RoundTrip.{Bits, front-is}
 use Rattle.case_contents.proofs.RefusalLaws as refusals
 use Rattle.case_contents.proofs.RefusalLaws.{Found, found, read-writable, read-sized}
 use Rattle.case_contents.proofs.PromiseLaws.{edition-read, write-promise, convert-promise}
-use Rattle.case_writer.specs.Ensures.{holding, length_of, end_bytes, PutCopyEntry, FileExit}
-use Rattle.case_writer.specs.declared.Written.{Written}
-use Rattle.case_writer.specs.declared.Written.TheVariants.{Length, Refused}
+use Rattle.case_writer.specs.Ensures.{holding, end_bytes, PutCopyEntry, FileExit}
 use Rattle.case_writer.proofs.PartLaws.{join}
+use Rattle.std.specs.Prelude.{Ok, Err}
+use Rattle.refusal.specs.declared.Refusal.{Refusal}
+use Rattle.refusal.specs.declared.Refusal.TheVariants.{WrongTrailer, ZonesLost, ShortOutput}
 
 -- ---- the file, and 47
 
@@ -41,8 +41,8 @@ module _ (c : Contents) (s : Sized c) (before : List ℕ) (k : ℕ) (e : k ≡ t
   long : length (file_of c) ≡ k
   long = length-file_of c s ∙ sym e
 
-  pub file-short : length before < k → FileExit c before before (Refused 47)
-  unfolding length_of output_after refuse ◌>>=◌
+  pub file-short : length before < k → FileExit c before before (Err ShortOutput)
+  unfolding output_after refuse ◌>>=◌
   file-short h = record { answer = rw (lt-ltb (length before) (length (file_of c)) (omega (arith, long))); output = refl }
 
   pub front-room : k ≤ length before → zones_from c.counts ≤ length before
@@ -50,8 +50,8 @@ module _ (c : Contents) (s : Sized c) (before : List ℕ) (k : ℕ) (e : k ≡ t
   front-room h = omega arith
 
   module _ (h : k ≤ length before) where
-    whole : {after : List ℕ} → after ≡ stored 0 (file_of c) before → FileExit c before after (Length k)
-    unfolding length_of output_after refuse ◌>>=◌
+    whole : {after : List ℕ} → after ≡ stored 0 (file_of c) before → FileExit c before after (Ok k)
+    unfolding output_after refuse ◌>>=◌
     whole g =
         record {
           answer = rw (le-ltb (length before) (length (file_of c)) (omega (arith, long)), long);
@@ -60,7 +60,7 @@ module _ (c : Contents) (s : Sized c) (before : List ℕ) (k : ℕ) (e : k ≡ t
 
     -- the parts that both editions have, and then the rest
     pub file-there : (front : List ℕ) {o1 o2 : List ℕ} → front ≡ front_of c → o1 ≡ stored 0 front before →
-        o2 ≡ stored (zones_from c.counts) (all_bytes 4 (zone_words c.counts c.zones) ++ end_bytes c.counts) o1 → FileExit c before o2 (Length k)
+        o2 ≡ stored (zones_from c.counts) (all_bytes 4 (zone_words c.counts c.zones) ++ end_bytes c.counts) o1 → FileExit c before o2 (Ok k)
     unfolding file_of end_bytes
     file-there front {o1} {o2} f e1 e2 =
         let rest : List ℕ = all_bytes 4 (zone_words c.counts c.zones) ++ end_bytes c.counts in
@@ -95,30 +95,30 @@ slice-bits n a b v q z ha hb hv hq hz =
     }
 
 module _ (c : Contents) where
-  pub checked-sized : Right ≡ checked (writable c) → Sized c
+  pub checked-sized : (Ok tt) ≡ checked (writable c) → Sized c
   unfolding checked
   checked-sized e = by (writable c) refl
     where
-      by : (t : Result (Unit {0})) → writable c ≡ t → Sized c
-      by (refused k) f = absurd (let z : ◌≡◌ {A = ℕ} 0 1 = cc in omega arith)
-      by (fine u) f = (refusals.right c u f).sized
+      by : (t : Refusable (Unit {0})) → writable c ≡ t → Sized c
+      by (Err k) f = absurd (let z : ◌≡◌ {A = ℕ} 0 1 = cc in omega arith)
+      by (Ok u) f = (refusals.right c u f).sized
 
   module _ (w : Bits c) where
-    pub write-wrong : (out : List ℕ) (r : ℕ) → Wrong r ≡ checked (writable c) → WritePromise c out out (length_of (Refused r))
-    unfolding checked written length_of output_after ◌>>=◌
-    write-wrong out r e = write-promise c w out out (length_of (Refused r)) (by (writable c) refl) refl
+    pub write-wrong : (out : List ℕ) (r : Refusal) → Err r ≡ checked (writable c) → WritePromise c out out ((Err r))
+    unfolding checked written output_after ◌>>=◌
+    write-wrong out r e = write-promise c w out out ((Err r)) (by (writable c) refl) refl
       where
-        by : (t : Result (Unit {0})) → writable c ≡ t → length_of (Refused r) ≡ written c (length out)
-        by (refused k) f = let g : r ≡ k = cc in rw (f, g)
-        by (fine u) f = absurd (let z : ◌≡◌ {A = ℕ} 0 1 = cc in omega arith)
+        by : (t : Refusable (Unit {0})) → writable c ≡ t → (Err r) ≡ written c (length out)
+        by (Err k) f = let g : r ≡ k = cc in rw (f, g)
+        by (Ok u) f = absurd (let z : ◌≡◌ {A = ℕ} 0 1 = cc in omega arith)
 
-    pub write-right : (before after : List ℕ) (r : Written) → Right ≡ checked (writable c) → FileExit c before after r → WritePromise c before after (length_of r)
+    pub write-right : (before after : List ℕ) (r : Refusable ℕ) → (Ok tt) ≡ checked (writable c) → FileExit c before after r → WritePromise c before after (r)
     unfolding checked written ◌>>=◌
-    write-right before after r e x = write-promise c w before after (length_of r) (by (writable c) refl) x.output
+    write-right before after r e x = write-promise c w before after (r) (by (writable c) refl) x.output
       where
-        by : (t : Result (Unit {0})) → writable c ≡ t → length_of r ≡ written c (length before)
-        by (refused k) f = absurd (let z : ◌≡◌ {A = ℕ} 0 1 = cc in omega arith)
-        by (fine u) f = rw f x.answer
+        by : (t : Refusable (Unit {0})) → writable c ≡ t → r ≡ written c (length before)
+        by (Err k) f = absurd (let z : ◌≡◌ {A = ℕ} 0 1 = cc in omega arith)
+        by (Ok u) f = rw f x.answer
 
 -- ---- put_copy
 
@@ -174,48 +174,48 @@ module _ (case : List ℕ) (n : Counts) (e : ℕ) (p : PutCopyEntry case n e) wh
 -- ---- convert
 
 module _ (e : ℕ) (case : List ℕ) (bytes : All (λ b. b < 256) case) where
-  pub convert-refused : (out : List ℕ) (k : ℕ) → converted e case (length out) ≡ refused k → ConvertPromise e case out out (length_of (Refused k))
-  unfolding length_of output_after
-  convert-refused out k h = convert-promise e case out out bytes (length_of (Refused k)) (sym h) refl
+  pub convert-refused : (out : List ℕ) (k : Refusal) → converted e case (length out) ≡ Err k → ConvertPromise e case out out ((Err k))
+  unfolding output_after
+  convert-refused out k h = convert-promise e case out out bytes ((Err k)) (sym h) refl
 
   module _ (room : ℕ) where
-    pub no-edition : is_edition e ≡ false → converted e case room ≡ refused 1
+    pub no-edition : is_edition e ≡ false → converted e case room ≡ Err WrongTrailer
     unfolding converted ◌>>=◌ refuse
     no-edition h = rw h
 
     module _ (i : is_edition e ≡ true) where
-      pub same-edition : (counts_of case).edition ≡ e → converted e case room ≡ refused 1
+      pub same-edition : (counts_of case).edition ≡ e → converted e case room ≡ Err WrongTrailer
       unfolding converted ◌>>=◌ refuse
       same-edition h = rw (i, eq-eqb (counts_of case).edition e h)
 
-      pub short-file : length case < 32 → converted e case room ≡ refused 1
+      pub short-file : length case < 32 → converted e case room ≡ Err WrongTrailer
       unfolding converted ◌>>=◌ refuse
       short-file h = by (eqb (counts_of case).edition e) refl
         where
-          by : (x : Bool) → eqb (counts_of case).edition e ≡ x → converted e case room ≡ refused 1
+          by : (x : Bool) → eqb (counts_of case).edition e ≡ x → converted e case room ≡ Err WrongTrailer
           by true g = rw (i, g)
-          by false g = rw (i, g, survey-shut case 1 (sym (open-short case h)))
+          by false g = rw (i, g, survey-shut case WrongTrailer (sym (open-short case h)))
 
       module _ (d : (counts_of case).edition ≡ e → ⊥) where
         other : eqb (counts_of case).edition e ≡ false
         other = ne_eqb (counts_of case).edition e d
 
-        pub unread : (k : ℕ) → survey_of case ≡ refused k → converted e case room ≡ refused k
+        pub unread : (k : Refusal) → survey_of case ≡ Err k → converted e case room ≡ Err k
         unfolding converted ◌>>=◌ refuse
         unread k g = rw (i, other, g)
 
-        module _ (v : CaseSurvey) (g : survey_of case ≡ fine v) where
-          pub zones-lost : loses_zones (in_edition e (contents_of case)) ≡ true → converted e case room ≡ refused 46
+        module _ (v : CaseSurvey) (g : survey_of case ≡ Ok v) where
+          pub zones-lost : loses_zones (in_edition e (contents_of case)) ≡ true → converted e case room ≡ Err ZonesLost
           unfolding converted written ◌>>=◌ refuse
           zones-lost l = rw (i, other, g, read-writable case e (found case v g) i, l)
 
           goes_on : loses_zones (in_edition e (contents_of case)) ≡ false →
-              converted e case room ≡ (refuse 47 (ltb room (length (file_of (in_edition e (contents_of case))))) >>= λ _. fine (length (file_of (in_edition e (contents_of case)))))
+              converted e case room ≡ (refuse ShortOutput (ltb room (length (file_of (in_edition e (contents_of case))))) >>= λ _. Ok (length (file_of (in_edition e (contents_of case)))))
           unfolding converted written ◌>>=◌ refuse
           goes_on l = rw (i, other, g, read-writable case e (found case v g) i, l)
 
-pub converts : (e : ℕ) (case : List ℕ) → All (λ b. b < 256) case → is_edition e ≡ true → ((counts_of case).edition ≡ e → ⊥) → (v : CaseSurvey) → survey_of case ≡ fine v →
-    loses_zones (in_edition e (contents_of case)) ≡ false → (before after : List ℕ) (r : Written) → FileExit (in_edition e (contents_of case)) before after r →
-    ConvertPromise e case before after (length_of r)
+pub converts : (e : ℕ) (case : List ℕ) → All (λ b. b < 256) case → is_edition e ≡ true → ((counts_of case).edition ≡ e → ⊥) → (v : CaseSurvey) → survey_of case ≡ Ok v →
+    loses_zones (in_edition e (contents_of case)) ≡ false → (before after : List ℕ) (r : Refusable ℕ) → FileExit (in_edition e (contents_of case)) before after r →
+    ConvertPromise e case before after (r)
 converts e case bytes i d v g l before after r x =
-    convert-promise e case before after bytes (length_of r) (x.answer ∙ sym (goes_on e case bytes (length before) i d v g l)) x.output
+    convert-promise e case before after bytes (r) (x.answer ∙ sym (goes_on e case bytes (length before) i d v g l)) x.output

@@ -10,7 +10,6 @@ use borrow.Author.Tests.{eq-eqb, ne_eqb}
 use Rattle.arith_bytes.specs.Stored.{le_bytes, all_bytes, stored}
 use Rattle.arith_bytes.proofs.ByteLaws.{length-le_bytes, length-all_bytes, stored_more}
 use Rattle.case_file.specs.declared.Counts.{Counts}
-use Rattle.case_file.specs.declared.Opened.TheVariants.{Case}
 use Rattle.case_file.specs.Trailer.{zones_from, zone_bytes, trailer_from, opened}
 use Rattle.case_file.specs.Field.{cells_of, zones_of}
 use Rattle.case_file.proofs.TrailerLaws.{opens}
@@ -19,6 +18,7 @@ use Rattle.case_contents.specs.Contents.{dimension_word, trailer_of, zone_words,
 use Rattle.case_contents.specs.Accepted.{SizedCounts}
 use Rattle.case_contents.proofs.LayoutLaws.{two-or-three}
 use Rattle.case_writer.specs.Ensures.{holding, end_bytes, end_from, PutFieldsEntry, PutEndEntry, CopyEntry}
+use Rattle.std.specs.Prelude.{Ok}
 
 -- ---- put_fields
 
@@ -124,11 +124,11 @@ module _ (n : Counts) (zones out : List ℕ) where
 
 -- ---- copy_zones
 
-pub zones-count : (file : List ℕ) (n : Counts) → opened file ≡ Case n → length (zones_of file) ≡ n.cells
+pub zones-count : (file : List ℕ) (n : Counts) → opened file ≡ Ok n → length (zones_of file) ≡ n.cells
 unfolding cells_of
 zones-count file n e = length-zones file ∙ ap (λ (m : Counts). m.cells) (sym (opens file n e).same)
 
-pub zones-room : (file : List ℕ) (n : Counts) (room : ℕ) → opened file ≡ Case n → zones_from n + 4 * n.cells ≤ room →
+pub zones-room : (file : List ℕ) (n : Counts) (room : ℕ) → opened file ≡ Ok n → zones_from n + 4 * n.cells ≤ room →
     24 * n.points + 4 * n.words + 32 * n.cells + 4 * length (zones_of file) ≤ room
 unfolding zones_from
 zones-room file n room e h = rw (zones-count file n e) h

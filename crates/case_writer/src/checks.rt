@@ -1,13 +1,12 @@
 // Refusals 1 to 46 of the writer.
 ghost use Rattle.std.specs.Prelude.{◌≡◌, ◌*◌, eqb};
-ghost use Rattle.arith.specs.Lists.{all_of};
-ghost use Rattle.case_file.specs.Field.{is_at_most};
+ghost use Rattle.case_file.specs.Field.{largest};
 ghost use Rattle.case_contents.specs.Refusals.{is_edition, long_as, writable};
 ghost use Rattle.case_records.specs.Ensures.{checked};
 ghost use Rattle.case_writer.specs.Ensures.{holding, zones_checked};
 
 use case_file::{Counts, trailer};
-use case_records::Checked;
+use refusal::Refusal;
 
 // An edition is 1 or 2.
 pub fn is_edition(e: usize) -> bool
@@ -41,24 +40,29 @@ fn are_long(
         && zones == n.cells
 }
 
-// No zone is above `most`.
-fn are_at_most(zones: &[u32], most: u32) -> bool
-    ensures { result ≡ all_of (is_at_most most) zones.now }
+// The largest zone; 0 where there is none.
+fn largest_of(zones: &[u32]) -> u32
+    ensures { result ≡ largest zones.now }
 {
-    zones.iter().all(|&zone| zone <= most)
+    let mut most = 0u32;
+    for zone in zones {
+        most = most.max(*zone);
+    }
+    most
 }
 
 // Refusals 45 and 46.
-fn check_zones(edition: usize, zones: &[u32]) -> Checked
+fn check_zones(edition: usize, zones: &[u32]) -> Result<(), Refusal>
     ensures { result ≡ checked (zones_checked edition zones.now) }
 {
-    if !are_at_most(zones, 255) {
-        return Checked::Wrong(45);
+    let most = largest_of(zones);
+    if most > 255 {
+        return Err(Refusal::ZoneTooLarge);
     }
-    if edition == 1 && !are_at_most(zones, 0) {
-        return Checked::Wrong(46);
+    if edition == 1 && most > 0 {
+        return Err(Refusal::ZonesLost);
     }
-    Checked::Right
+    Ok(())
 }
 
 // Refusals 1, 2, 3, 45 and 46.
@@ -69,16 +73,16 @@ pub fn check(
     velocities: &[u64],
     pressures: &[u64],
     zones: &[u32],
-) -> Checked
+) -> Result<(), Refusal>
     ensures { result ≡ checked (writable
         (holding n points.now words.now velocities.now pressures.now
         zones.now)) }
 {
     if !trailer::is_dimension(n.dimension) {
-        return Checked::Wrong(1);
+        return Err(Refusal::WrongTrailer);
     }
     if !is_edition(n.edition) {
-        return Checked::Wrong(1);
+        return Err(Refusal::WrongTrailer);
     }
     if !are_long(
         n,
@@ -88,13 +92,11 @@ pub fn check(
         pressures.len(),
         zones.len(),
     ) {
-        return Checked::Wrong(1);
+        return Err(Refusal::WrongTrailer);
     }
     if trailer::is_over(n) {
-        return Checked::Wrong(2);
+        return Err(Refusal::CountOverLimit);
     }
-    match case_records::walk(words, n.cells) {
-        Checked::Wrong(r) => Checked::Wrong(r),
-        Checked::Right => check_zones(n.edition, zones),
-    }
+    case_records::walk(words, n.cells)?;
+    check_zones(n.edition, zones)
 }

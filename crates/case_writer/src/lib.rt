@@ -8,21 +8,13 @@ ghost use Rattle.case_contents.specs.Contents.{contents_of, in_edition};
 ghost use Rattle.case_contents.specs.Refusals.{loses_zones};
 ghost use Rattle.case_contents.specs.Accepted.{Sized};
 ghost use Rattle.case_contents.specs.Promise.{WritePromise, ConvertPromise};
-ghost use Rattle.case_writer.specs.Ensures.{holding, length_of, FileExit, PutCopyEntry};
+ghost use Rattle.case_writer.specs.Ensures.{holding, FileExit, PutCopyEntry};
 
-use case_file::{Counts, Opened, field, trailer};
-use case_records::Checked;
-use case_survey::Surveyed;
+use case_file::{Counts, field, trailer};
+use refusal::Refusal;
 
 mod checks;
 mod parts;
-
-// The file's length; or the refusal, under which the output is as it was.
-#[derive(Clone, Copy)]
-pub enum Written {
-    Length(usize),
-    Refused(u64),
-}
 
 // Writes the file of counts and parts to the front of `out`; or answers the refusal and leaves
 // `out` as it was. Floats are given by their bits.
@@ -34,15 +26,13 @@ pub fn write_case(
     pressures: &[u64],
     zones: &[u32],
     out: &mut [u8],
-) -> Written
+) -> Result<usize, Refusal>
     ensures { WritePromise
         (holding n points.now words.now velocities.now pressures.now
-        zones.now) out.old out.new (length_of result) }
+        zones.now) out.old out.new (result) }
 {
-    match checks::check(n, points, words, velocities, pressures, zones) {
-        Checked::Wrong(r) => Written::Refused(r),
-        Checked::Right => put_file(n, points, words, velocities, pressures, zones, out),
-    }
+    checks::check(n, points, words, velocities, pressures, zones)?;
+    put_file(n, points, words, velocities, pressures, zones, out)
 }
 
 // The file of parts that are right, if there is room: refusal 47.
@@ -54,7 +44,7 @@ fn put_file(
     pressures: &[u64],
     zones: &[u32],
     out: &mut [u8],
-) -> Written
+) -> Result<usize, Refusal>
     requires { Sized (holding n points.now words.now velocities.now pressures.now zones.now) }
     ensures { FileExit
         (holding n points.now words.now velocities.now pressures.now
@@ -62,23 +52,23 @@ fn put_file(
 {
     let length = parts::file_length(n);
     if out.len() < length {
-        return Written::Refused(47);
+        return Err(Refusal::ShortOutput);
     }
     parts::put_fields(n, points, words, velocities, pressures, zones, out);
     parts::put_zones_and_end(n, zones, out);
-    Written::Length(length)
+    Ok(length)
 }
 
 // Conversion of a case to this edition would lose a zone.
 fn loses_zones(case: &[u8], n: Counts, edition: usize) -> bool
-    requires { opened case.now ≡ Opened.Case n }
+    requires { opened case.now ≡ Ok n }
     ensures { result ≡ loses_zones (in_edition edition (contents_of case.now)) }
 {
     edition == 1 && !field::zones_at_most(case, n, 0)
 }
 
 // The file of a case that was read, in this edition, if there is room: refusal 47.
-fn put_copy(case: &[u8], n: Counts, edition: usize, out: &mut [u8]) -> Written
+fn put_copy(case: &[u8], n: Counts, edition: usize, out: &mut [u8]) -> Result<usize, Refusal>
     requires { PutCopyEntry case.now n edition }
     ensures { FileExit (in_edition edition (contents_of case.now)) out.old
         out.new result }
@@ -86,34 +76,30 @@ fn put_copy(case: &[u8], n: Counts, edition: usize, out: &mut [u8]) -> Written
     let to = Counts { edition, ..n };
     let length = parts::file_length(to);
     if out.len() < length {
-        return Written::Refused(47);
+        return Err(Refusal::ShortOutput);
     }
     arith_bytes::copy(case, 24 * n.points + 4 * n.words + 32 * n.cells, out);
     parts::copy_zones_and_end(case, n, to, out);
-    Written::Length(length)
+    Ok(length)
 }
 
 // Writes a case of the other edition to the front of `out` as one of this edition; or answers the
 // refusal and leaves `out` as it was.
-pub fn convert(case: &[u8], edition: usize, out: &mut [u8]) -> Written
-    ensures { ConvertPromise edition case.now out.old out.new (length_of result) }
+pub fn convert(case: &[u8], edition: usize, out: &mut [u8]) -> Result<usize, Refusal>
+    ensures { ConvertPromise edition case.now out.old out.new (result) }
 {
     if !checks::is_edition(edition) {
-        return Written::Refused(1);
+        return Err(Refusal::WrongTrailer);
     }
     if case.len() < 32 {
-        return Written::Refused(1);
+        return Err(Refusal::WrongTrailer);
     }
     if trailer::edition_of(case) == edition {
-        return Written::Refused(1);
+        return Err(Refusal::WrongTrailer);
     }
-    match case_survey::survey(case) {
-        Surveyed::Refused(k) => Written::Refused(k),
-        Surveyed::Case(n, f) => {
-            if loses_zones(case, n, edition) {
-                return Written::Refused(46);
-            }
-            put_copy(case, n, edition, out)
-        }
+    let (n, _) = case_survey::survey(case)?;
+    if loses_zones(case, n, edition) {
+        return Err(Refusal::ZonesLost);
     }
+    put_copy(case, n, edition, out)
 }

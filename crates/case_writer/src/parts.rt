@@ -7,7 +7,7 @@ ghost use Rattle.case_contents.specs.Contents.{dimension_word, trailer_of, zone_
 ghost use Rattle.case_contents.specs.Accepted.{SizedCounts};
 ghost use Rattle.case_writer.specs.Ensures.{holding, end_bytes, end_from, PutFieldsEntry, PutEndEntry, CopyEntry};
 
-use case_file::{Counts, Opened, field, trailer};
+use case_file::{Counts, field, trailer};
 
 // The length of a file with these counts.
 pub fn file_length(n: Counts) -> usize
@@ -102,7 +102,7 @@ pub fn put_zones_and_end(n: Counts, zones: &[u32], out: &mut [u8])
 
 // The zones of a case.
 fn copy_zones(case: &[u8], n: Counts, out: &mut [u8])
-    requires { (opened case.now ≡ Opened.Case n) × (zones_from n + 4 * n.cells ≤ length out.old) }
+    requires { (opened case.now ≡ Ok n) × (zones_from n + 4 * n.cells ≤ length out.old) }
     ensures { out.new ≡ stored (zones_from n) (all_bytes 4 (zones_of case.now))
         out.old }
 {

@@ -2,20 +2,19 @@
 #![tactic(auto)]
 
 ghost use Rattle.std.specs.Prelude.{◌≡◌, List, ℕ, ◌+◌, ◌-◌, ◌*◌, ◌/◌, ◌≤◌, ◌<◌, Float, length};
-ghost use Rattle.reading.specs.Result.{fine};
 ghost use Rattle.reading.specs.After.{done, Left};
 ghost use Rattle.case_file.specs.Field.{values_of};
 ghost use Rattle.job_requests.specs.Requests.{words_at, requests_in};
 ghost use Rattle.job_room.specs.Ensures.{counts_in, room_in, RoomStands};
 ghost use Rattle.job_promise.specs.List.{is_flat, serve_all};
-ghost use Rattle.job_promise.specs.Job.{number_of, outcome_of};
+ghost use Rattle.job_promise.specs.Job.{number_of, result_of};
 ghost use Rattle.job_promise.specs.Promise.{JobPromise};
 ghost use Rattle.job_promise.specs.Ensures.{ServeAllExit, answer_to, later_than};
 
 use answers::buffers::{clear_from, clear_marks, close};
-use job_promise::Outcome;
 use job_requests::request_of;
-use job_room::{Place, Prepared};
+use job_room::Place;
+use refusal::Refusal;
 
 fn is_flat(place: Place) -> bool
     ensures { (file words : List ℕ) (floats : List Float) → result ≡ is_flat (room_in file words floats place) }
@@ -93,7 +92,7 @@ fn run(
 )
     requires room_stands { RoomStands case.now words.now floats.now place × ((counts_in place).cells ≤ length marks.old) }
     requires requests_in_bounds { 2 * (length requests.now / 128) ≤ length answers.old }
-    ensures { Left (done (fine (serve_all (room_in case.now words.now floats.now
+    ensures { Left (done (Ok (serve_all (room_in case.now words.now floats.now
         place) (length answers.old) (requests_in requests.now))) (values_of case.now)
         (counts_in place).cells answers.old marks.old) 0 answers.new
         marks.new }
@@ -111,24 +110,21 @@ pub fn job(
     floats: &mut [f64],
     marks: &mut [u8],
     answers: &mut [u64],
-) -> Outcome
+) -> Result<(), Refusal>
     ensures promise { JobPromise case.now requests.now
         (length words.old) (length floats.old) answers.old marks.old
         (record { result = number_of result; answers = answers.new; marks = marks.new }) }
-    ensures value { result ≡ outcome_of (number_of result) }
+    ensures value { result ≡ result_of case.now requests.now
+        (length words.old) (length floats.old) answers.old marks.old }
 {
-    match job_room::prepare(
+    let place = job_room::prepare(
         case,
         words,
         floats,
         marks.len(),
         requests.len(),
         answers.len(),
-    ) {
-        Prepared::Refused(k) => Outcome::Refused(k),
-        Prepared::Ready(place) => {
-            run(case, requests, words, floats, place, marks, answers);
-            Outcome::Done
-        }
-    }
+    )?;
+    run(case, requests, words, floats, place, marks, answers);
+    Ok(())
 }

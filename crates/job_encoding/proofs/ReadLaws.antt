@@ -19,7 +19,8 @@ use Rattle.lines.specs.declared.Rake as declared
 use Rattle.lines_millimetres.specs.declared.Rounding.TheVariants.{AwayFromZero}
 use Rattle.lines_words.specs.declared.Style.TheVariants.{Points, Sheet}
 use Rattle.planes_cut.specs.declared.Plane.{Plane}
-use Rattle.planes_cut.specs.Plane.{plane_refusal}
+use Rattle.planes_cut.specs.Plane.{validated}
+use Rattle.job_requests.specs.Requests.{unless}
 use Rattle.answers.specs.Words.{vec_words}
 use Rattle.job_requests.specs.Requests.{number, real, point, refuse_if, unused_set, bad_direction, ill_formed, wrong_dimension, direction, options, settings, streamline, rake_of, rake, over_field, search_of, plain_code, is_planar, plane_of, statistics, over_plane, planar, by_code, request_of}
 use Rattle.job_requests.specs.Codes.{row, unknown, codes, code_of, is_unknown}
@@ -27,6 +28,7 @@ use Rattle.job_requests.specs.declared.Request.{Request}
 use Rattle.job_requests.specs.declared.Request.TheVariants.{Locate, Velocity, Streamline, Rake, Section, Statistics, Integrals, Probe}
 use Rattle.job_encoding.specs.Single.{padded, code_by, sheet_code, direction_word, line_words, plane_words, locate_words, velocity_words, one_line_words, streamline_words, sheet_words, rake_words, section_words, statistics_words, integrals_words, probe_words}
 use Rattle.job_encoding.proofs.Laws.{F64, F64s, OptionsHeld, RakeHeld, PlaneHeld}
+use Rattle.refusal.specs.declared.Refusal.TheVariants.{TooFewSeeds, TooManySteps, NoSuchField}
 
 -- ---- one float, one point, one plane, and a line's direction and options
 
@@ -71,19 +73,19 @@ velocity-read p All h = rw (vec-back p h)
 
 module _ (s : StreamlineSettings) (l : OptionsHeld s.options) where
   pub streamline-read : (seed : Vec3) (search : Search) → F64s seed
-      → request_of true (streamline_words seed s search) ≡ refuse_if 33 (ltb 65536 s.options.max_steps) (Streamline seed s Points search)
+      → request_of true (streamline_words seed s search) ≡ refuse_if TooManySteps (ltb 65536 s.options.max_steps) (Streamline seed s Points search)
   unfolding taken-apart streamline settings direction options one_line_words line_words
   streamline-read seed Bins h = rw (good-direction s.direction, direction-back s.direction, vec-back seed h, options-back s.options l)
   streamline-read seed All h = rw (good-direction s.direction, direction-back s.direction, vec-back seed h, options-back s.options l)
 
   pub sheet-read : (seed : Vec3) (search : Search) → F64s seed
-      → request_of true (sheet_words seed s search) ≡ refuse_if 33 (ltb 65536 s.options.max_steps) (Streamline seed s (Sheet AwayFromZero) search)
+      → request_of true (sheet_words seed s search) ≡ refuse_if TooManySteps (ltb 65536 s.options.max_steps) (Streamline seed s (Sheet AwayFromZero) search)
   unfolding taken-apart streamline settings direction options one_line_words line_words
   sheet-read seed Bins h = rw (good-direction s.direction, direction-back s.direction, vec-back seed h, options-back s.options l)
   sheet-read seed All h = rw (good-direction s.direction, direction-back s.direction, vec-back seed h, options-back s.options l)
 
   pub rake-read : (r : declared.Rake) (search : Search) → RakeHeld r
-      → request_of true (rake_words r s search) ≡ refuse_if 32 (ltb r.count 2) (refuse_if 33 (ltb 64 r.count) (refuse_if 33 (ltb 65536 s.options.max_steps) (Rake r s search)))
+      → request_of true (rake_words r s search) ≡ refuse_if TooFewSeeds (ltb r.count 2) (refuse_if TooManySteps (ltb 64 r.count) (refuse_if TooManySteps (ltb 65536 s.options.max_steps) (Rake r s search)))
   unfolding taken-apart rake rake_of settings direction options rake_words line_words
   rake-read r Bins h =
       rw (good-direction s.direction, direction-back s.direction, vec-back r.start h.start, vec-back r.end h.end, options-back s.options l)
@@ -95,14 +97,14 @@ module _ (s : StreamlineSettings) (l : OptionsHeld s.options) where
 module _ (s : Plane) where
   -- where the plane is accepted
   abbrev pub over : Request → Request
-  over q = refuse_if (plane_refusal s) (not (eqb (plane_refusal s) 0)) q
+  over q = unless (validated s) q
 
   module _ (h : PlaneHeld s) where
     pub section-read : request_of false (section_words s) ≡ over (Section s)
     unfolding taken-apart planar over_plane plane_of section_words plane_words
     section-read = rw (vec-back s.origin h.origin, vec-back s.u h.u, vec-back s.v h.v)
 
-    pub statistics-read : (field : ℕ) → request_of false (statistics_words s field) ≡ over (refuse_if 38 (ltb 5 field) (Statistics s field))
+    pub statistics-read : (field : ℕ) → request_of false (statistics_words s field) ≡ over (refuse_if NoSuchField (ltb 5 field) (Statistics s field))
     unfolding taken-apart planar over_plane plane_of statistics statistics_words plane_words
     statistics-read field = rw (vec-back s.origin h.origin, vec-back s.u h.u, vec-back s.v h.v)
 

@@ -8,7 +8,6 @@ use Rattle.reading.specs.declared.Values.{Values}
 use Rattle.reading.specs.Asks.{give, run, reads}
 use Rattle.reading.specs.Marks.{mark_all}
 use Rattle.reading.proofs.AsksLaws.{run_bind, reads-bind}
-use Rattle.answers.specs.declared.Answered.{Answered}
 use Rattle.answers.specs.Ensures.{Reply, CloseExit}
 use Rattle.job_room.specs.Room.{Room}
 use Rattle.job_requests.specs.declared.Request.{Request}
@@ -18,15 +17,16 @@ use Rattle.answers.specs.Answer.{fitting, answer_words, header_of}
 use Rattle.answers.proofs.BehindLaws.{placed-part}
 use Rattle.job_promise.specs.List.{is_flat, reply_to}
 use Rattle.job_promise.specs.Ensures.{ServeAllExit, answer_to}
+use Rattle.reading.specs.Result.{Refusable}
 
 -- the reply to a request that was taken apart
-pub reply-is : (room : Room) (f : ℕ → Values) (r : List ℕ) (flat : Bool) (q : Request) (left : List ℕ) (a : Answered) (o o' m m' : List ℕ) → flat ≡ is_flat room → q ≡ request_of flat r
+pub reply-is : (room : Room) (f : ℕ → Values) (r : List ℕ) (flat : Bool) (q : Request) (left : List ℕ) (a : Refusable ℕ) (o o' m m' : List ℕ) → flat ≡ is_flat room → q ≡ request_of flat r
     → Reply (serve room q) f left a o o' m m' → Reply (reply_to room r) f left a o o' m m'
 unfolding reply_to
 reply-is room f r flat q left a o o' m m' e d s = rw (d ∙ ap (λ (b : Bool). request_of b r) e) at s
 
 -- the answer to a request, by its reply, stored in a part behind the header, and what `close` made of it
-pub told_part : (room : Room) (f : ℕ → Values) (r : List ℕ) (left : List ℕ) (o out' o' m m' : List ℕ) (at later e k : ℕ) (a : Answered)
+pub told_part : (room : Room) (f : ℕ → Values) (r : List ℕ) (left : List ℕ) (o out' o' m m' : List ℕ) (at later e k : ℕ) (a : Refusable ℕ)
     → Reply (reply_to room r) f left a (take k (drop (at + 2) o)) out' m m'
     → CloseExit (header_of (length (take (at + 2) o ++ (out' ++ drop k (drop (at + 2) o))) - at) later a) (take (at + 2) o ++ (out' ++ drop k (drop (at + 2) o))) o' at e
     → at + 2 + 2 * later ≤ length o → k ≡ length o - (at + 2) → length out' ≡ length (take k (drop (at + 2) o)) → ServeAllExit (answer_to room (length o - at) later r) f m m' o o' at later e

@@ -7,7 +7,7 @@ use lib.ListN.{length, get_or, drop, replicate, length-replicate, length-drop}
 use lib.Seq.{ext_get_or, get_or-append-add, get_or-drop}
 use Rattle.arith.specs.Lists.{flatten}
 use Rattle.reading.specs.declared.Values.{Values}
-use Rattle.reading.specs.Result.{fine, ◌>>=◌}
+use Rattle.reading.specs.Result.{◌>>=◌}
 use Rattle.answers.specs.Answer.{fitting, answer_words}
 use Rattle.reading.specs.Asks.{Asks, run, reads}
 use Rattle.reading.specs.Marks.{cleared}
@@ -27,6 +27,7 @@ use Rattle.job_serve.specs.Serve.{serve}
 use Rattle.job_reads.proofs.Laws.{serve-within}
 use Rattle.job_promise.specs.List.{reply_to, serve_all}
 use Rattle.job_promise.specs.Job.{job_of, lent_to, outcome}
+use Rattle.std.specs.Prelude.{Ok}
 
 -- ---- a list of requests over a room
 
@@ -47,7 +48,7 @@ reads-each room f left (r ∷ rs) =
 -- ---- two runs
 
 -- refusal 5 was not due: the marks of an accepted job reach all its cells
-marks-reach : (file requests : List ℕ) (lent : Lent) (t : Asks (List ℕ)) → job_of file requests lent ≡ fine t → cells_of file ≤ lent.marks
+marks-reach : (file requests : List ℕ) (lent : Lent) (t : Asks (List ℕ)) → job_of file requests lent ≡ Ok t → cells_of file ≤ lent.marks
 unfolding cells_of job_of
 marks-reach file requests lent t e = let r = bound _ _ _ e in (prepared-fits file (length requests) lent r.value r.had).marks
 
@@ -81,7 +82,7 @@ behind-cleared n m i h k =
     ap (λ j. get_or (replicate n 0 ++ drop n m) j 0) place ∙ get_or-append-add (replicate n 0) (drop n m) (i - n) 0 ∙ get_or-drop n m (i - n) 0 ∙ ap (λ j. get_or m j 0) back
 
 module _ (file requests : List ℕ) (words floats : ℕ) (answers marks : List ℕ) (room : Room)
-    (built : prepared file (length requests) (lent_to words floats answers marks) ≡ fine room) where
+    (built : prepared file (length requests) (lent_to words floats answers marks) ≡ Ok room) where
   abbrev tree : Asks (List ℕ)
   tree = serve_all room (length answers) (requests_in requests)
 
@@ -89,7 +90,7 @@ module _ (file requests : List ℕ) (words floats : ℕ) (answers marks : List �
   out = outcome file requests words floats answers marks
 
   -- it serves its list
-  pub left_is : out ≡ done (fine tree) (values_of file) (cells_of file) answers marks
+  pub left_is : out ≡ done (Ok tree) (values_of file) (cells_of file) answers marks
   unfolding outcome job_of ◌>>=◌
   left_is = rw (prepared-outside file (length requests) (lent_to words floats answers marks) ∙ built)
 

@@ -5,3 +5,4 @@ pub mod JobLaws
 pub mod Demand3
 pub mod PromiseLaws
 pub mod UseLaws
+pub mod NumberLaws

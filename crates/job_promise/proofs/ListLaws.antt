@@ -6,7 +6,6 @@ use mathlib.Core.List.{List, [], ◌∷◌, ◌++◌, append_assoc, append-nil}
 use lib.ListN.{length, get_or, take, drop, replicate, length-drop, drop_of_length-le}
 use lib.Seq.{drop-cons, length-take-le}
 use Rattle.reading.specs.declared.Values.{Values}
-use Rattle.reading.specs.Result.{fine}
 use Rattle.reading.specs.Asks.{Asks, give, run, reads}
 use Rattle.reading.specs.Marks.{mark_all, cleared}
 use Rattle.reading.specs.After.{done, Left}
@@ -16,6 +15,7 @@ use Rattle.job_room.specs.Room.{Room}
 use Rattle.answers.specs.Answer.{fitting, answer_words}
 use Rattle.job_promise.specs.List.{reply_to, serve_all}
 use Rattle.job_promise.specs.Ensures.{ServeAllExit, answer_to}
+use Rattle.std.specs.Prelude.{Ok}
 
 module _ (room : Room) (f : ℕ → Values) where
   -- the first answer and the rest
@@ -138,7 +138,7 @@ module _ (room : Room) (f : ℕ → Values) (m₀ : List ℕ) (len : ℕ) (reqs 
 -- ---- the whole
 
 pub done-is : (t : Asks (List ℕ)) (f : ℕ → Values) (cells r : ℕ) (m m' o o' o'' : List ℕ) → ServeAllExit t f (cleared cells m) m' o o' 0 0 r
-    → o'' ≡ take r o' ++ replicate (length o' - r) 0 → Left (done (fine t) f cells o m) 0 o'' m'
+    → o'' ≡ take r o' ++ replicate (length o' - r) 0 → Left (done (Ok t) f cells o m) 0 o'' m'
 unfolding done
 done-is t f cells r m m' o o' o'' t' e =
     let ends : length o' - r ≡ length o - length (run t f) = omega (arith, t'.placed.end, t'.placed.long) in
@@ -150,7 +150,7 @@ done-is t f cells r m m' o o' o'' t' e =
 
 -- the same from the marks that were cleared
 pub run_is : (t : Asks (List ℕ)) (f : ℕ → Values) (n cells r : ℕ) (m m₁ m' o o' o'' : List ℕ) → n ≡ cells → m₁ ≡ cleared n m → ServeAllExit t f m₁ m' o o' 0 0 r
-    → o'' ≡ take r o' ++ replicate (length o' - r) 0 → Left (done (fine t) f cells o m) 0 o'' m'
+    → o'' ≡ take r o' ++ replicate (length o' - r) 0 → Left (done (Ok t) f cells o m) 0 o'' m'
 run_is t f n cells r m m₁ m' o o' o'' e c s z =
     let from : m₁ ≡ cleared cells m = c ∙ ap (λ (k : ℕ). cleared k m) e in
     done-is t f cells r m m' o o' o'' (rw from at s) z

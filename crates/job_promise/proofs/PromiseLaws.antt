@@ -12,7 +12,7 @@ use lib.ListN.{length, get_or, drop, replicate}
 use lib.Ieee.{Float}
 use Rattle.arith.specs.Lists.{flatten}
 use Rattle.reading.specs.declared.Values.{Values}
-use Rattle.reading.specs.Result.{Result, refused, fine, ◌>>=◌}
+use Rattle.reading.specs.Result.{Refusable, ◌>>=◌}
 use Rattle.reading.specs.Asks.{give, run, reads}
 use Rattle.reading.specs.After.{After, done, Left}
 use Rattle.reading.proofs.AsksLaws.{run_bind}
@@ -22,32 +22,34 @@ use Rattle.job_requests.specs.Requests.{words_at, requests_in}
 use Rattle.job_requests.proofs.Laws.{requests-count, requests-at}
 use Rattle.job_room.specs.Room.{Room, Lent, prepared}
 use Rattle.job_room.specs.declared.Place.{Place}
-use Rattle.job_room.specs.declared.Prepared.{Prepared}
 use Rattle.job_room.specs.Ensures.{room_in, counts_in, PrepareExit}
-use Rattle.job_room.proofs.Laws.{prepared-outside, preparing-refused}
+use Rattle.job_room.proofs.Laws.{prepared-outside, preparing-refused, preparing-ready}
 use Rattle.answers.specs.Answer.{fitting, answer_words}
 use Rattle.job_reads.proofs.Ranges.{Ranged, due, none, among-is, told}
 use Rattle.job_reads.proofs.Ranges as Ranges
 use Rattle.job_reads.proofs.JobRefusals.{job_number, job-refusals}
 use Rattle.job_reads.proofs.RequestRefusals.{request-refusals}
-use Rattle.job_promise.specs.declared.Outcome.TheVariants.{Done, Refused}
 use Rattle.job_promise.specs.List.{is_flat, reply_to, serve_all}
 use Rattle.job_promise.specs.Ensures.{answer_to}
-use Rattle.job_promise.specs.Job.{job_of, lent_to, outcome, outcome_of}
+use Rattle.job_promise.specs.Job.{job_of, lent_to, outcome, result_of}
 use Rattle.job_promise.specs.Promise.{ResultNumber, accepted, rejected, rejected-45, Answers, end, served, denied, ReadBySome, Mark, marked, clear, JobPromise}
 use Rattle.job_promise.proofs.ListLaws.{run-all}
 use Rattle.job_promise.proofs.JobLaws.{job-refused, job-done}
 use Rattle.job_promise.proofs.Demand3.{reads-each, two_runs, left_is, read-is-marked, marked-is-read, unread-is-clear, later-kept}
+use Rattle.std.specs.Prelude.{Ok, Err}
+use Rattle.refusal.specs.declared.Refusal.{Refusal}
+use Rattle.refusal.specs.declared.Refusal.TheVariants.{WrongTrailer, CountOverLimit, WrongDefinitions, ShortWorkArea, ShortMarks, WrongRequestBytes, ShortAnswers, NoCells, CoordinateNotFinite, CoordinateTooLarge, WrongKind, NoSuchPoint, DegenerateFace, ThirdUser, NoVolume, WrongOrientation, NotConnected, FlatBounds, TooManyBins, FileTooLong, TooFewPlaces, IllFormed, OtherDimension, TooFewSeeds, TooManySteps, WrongOptions, SeedNowhere, WrongPlane, OriginTooLarge, NoSuchField, SampleNotFinite, FluxNotFinite, NoStatistics, InvalidSample, NoIntegrals, AnswerTooLong, ZoneTooLarge, ZonesLost, ShortOutput}
+use Rattle.refusal.specs.Number.{number}
 
 -- ---- the answers of a list
 
 -- one answer before the others
-one_answer : (left later : ℕ) {a : Result (List ℕ)} {n : ℕ} {rest : List ℕ} → Ranged (Ranges.among 30 44) a → Answers n rest → Answers (suc n) (answer_words (fitting left later a) ++ rest)
+one_answer : (left later : ℕ) {a : Refusable (List ℕ)} {n : ℕ} {rest : List ℕ} → Ranged (Ranges.among 30 44) a → Answers n rest → Answers (suc n) (answer_words (fitting left later a) ++ rest)
 unfolding fitting answer_words
-one_answer left later (due k h) w = let b = among-is 30 44 k h in denied b.0 b.1 w
+one_answer left later (due k h) w = let b = among-is 30 44 (number k) h in denied b.0 b.1 w
 one_answer left later {n = n} {rest = rest} (none {a = ws}) w = by (leb (length ws + 2 + 2 * later) left)
   where
-    by : (t : Bool) → Answers (suc n) (answer_words (cond t (fine ws) (refused 44)) ++ rest)
+    by : (t : Bool) → Answers (suc n) (answer_words (cond t (Ok ws) (Err AnswerTooLong)) ++ rest)
     by true = served ws w
     by false = denied {k = 44} (omega arith) (omega arith) w
 
@@ -79,11 +81,6 @@ module _ {A : Type 0} (g : A → List ℕ) (d : A) (i : ℕ) where
 
 -- ---- the outcome of a job
 
-never-0 : (k : ℕ) → 1 ≤ k → Refused k ≡ outcome_of k
-unfolding outcome_of
-never-0 zero h = absurd (omega arith)
-never-0 (suc k) h = refl
-
 module _ (case requests : List ℕ) (words floats : ℕ) (answers marks : List ℕ) where
   abbrev out : After
   out = outcome case requests words floats answers marks
@@ -91,34 +88,71 @@ module _ (case requests : List ℕ) (words floats : ℕ) (answers marks : List �
   abbrev with : Lent
   with = lent_to words floats answers marks
 
-  abbrev room_of : Result Room
+  abbrev room_of : Refusable Room
   room_of = prepared case (length requests) with
 
   -- a refused job
-  module _ (k : ℕ) (shut : room_of ≡ refused k) where
-    refused-is : out ≡ record { result = k; answers = answers; marks = marks }
+  module _ (k : Refusal) (shut : room_of ≡ Err k) where
+    refused-is : out ≡ record { result = number k; answers = answers; marks = marks }
     unfolding outcome job_of done ◌>>=◌
     refused-is = rw (prepared-outside case (length requests) with ∙ shut)
 
-    told-number : job_number k ≡ true
+    told-number : job_number (number k) ≡ true
     told-number = told k (rw shut at (job-refusals case (length requests) with))
 
-    pub refused-number : ResultNumber (refused k) k
-    refused-number = by (Ranges.among 1 19 k) refl told-number
+    pub refused-number : ResultNumber (Err k) (number k)
+    refused-number = by k told-number
       where
-        by : (t : Bool) → Ranges.among 1 19 k ≡ t → (t || eqb k 45) ≡ true → ResultNumber (refused k) k
-        by true e h = let b = among-is 1 19 k e in rejected b.0 b.1
-        by false e h = let same = eqb-true k 45 h in rw same rejected-45
+        by : (k : Refusal) → job_number (number k) ≡ true → ResultNumber (Err k) (number k)
+        by WrongTrailer h = rejected (omega arith) (omega arith)
+        by CountOverLimit h = rejected (omega arith) (omega arith)
+        by WrongDefinitions h = rejected (omega arith) (omega arith)
+        by ShortWorkArea h = rejected (omega arith) (omega arith)
+        by ShortMarks h = rejected (omega arith) (omega arith)
+        by WrongRequestBytes h = rejected (omega arith) (omega arith)
+        by ShortAnswers h = rejected (omega arith) (omega arith)
+        by NoCells h = rejected (omega arith) (omega arith)
+        by CoordinateNotFinite h = rejected (omega arith) (omega arith)
+        by CoordinateTooLarge h = rejected (omega arith) (omega arith)
+        by WrongKind h = rejected (omega arith) (omega arith)
+        by NoSuchPoint h = rejected (omega arith) (omega arith)
+        by DegenerateFace h = rejected (omega arith) (omega arith)
+        by ThirdUser h = rejected (omega arith) (omega arith)
+        by NoVolume h = rejected (omega arith) (omega arith)
+        by WrongOrientation h = rejected (omega arith) (omega arith)
+        by NotConnected h = rejected (omega arith) (omega arith)
+        by FlatBounds h = rejected (omega arith) (omega arith)
+        by TooManyBins h = rejected (omega arith) (omega arith)
+        by FileTooLong h = absurd (let z : ◌≡◌ {A = Bool} false true = h in let w : ◌≡◌ {A = ℕ} 0 1 = cc in omega arith)
+        by TooFewPlaces h = absurd (let z : ◌≡◌ {A = Bool} false true = h in let w : ◌≡◌ {A = ℕ} 0 1 = cc in omega arith)
+        by IllFormed h = absurd (let z : ◌≡◌ {A = Bool} false true = h in let w : ◌≡◌ {A = ℕ} 0 1 = cc in omega arith)
+        by OtherDimension h = absurd (let z : ◌≡◌ {A = Bool} false true = h in let w : ◌≡◌ {A = ℕ} 0 1 = cc in omega arith)
+        by TooFewSeeds h = absurd (let z : ◌≡◌ {A = Bool} false true = h in let w : ◌≡◌ {A = ℕ} 0 1 = cc in omega arith)
+        by TooManySteps h = absurd (let z : ◌≡◌ {A = Bool} false true = h in let w : ◌≡◌ {A = ℕ} 0 1 = cc in omega arith)
+        by WrongOptions h = absurd (let z : ◌≡◌ {A = Bool} false true = h in let w : ◌≡◌ {A = ℕ} 0 1 = cc in omega arith)
+        by SeedNowhere h = absurd (let z : ◌≡◌ {A = Bool} false true = h in let w : ◌≡◌ {A = ℕ} 0 1 = cc in omega arith)
+        by WrongPlane h = absurd (let z : ◌≡◌ {A = Bool} false true = h in let w : ◌≡◌ {A = ℕ} 0 1 = cc in omega arith)
+        by OriginTooLarge h = absurd (let z : ◌≡◌ {A = Bool} false true = h in let w : ◌≡◌ {A = ℕ} 0 1 = cc in omega arith)
+        by NoSuchField h = absurd (let z : ◌≡◌ {A = Bool} false true = h in let w : ◌≡◌ {A = ℕ} 0 1 = cc in omega arith)
+        by SampleNotFinite h = absurd (let z : ◌≡◌ {A = Bool} false true = h in let w : ◌≡◌ {A = ℕ} 0 1 = cc in omega arith)
+        by FluxNotFinite h = absurd (let z : ◌≡◌ {A = Bool} false true = h in let w : ◌≡◌ {A = ℕ} 0 1 = cc in omega arith)
+        by NoStatistics h = absurd (let z : ◌≡◌ {A = Bool} false true = h in let w : ◌≡◌ {A = ℕ} 0 1 = cc in omega arith)
+        by InvalidSample h = absurd (let z : ◌≡◌ {A = Bool} false true = h in let w : ◌≡◌ {A = ℕ} 0 1 = cc in omega arith)
+        by NoIntegrals h = absurd (let z : ◌≡◌ {A = Bool} false true = h in let w : ◌≡◌ {A = ℕ} 0 1 = cc in omega arith)
+        by AnswerTooLong h = absurd (let z : ◌≡◌ {A = Bool} false true = h in let w : ◌≡◌ {A = ℕ} 0 1 = cc in omega arith)
+        by ZoneTooLarge h = rejected-45
+        by ZonesLost h = absurd (let z : ◌≡◌ {A = Bool} false true = h in let w : ◌≡◌ {A = ℕ} 0 1 = cc in omega arith)
+        by ShortOutput h = absurd (let z : ◌≡◌ {A = Bool} false true = h in let w : ◌≡◌ {A = ℕ} 0 1 = cc in omega arith)
 
-    pub refused-above : 1 ≤ k
-    refused-above = by (Ranges.among 1 19 k) refl told-number
+    pub refused-above : 1 ≤ number k
+    refused-above = by (Ranges.among 1 19 (number k)) refl told-number
       where
-        by : (t : Bool) → Ranges.among 1 19 k ≡ t → (t || eqb k 45) ≡ true → 1 ≤ k
-        by true e h = (among-is 1 19 k e).0
-        by false e h = omega (arith, eqb-true k 45 h)
+        by : (t : Bool) → Ranges.among 1 19 (number k) ≡ t → (t || eqb (number k) 45) ≡ true → 1 ≤ number k
+        by true e h = (among-is 1 19 (number k) e).0
+        by false e h = omega (arith, eqb-true (number k) 45 h)
 
   -- an accepted job
-  module _ (room : Room) (built : room_of ≡ fine room) where
+  module _ (room : Room) (built : room_of ≡ Ok room) where
     abbrev all : List ℕ
     all = reads (serve_all room (length answers) (requests_in requests)) (values_of case)
 
@@ -166,21 +200,21 @@ module _ (case requests : List ℕ) (words floats : ℕ) (answers marks : List �
         rw (left_is case requests words floats answers marks room built, ← requests-count requests)
         (all-answers room (values_of case) (length answers) (requests_in requests) (length answers - used))
 
-  numbered : (p : Result Room) → room_of ≡ p → ResultNumber p out.result
-  numbered (refused k) e = rw (refused-is k e) (refused-number k e)
-  numbered (fine room) e = rw (accepted-number room e) accepted
+  numbered : (p : Refusable Room) → room_of ≡ p → ResultNumber p out.result
+  numbered (Err k) e = rw (refused-is k e) (refused-number k e)
+  numbered (Ok room) e = rw (accepted-number room e) accepted
 
   -- a job whose number is 0 had its room built
-  if-accepted : {P : Type 0} → ((room : Room) → room_of ≡ fine room → P) → out.result ≡ 0 → P
+  if-accepted : {P : Type 0} → ((room : Room) → room_of ≡ Ok room → P) → out.result ≡ 0 → P
   if-accepted {P} h z = by room_of refl
     where
-      by : (p : Result Room) → room_of ≡ p → P
-      by (refused k) e = absurd (let b = refused-above k e in let w = ap (λ (a : After). a.result) (refused-is k e) in omega (arith, b, w, z))
-      by (fine room) e = h room e
+      by : (p : Refusable Room) → room_of ≡ p → P
+      by (Err k) e = absurd (let b = refused-above k e in let w = ap (λ (a : After). a.result) (refused-is k e) in omega (arith, b, w, z))
+      by (Ok room) e = h room e
 
-  kept : (p : Result Room) → room_of ≡ p → drop (cells_of case) out.marks ≡ drop (cells_of case) marks
-  kept (refused k) e = rw (refused-is k e)
-  kept (fine room) e = later-kept case requests words floats answers marks room e
+  kept : (p : Refusable Room) → room_of ≡ p → drop (cells_of case) out.marks ≡ drop (cells_of case) marks
+  kept (Err k) e = rw (refused-is k e)
+  kept (Ok room) e = later-kept case requests words floats answers marks room e
 
   promised : JobPromise case requests words floats answers marks out
   promised =
@@ -198,12 +232,15 @@ module _ (case requests : List ℕ) (words floats : ℕ) (answers marks : List �
   left : {n : ℕ} {o m : List ℕ} → Left out n o m → JobPromise case requests words floats answers marks (record { result = n; answers = o; marks = m })
   left l = rw (l.same-result, l.same-answers, l.same-marks) promised
 
-  pub refused-promise : {w : List ℕ} {f : List Float} {x : Prepared} {k : ℕ} → PrepareExit room_of case w f x → x ≡ Prepared.Refused k
-      → JobPromise case requests words floats answers marks (record { result = k; answers = answers; marks = marks }) × (Refused k ≡ outcome_of k)
-  refused-promise {k = k} p e = (left (job-refused case requests words floats answers marks p e), never-0 k (refused-above k (preparing-refused p e)))
+  pub refused-promise : {w : List ℕ} {f : List Float} {x : Refusable Place} {k : Refusal} → PrepareExit room_of case w f x → x ≡ Err k
+      → JobPromise case requests words floats answers marks (record { result = number k; answers = answers; marks = marks }) × (Err k ≡ result_of case requests words floats answers marks)
+  unfolding result_of job_of ◌>>=◌
+  refused-promise {k = k} p e =
+      (left (job-refused case requests words floats answers marks p e), rw (prepared-outside case (length requests) with ∙ preparing-refused p e))
 
-  pub done-promise : {w : List ℕ} {f : List Float} {x : Prepared} {p : Place} {answers' marks' : List ℕ} → PrepareExit room_of case w f x → x ≡ Prepared.Ready p
-      → Left (done (fine (serve_all (room_in case w f p) (length answers) (requests_in requests))) (values_of case) (counts_in p).cells answers marks) 0 answers' marks'
-      → JobPromise case requests words floats answers marks (record { result = 0; answers = answers'; marks = marks' }) × (Done ≡ outcome_of 0)
-  unfolding outcome_of
-  done-promise p e h = (left (job-done case requests words floats answers marks p e h), refl)
+  pub done-promise : {w : List ℕ} {f : List Float} {x : Refusable Place} {p : Place} {answers' marks' : List ℕ} → PrepareExit room_of case w f x → x ≡ Ok p
+      → Left (done (Ok (serve_all (room_in case w f p) (length answers) (requests_in requests))) (values_of case) (counts_in p).cells answers marks) 0 answers' marks'
+      → JobPromise case requests words floats answers marks (record { result = 0; answers = answers'; marks = marks' }) × (Ok tt ≡ result_of case requests words floats answers marks)
+  unfolding result_of job_of ◌>>=◌
+  done-promise p e h =
+      (left (job-done case requests words floats answers marks p e h), rw (prepared-outside case (length requests) with ∙ (preparing-ready p e).0))

@@ -1,6 +1,6 @@
 -- The answers to a list of requests.
 use Rattle.std.specs.Prelude.{ℕ, ◌-◌, Bool, true, false, List, [], ◌∷◌, ◌++◌, length}
-use Rattle.reading.specs.Result.{Result}
+use Rattle.reading.specs.Result.{Refusable}
 use Rattle.reading.specs.Asks.{Asks, give, ◌>>=◌}
 use Rattle.job_requests.specs.Requests.{request_of}
 use Rattle.job_room.specs.Room.{Room, flat, solid}
@@ -13,7 +13,7 @@ is_flat (flat f) = true
 is_flat (solid m) = false
 
 -- one request's answer before it is known whether it fits
-unfoldable pub reply_to : Room → List ℕ → Asks (Result (List ℕ))
+unfoldable pub reply_to : Room → List ℕ → Asks (Refusable (List ℕ))
 reply_to room r = serve room (request_of (is_flat room) r)
 
 -- "each later one finds the same case bytes and the room that is left"

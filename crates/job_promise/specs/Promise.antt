@@ -1,7 +1,7 @@
 -- What the job promises of a run: it ends by the definition (demand 2), and its marks say what its answers were made from (demand 3).
-use Rattle.std.specs.Prelude.{ℕ, suc, ◌*◌, ◌/◌, ◌<◌, ◌≤◌, ◌≡◌, length, get_or, drop, replicate}
+use Rattle.std.specs.Prelude.{ℕ, suc, ◌*◌, ◌/◌, ◌<◌, ◌≤◌, ◌≡◌, length, get_or, drop, replicate, Ok, Err}
 use mathlib.Core.List.{List, ◌∷◌, ◌++◌, Memᴰ}
-use Rattle.reading.specs.Result.{Result, refused, fine}
+use Rattle.reading.specs.Result.{Refusable}
 use Rattle.reading.specs.Asks as asks
 use Rattle.reading.specs.After.{After, Named}
 use Rattle.case_file.specs.Field.{cells_of, values_of}
@@ -10,14 +10,17 @@ use Rattle.job_requests.specs.Requests.{words_at}
 use Rattle.job_room.specs.Room.{Room, Lent, prepared}
 use Rattle.job_promise.specs.List.{reply_to}
 use Rattle.job_promise.specs.Job.{lent_to, outcome}
+use Rattle.refusal.specs.declared.Refusal.{Refusal}
+use Rattle.refusal.specs.declared.Refusal.TheVariants.{ZoneTooLarge}
+use Rattle.refusal.specs.Number as numbers
 
 -- ---- the numbers of refusals
 
 -- "Refused jobs (1 to 19) give only the number", and 45 "refuses the job as 1 to 19 do"; 0 is the number of an accepted job, whose room was built
-pub data ResultNumber : Result Room → ℕ → Type 0 where
-  accepted : {room : Room} → ResultNumber (fine room) 0
-  rejected : {k : ℕ} → 1 ≤ k → k ≤ 19 → ResultNumber (refused k) k
-  rejected-45 : ResultNumber (refused 45) 45
+pub data ResultNumber : Refusable Room → ℕ → Type 0 where
+  accepted : {room : Room} → ResultNumber (Ok room) 0
+  rejected : {k : Refusal} → 1 ≤ numbers.number k → numbers.number k ≤ 19 → ResultNumber (Err k) (numbers.number k)
+  rejected-45 : ResultNumber (Err ZoneTooLarge) 45
 
 -- so many answers, and zeros behind them: "refusal (0 if none), word count n, then n words; a refusal has n = 0", and its number is from 30 to 44
 pub data Answers : ℕ → List ℕ → Type 0 where
@@ -30,7 +33,7 @@ pub data Answers : ℕ → List ℕ → Type 0 where
 -- Cell i is read for some request of the list, the one with this number: "An accepted job reads the cells that its requests read, taken together."
 pub record ReadBySome (case requests : List ℕ) (lent : Lent) (i : ℕ) : Type 0 where
   pub room : Room
-  pub built : prepared case (length requests) lent ≡ fine room
+  pub built : prepared case (length requests) lent ≡ Ok room
   pub number : ℕ
   pub listed : number < length requests / 128
   pub reads : Memᴰ i (asks.reads (reply_to room (words_at requests (128 * number))) (values_of case))

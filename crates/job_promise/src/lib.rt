@@ -2,21 +2,18 @@
 #![tactic(auto)]
 
 ghost use Rattle.std.specs.Prelude.{◌≡◌};
+ghost use Rattle.reading.specs.Result.{Refusable};
 ghost use Rattle.job_promise.specs.Job.{number_of};
 
-// The job's result.
-#[derive(Clone, Copy)]
-pub enum Outcome {
-    Done,
-    Refused(u64),
-}
+use refusal::Refusal;
 
-// 0, or the refusal.
-pub fn number_of(o: Outcome) -> u64
-    ensures { result ≡ number_of o }
+// 0, or the refusal's number. No other result has the same.
+pub fn number_of(o: Result<(), Refusal>) -> u64
+    ensures value { result ≡ number_of o }
+    ensures only { (q : Refusable (Unit {0})) → number_of q ≡ result → q ≡ o }
 {
     match o {
-        Outcome::Done => 0,
-        Outcome::Refused(k) => k,
+        Ok(()) => 0,
+        Err(refusal) => refusal.number(),
     }
 }

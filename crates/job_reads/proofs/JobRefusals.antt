@@ -7,10 +7,9 @@ use lib.Dec.{leb, eqb}
 use lib.ListN.{get_or, length}
 use Rattle.arith.specs.F64.{◌⊗◌, ◌≺◌, 0·5, 1e-12, abs}
 use Rattle.arith.specs.declared.Vec3.{Vec3}
-use Rattle.reading.specs.Result.{Result, refused, fine, ◌>>=◌}
+use Rattle.reading.specs.Result.{Refusable, ◌>>=◌}
 use Rattle.mesh_area.specs.Tables.{Face, Cell, Mesh}
-use Rattle.case_file.specs.Trailer.{trailer_right, over_limit, counts_of, opened, opened_case}
-use Rattle.case_file.specs.declared.Opened.{Opened}
+use Rattle.case_file.specs.Trailer.{trailer_right, over_limit, counts_of, opened}
 use Rattle.case_definitions.specs.Faces.{Definition}
 use Rattle.case_definitions.specs.Definitions.{Taken, numbers, counted, face_lists, made, kinds, definition, definitions}
 use Rattle.mesh_geometry.specs.Faces.{Oriented, enough, long_enough, face_area_vector, measured, turned_if, oriented_face}
@@ -30,76 +29,79 @@ use Rattle.lines_locate.specs.Field.{zoned}
 use Rattle.lines_field.specs.Field.{grid_for, grid_of, field_of}
 use Rattle.job_room.specs.Room.{Room, Lent, room_from, room_of, shortage, prepared}
 use Rattle.job_reads.proofs.Ranges.{among, Ranged, due, none, bind, barred, either, through, each}
+use Rattle.std.specs.Prelude.{Ok, Err}
+use Rattle.case_file.specs.declared.Counts.{Counts}
+use Rattle.refusal.specs.declared.Refusal.TheVariants.{WrongTrailer, CountOverLimit, WrongDefinitions, ShortWorkArea, ShortMarks, WrongRequestBytes, ShortAnswers, NoCells, CoordinateNotFinite, CoordinateTooLarge, WrongKind, NoSuchPoint, DegenerateFace, ThirdUser, NoVolume, WrongOrientation, NotConnected, FlatBounds, TooManyBins, ZoneTooLarge}
 
 abbrev pub job_number : ℕ → Bool
 job_number k = among 1 19 k || eqb k 45
 
-abbrev pub Job : {A : Type 0} → Result A → Type 0
+abbrev pub Job : {A : Type 0} → Refusable A → Type 0
 Job r = Ranged job_number r
 
 -- ---- 1 to 3, and 45
 
-opening : (file : List ℕ) → Job (opened_case (opened file))
-unfolding opened_case opened
+opening : (file : List ℕ) → Job ((opened file))
+unfolding opened
 opening file = by (trailer_right file) (over_limit (counts_of file))
   where
-    by : (a b : Bool) → Job (opened_case (cond a (cond b (Opened.Refused 2) (Opened.Case (counts_of file))) (Opened.Refused 1)))
-    by false b = due 1 refl
-    by true true = due 2 refl
+    by : (a b : Bool) → Job ((cond a (cond b (Err CountOverLimit) (Ok (counts_of file))) (Err WrongTrailer)))
+    by false b = due WrongTrailer refl
+    by true true = due CountOverLimit refl
     by true false = none
 
 taking : (n : ℕ) (ws : List ℕ) → Job (numbers n ws)
 unfolding numbers
-taking n ws = either (leb n (length ws)) none (due 3 refl)
+taking n ws = either (leb n (length ws)) none (due WrongDefinitions refl)
 
-counting : {A : Type 0} (limit : ℕ) (rest : ℕ → List ℕ → Result (Taken A)) → ((n : ℕ) (ws : List ℕ) → Job (rest n ws)) → (ws : List ℕ) → Job (counted limit rest ws)
+counting : {A : Type 0} (limit : ℕ) (rest : ℕ → List ℕ → Refusable (Taken A)) → ((n : ℕ) (ws : List ℕ) → Job (rest n ws)) → (ws : List ℕ) → Job (counted limit rest ws)
 unfolding counted
-counting limit rest h [] = due 3 refl
+counting limit rest h [] = due WrongDefinitions refl
 counting {A} limit rest h (n ∷ ws) = by (leb n limit)
   where
-    by : (t : Bool) → Job {A = Taken A} (elim t [ false ↦ refused 3 | true ↦ rest n ws ])
+    by : (t : Bool) → Job {A = Taken A} (elim t [ false ↦ Err WrongDefinitions | true ↦ rest n ws ])
     by true = h n ws
-    by false = due 3 refl
+    by false = due WrongDefinitions refl
 
 listing : (n : ℕ) (ws : List ℕ) → Job (face_lists n ws)
 unfolding face_lists
 listing zero ws = none
 listing (suc n) ws = bind (counting 8 numbers taking ws) (λ f. bind (listing n f.left) (λ fs. none))
 
-making : {A : Type 0} (f : A → Definition) (r : Result (Taken A)) → Job r → Job (made f r)
+making : {A : Type 0} (f : A → Definition) (r : Refusable (Taken A)) → Job r → Job (made f r)
 unfolding made
 making f r h = bind h (λ w. none)
 
 defining : (ws : List ℕ) → Job (definition ws)
 unfolding definition kinds
-defining [] = due 3 refl
+defining [] = due WrongDefinitions refl
 defining (k ∷ ws) = by k
   where
-    by : (k : ℕ) → Job (get_or kinds k (λ ws. refused 3) ws)
+    by : (k : ℕ) → Job (get_or kinds k (λ ws. Err WrongDefinitions) ws)
     by zero = making _ _ (counting 24 numbers taking ws)
     by (suc zero) = making _ _ (taking 4 ws)
     by (suc (suc zero)) = making _ _ (taking 8 ws)
     by (suc (suc (suc zero))) = making _ _ (taking 6 ws)
     by (suc (suc (suc (suc zero)))) = making _ _ (taking 5 ws)
     by (suc (suc (suc (suc (suc zero))))) = making _ _ (counting 24 face_lists listing ws)
-    by (suc (suc (suc (suc (suc (suc k)))))) = due 3 refl
+    by (suc (suc (suc (suc (suc (suc k)))))) = due WrongDefinitions refl
 
 all-defining : (n : ℕ) (ws : List ℕ) → Job (definitions n ws)
 unfolding definitions
 all-defining zero [] = none
-all-defining zero (w ∷ ws) = due 3 refl
+all-defining zero (w ∷ ws) = due WrongDefinitions refl
 all-defining (suc n) ws = bind (defining ws) (λ d. bind (all-defining n d.left) (λ ds. none))
 
 surveying : (file : List ℕ) → Job (survey_of file)
 unfolding survey_of
-surveying file = bind (opening file) (λ n. bind (all-defining _ _) (λ ds. bind (barred 45 _ refl) (λ _. none)))
+surveying file = bind (opening file) (λ n. bind (all-defining _ _) (λ ds. bind (barred ZoneTooLarge _ refl) (λ _. none)))
 
 -- ---- 4 to 7
 
 lending : (c : CaseSurvey) (requests : ℕ) (lent : Lent) → Job (shortage c requests lent)
 unfolding shortage
 lending c requests lent =
-    bind (barred 4 _ refl) (λ _. bind (barred 5 _ refl) (λ _. bind (barred 6 _ refl) (λ _. barred 7 _ refl)))
+    bind (barred ShortWorkArea _ refl) (λ _. bind (barred ShortMarks _ refl) (λ _. bind (barred WrongRequestBytes _ refl) (λ _. barred ShortAnswers _ refl)))
 
 -- ---- 8 to 17
 
@@ -107,7 +109,7 @@ module _ (d : ℕ) (ps : List Vec3) where
   measuring : (l : List ℕ) → Job (measured d ps l)
   unfolding measured face_area_vector long_enough
   measuring l =
-      bind (either (enough d l) (either (1e-12 ≺ _) none (due 13 refl)) (due 13 refl)) (λ v. none)
+      bind (either (enough d l) (either (1e-12 ≺ _) none (due DegenerateFace refl)) (due DegenerateFace refl)) (λ v. none)
 
   turning : (t : Bool) (f : Oriented) → Job (turned_if t d ps f)
   unfolding turned_if
@@ -122,7 +124,7 @@ module _ (d : ℕ) (ps : List Vec3) where
   unfolding numbered_face
   placing (Added.New i) fs = none
   placing (Added.Second i) fs = none
-  placing Added.Third fs = due 14 refl
+  placing Added.Third fs = due ThirdUser refl
 
   adding-one : (cell : ℕ) (l : List ℕ) (m : FaceGeometry) (fs : List Face) → Job (add_face cell l m fs)
   unfolding add_face
@@ -133,16 +135,16 @@ module _ (d : ℕ) (ps : List Vec3) where
   drafting defs =
       through (add_cell d ps)
       (λ t def.
-      bind (barred 11 _ refl) (λ _.
-      bind (barred 12 _ refl) (λ _.
+      bind (barred WrongKind _ refl) (λ _.
+      bind (barred NoSuchPoint _ refl) (λ _.
       bind (through _ (λ g l. bind (orienting _ l) (λ o. bind (adding-one _ _ _ _) (λ p. none))) _ _) (λ g. none))))
       _
       defs
 
-  fanning : (reference : Vec3) (w : Weight) (r : Result Oriented) → Job (tetrahedra_of ps reference w r)
+  fanning : (reference : Vec3) (w : Weight) (r : Refusable Oriented) → Job (tetrahedra_of ps reference w r)
   unfolding tetrahedra_of
-  fanning reference w (refused n) = due 15 refl
-  fanning reference w (fine f) = none
+  fanning reference w (Err n) = due NoVolume refl
+  fanning reference w (Ok f) = none
 
   summing : (reference : Vec3) (w : Weight) (l : List ℕ) → Job (add_face_3d ps reference w l)
   unfolding add_face_3d
@@ -150,11 +152,11 @@ module _ (d : ℕ) (ps : List Vec3) where
 
   centring-2d : (reference : Vec3) (w : Weight) → Job (centre_2d reference w)
   unfolding centre_2d
-  centring-2d reference w = either (1e-12 ≺ abs (w.measure ⊗ 0·5)) none (due 15 refl)
+  centring-2d reference w = either (1e-12 ≺ abs (w.measure ⊗ 0·5)) none (due NoVolume refl)
 
   centring-3d : (w : Weight) → Job (centre_3d w)
   unfolding centre_3d
-  centring-3d w = either (1e-12 ≺ w.measure) none (due 15 refl)
+  centring-3d w = either (1e-12 ≺ w.measure) none (due NoVolume refl)
 
   weighing : (t : Bool) (reference : Vec3) (faces : List (List ℕ)) → Job (geometry_in t ps reference faces)
   unfolding geometry_in
@@ -167,7 +169,7 @@ module _ (d : ℕ) (ps : List Vec3) where
 
   joining : (fs : List Face) (cs : List Cell) → Job (joined ps fs cs)
   unfolding joined
-  joining fs cs = bind (barred 16 _ refl) (λ _. bind (barred 17 _ refl) (λ _. none))
+  joining fs cs = bind (barred WrongOrientation _ refl) (λ _. bind (barred NotConnected _ refl) (λ _. none))
 
   completing : (t : PartialMesh) → Job (completed d ps t)
   unfolding completed
@@ -176,7 +178,7 @@ module _ (d : ℕ) (ps : List Vec3) where
   accepting : (defs : List Definition) → Job (acceptable ps defs)
   unfolding acceptable
   accepting defs =
-      bind (barred 8 _ refl) (λ _. bind (barred 9 _ refl) (λ _. barred 10 _ refl))
+      bind (barred NoCells _ refl) (λ _. bind (barred CoordinateNotFinite _ refl) (λ _. barred CoordinateTooLarge _ refl))
 
   meshing : (defs : List Definition) → Job (from_cells d ps defs)
   unfolding from_cells filled
@@ -187,13 +189,13 @@ module _ (d : ℕ) (ps : List Vec3) where
 gridding : (m : Mesh) → Job (field_of m)
 unfolding field_of grid_of grid_for
 gridding m =
-    bind (bind (barred 18 _ refl) (λ _. bind (barred 19 _ refl) (λ _. none))) (λ g. none)
+    bind (bind (barred FlatBounds _ refl) (λ _. bind (barred TooManyBins _ refl) (λ _. none))) (λ g. none)
 
 rooming : (d : ℕ) (zones : List ℕ) (m : Mesh) → Job (room_from d zones m)
 unfolding room_from
 rooming d zones m = by (eqb d 2)
   where
-    by : (t : Bool) → Job {A = Room} (elim t as (λ _. Result Room) [ true ↦ field_of m >>= λ f. fine (Room.flat (zoned zones f)) | false ↦ fine (Room.solid m) ])
+    by : (t : Bool) → Job {A = Room} (elim t as (λ _. Refusable Room) [ true ↦ field_of m >>= λ f. Ok (Room.flat (zoned zones f)) | false ↦ Ok (Room.solid m) ])
     by true = bind (gridding m) (λ f. none)
     by false = none
 

@@ -6,14 +6,12 @@ use mathlib.Core.Bool.{Bool, true, false}
 use mathlib.Core.List.{List}
 use lib.Dec.{eqb}
 use lib.ListN.{length}
-use Rattle.reading.specs.Result.{Result, fine, ◌>>=◌}
+use Rattle.reading.specs.Result.{Refusable, ◌>>=◌}
 use Rattle.reading.proofs.ResultLaws.{bound}
 use Rattle.reading.proofs.Within.{Within, given, within-bind}
 use Rattle.mesh_area.specs.Tables.{Mesh}
 use Rattle.case_file.specs.declared.Counts.{Counts}
-use Rattle.case_file.specs.declared.Opened.{Opened}
-use Rattle.case_file.specs.declared.Opened.TheVariants.{Case, Refused}
-use Rattle.case_file.specs.Trailer.{counts_of, opened, opened_case}
+use Rattle.case_file.specs.Trailer.{counts_of, opened}
 use Rattle.case_file.specs.Field.{zones_of}
 use Rattle.case_file.proofs.TrailerLaws.{opens}
 use Rattle.case_definitions.proofs.Walking.{length-definitions}
@@ -31,6 +29,7 @@ use Rattle.job_reads.proofs.LineLaws.{velocity-within, integrate-within, rake-wi
 use Rattle.job_reads.proofs.PlaneLaws.{section-within, statistics-within, integrals-within, probe-within}
 use Rattle.job_reads.proofs.MeshLaws.{mesh-numbers}
 use Rattle.job_reads.proofs.FieldLaws.{field-sound}
+use Rattle.std.specs.Prelude.{Ok, Err}
 
 -- ---- the requests
 
@@ -74,14 +73,14 @@ unfolding serve
 room_within n (flat f) h q = flat-within n f h q
 room_within n (solid m) h q = solid-within n m h q
 
-fine-same : {A : Type 0} {x y : A} → fine x ≡ fine y → x ≡ y
+fine-same : {A : Type 0} {x y : A} → ◌≡◌ {A = Refusable A} (Ok x) (Ok y) → x ≡ y
 fine-same e = cc
 
-mesh-within : (n d : ℕ) (zones : List ℕ) (m : Mesh) (room : Room) → Numbers n m → room_from d zones m ≡ fine room → RoomWithin n room
+mesh-within : (n d : ℕ) (zones : List ℕ) (m : Mesh) (room : Room) → Numbers n m → room_from d zones m ≡ Ok room → RoomWithin n room
 unfolding room_from
 mesh-within n d zones m room h e = by (eqb d 2) e
   where
-    by : (t : Bool) → (elim t as (λ _. Result Room) [ true ↦ field_of m >>= λ f. fine (flat (zoned zones f)) | false ↦ fine (solid m) ]) ≡ fine room → RoomWithin n room
+    by : (t : Bool) → (elim t as (λ _. Refusable Room) [ true ↦ field_of m >>= λ f. Ok (flat (zoned zones f)) | false ↦ Ok (solid m) ]) ≡ Ok room → RoomWithin n room
     by true e =
         let a = bound _ _ _ e in
         let w : flat (zoned zones a.value) ≡ room = fine-same a.then in
@@ -90,7 +89,7 @@ mesh-within n d zones m room h e = by (eqb d 2) e
         let w : solid m ≡ room = fine-same e in
         subst (RoomWithin n) w (omega (arith, h.cells))
 
-case-within : (file : List ℕ) (c : CaseSurvey) (room : Room) → room_of file c ≡ fine room → RoomWithin (length c.definitions) room
+case-within : (file : List ℕ) (c : CaseSurvey) (room : Room) → room_of file c ≡ Ok room → RoomWithin (length c.definitions) room
 unfolding room_of mesh_of
 case-within file c room e =
     let a = bound _ _ _ e in
@@ -98,13 +97,12 @@ case-within file c room e =
 
 -- ---- the case
 
-counts-of : (file : List ℕ) (n : Counts) (r : Opened) → opened file ≡ r → opened_case r ≡ fine n → n ≡ counts_of file
-unfolding opened_case
-counts-of file n (Case k) q e = let w : k ≡ n = fine-same e in rw (← w) (opens file k q).same
-counts-of file n (Refused k) q e = absurd (let z : ◌≡◌ {A = ℕ} 0 1 = cc in omega arith)
+counts-of : (file : List ℕ) (n : Counts) (r : Refusable Counts) → opened file ≡ r → r ≡ Ok n → n ≡ counts_of file
+counts-of file n (Ok k) q e = let w : k ≡ n = fine-same e in rw (← w) (opens file k q).same
+counts-of file n (Err k) q e = absurd (let z : ◌≡◌ {A = ℕ} 0 1 = cc in omega arith)
 
 -- as many definitions as the trailer says
-survey-counts : (file : List ℕ) (c : CaseSurvey) → survey_of file ≡ fine c → length c.definitions ≡ (counts_of file).cells
+survey-counts : (file : List ℕ) (c : CaseSurvey) → survey_of file ≡ Ok c → length c.definitions ≡ (counts_of file).cells
 unfolding survey_of
 survey-counts file c e =
     let a = bound _ _ _ e in
@@ -114,7 +112,7 @@ survey-counts file c e =
     rw (← w) (length-definitions _ _ b.value b.had ∙ ap (λ (k : Counts). k.cells) (counts-of file a.value (opened file) refl a.had))
 
 -- the room of an accepted case has the case's cells
-pub prepared-within : (file : List ℕ) (requests : ℕ) (lent : Lent) (room : Room) → prepared file requests lent ≡ fine room → RoomWithin (counts_of file).cells room
+pub prepared-within : (file : List ℕ) (requests : ℕ) (lent : Lent) (room : Room) → prepared file requests lent ≡ Ok room → RoomWithin (counts_of file).cells room
 unfolding prepared
 prepared-within file requests lent room e =
     let a = bound _ _ _ e in
@@ -122,6 +120,6 @@ prepared-within file requests lent room e =
     subst (λ n. RoomWithin n room) (survey-counts file a.value a.had) (case-within file a.value room b.then)
 
 -- "An accepted job reads the cells that its requests read": only cells of the case
-pub serve-within : (file : List ℕ) (requests : ℕ) (lent : Lent) (room : Room) → prepared file requests lent ≡ fine room
+pub serve-within : (file : List ℕ) (requests : ℕ) (lent : Lent) (room : Room) → prepared file requests lent ≡ Ok room
     → (q : Request) → Within (counts_of file).cells (serve room q)
 serve-within file requests lent room e q = room_within (counts_of file).cells room (prepared-within file requests lent room e) q

@@ -10,17 +10,13 @@ use Rattle.arith.specs.F64.{◌⊕◌, 0·0, nearer}
 use Rattle.arith.specs.Lists.{fold, first_from}
 use Rattle.arith.specs.declared.Vec2.{Vec2}
 use Rattle.arith.specs.declared.Vec3.{Vec3}
-use Rattle.arith.specs.declared.Found.{Found}
-use Rattle.arith.specs.declared.Found.TheVariants.{At, Nothing}
 use Rattle.arith.proofs.All.{All}
 use Rattle.reading.specs.Asks.{Asks, ◌>>=◌}
 use Rattle.reading.specs.Result as result
-use Rattle.reading.specs.Result.{refused, fine, refuse}
+use Rattle.reading.specs.Result.{refuse}
 use Rattle.reading.proofs.Within.{Within, given, asked, within-bind}
 use Rattle.lines_locate.specs.Locate.{locate_where, locate}
 use Rattle.lines_locate.specs.Field.{StreamlineField, staying}
-use Rattle.lines_velocity.specs.declared.Vector.{Vector}
-use Rattle.lines_velocity.specs.declared.Vector.TheVariants.{Here, Nowhere}
 use Rattle.lines_velocity.specs.Velocity.{locate_in, neighbours_of, distance_squared, nearer_of, nearest_of, beside_if, beside, beside_nearest, toward, velocity_in, velocity_where, velocity_at, from, direction_at}
 use Rattle.lines_step.specs.declared.Step.{Step}
 use Rattle.lines_step.specs.declared.Step.TheVariants.{Next, Ended}
@@ -35,26 +31,30 @@ use Rattle.lines.specs.Line.{signed_step, onward, line_from, points_after, line,
 use Rattle.lines.specs.Rake.{lines_words, integrate_rake}
 use Rattle.answers.specs.Ensures.{decided}
 use Rattle.job_reads.proofs.Within.{Sound}
+use Rattle.std.specs.Prelude.{Some, None, Ok, Err}
+use Rattle.std.specs.declared.option.Option.{Option}
+use Rattle.refusal.specs.declared.Refusal.{Refusal}
+use Rattle.refusal.specs.declared.Refusal.TheVariants.{WrongOptions, SeedNowhere}
 
 -- the first that passes is one of the list
-first_below : {A : Type 0} (p : A → Bool) (k : ℕ) (l : List A) (i : ℕ) → first_from p k l ≡ At i → i < k + length l
+first_below : {A : Type 0} (p : A → Bool) (k : ℕ) (l : List A) (i : ℕ) → first_from p k l ≡ Some i → i < k + length l
 unfolding first_from
 first_below p k [] i e = absurd (let z : ◌≡◌ {A = ℕ} 0 1 = cc in omega arith)
 first_below p k (a ∷ l) i e = by (p a) (first_below p (suc k) l i) e
   where
-    by : (t : Bool) → (first_from p (suc k) l ≡ At i → i < suc k + length l) → elim t [ true ↦ At k | false ↦ first_from p (suc k) l ] ≡ At i → i < k + suc (length l)
+    by : (t : Bool) → (first_from p (suc k) l ≡ Some i → i < suc k + length l) → elim t [ true ↦ Some k | false ↦ first_from p (suc k) l ] ≡ Some i → i < k + suc (length l)
     by true r e = let q : k ≡ i = cc in omega arith
     by false r e = let h = r e in omega arith
 
 -- ---- the velocity at a point
 
 module _ (n : ℕ) (f : StreamlineField) (sound : Sound n f) where
-  where_below : (t : Bool) (q : Vec2) (i : ℕ) → locate_where t f.search f.grid f.polygons q ≡ At i → i < n
+  where_below : (t : Bool) (q : Vec2) (i : ℕ) → locate_where t f.search f.grid f.polygons q ≡ Some i → i < n
   unfolding locate_where
   where_below false q i e = absurd (let z : ◌≡◌ {A = ℕ} 0 1 = cc in omega arith)
   where_below true q i e = let w = first_below _ 0 f.polygons i e in omega (arith, sound.few)
 
-  located-below : (p : Vec3) (i : ℕ) → locate_in f p ≡ At i → i < n
+  located-below : (p : Vec3) (i : ℕ) → locate_in f p ≡ Some i → i < n
   unfolding locate_in locate
   located-below p i e = where_below _ _ i e
 
@@ -85,10 +85,10 @@ module _ (n : ℕ) (f : StreamlineField) (sound : Sound n f) where
   unfolding velocity_in toward
   velocity-in p i h = within-bind (asked h (λ v. given)) (λ v. nearest-within p i v.velocity (neighbours_of f.cells i) (sound.near i))
 
-  velocity-where : (p : Vec3) (r : Found) → locate_in f p ≡ r → Within n (velocity_where f p r)
+  velocity-where : (p : Vec3) (r : Option ℕ) → locate_in f p ≡ r → Within n (velocity_where f p r)
   unfolding velocity_where
-  velocity-where p Nothing e = given
-  velocity-where p (At i) e = within-bind (velocity-in p i (located-below p i e)) (λ v. given)
+  velocity-where p None e = given
+  velocity-where p (Some i) e = within-bind (velocity-in p i (located-below p i e)) (λ v. given)
 
   pub velocity-within : (p : Vec3) → Within n (velocity_at f p)
   unfolding velocity_at
@@ -96,15 +96,15 @@ module _ (n : ℕ) (f : StreamlineField) (sound : Sound n f) where
 
 -- ---- a step
 
-from-within : (n : ℕ) (h : Vec3 → Asks Vector) → ((p : Vec3) → Within n (h p)) → (s : Vector) → Within n (from h s)
+from-within : (n : ℕ) (h : Vec3 → Asks (Option Vec3)) → ((p : Vec3) → Within n (h p)) → (s : Option Vec3) → Within n (from h s)
 unfolding from
-from-within n h w (Here p) = w p
-from-within n h w Nowhere = given
+from-within n h w (Some p) = w p
+from-within n h w None = given
 
-then-within : (n : ℕ) (t : Asks Vector) (h : Vec3 → Asks Vector) → Within n t → ((p : Vec3) → Within n (h p)) → Within n (t >>= from h)
+then-within : (n : ℕ) (t : Asks (Option Vec3)) (h : Vec3 → Asks (Option Vec3)) → Within n t → ((p : Vec3) → Within n (h p)) → Within n (t >>= from h)
 then-within n t h w g = within-bind w (from-within n h g)
 
-module _ (n : ℕ) (direction : Vec3 → Asks Vector) (w : (q : Vec3) → Within n (direction q)) (h : Float) (p : Vec3) where
+module _ (n : ℕ) (direction : Vec3 → Asks (Option Vec3)) (w : (q : Vec3) → Within n (direction q)) (h : Float) (p : Vec3) where
   fourth-within : (k1 k2 k3 : Vec3) → Within n (fourth direction h p k1 k2 k3)
   unfolding fourth
   fourth-within k1 k2 k3 = then-within n _ _ (w _) (λ k4. given)
@@ -123,17 +123,17 @@ module _ (n : ℕ) (direction : Vec3 → Asks Vector) (w : (q : Vec3) → Within
 
 -- ---- a line, and the lines of a rake
 
-decided-within : (n : ℕ) (t : Asks (List ℕ)) → Within n t → Within n (decided (fine t))
+decided-within : (n : ℕ) (t : Asks (List ℕ)) → Within n t → Within n (decided (Ok t))
 unfolding decided
 decided-within n t w = within-bind w (λ ws. given)
 
-refused-within : (n k : ℕ) → Within n (decided (refused k))
+refused-within : (n : ℕ) (k : Refusal) → Within n (decided (Err k))
 unfolding decided
 refused-within n k = given
 
 -- after two refusals
-unless-within : (n j k : ℕ) (s t : Bool) (u : Asks (List ℕ)) → Within n u
-    → Within n (decided (result.◌>>=◌ (refuse j s) (λ _. result.◌>>=◌ (refuse k t) (λ _. fine u))))
+unless-within : (n : ℕ) (j k : Refusal) (s t : Bool) (u : Asks (List ℕ)) → Within n u
+    → Within n (decided (result.◌>>=◌ (refuse j s) (λ _. result.◌>>=◌ (refuse k t) (λ _. Ok u))))
 unfolding refuse result.◌>>=◌
 unless-within n j k true t u w = refused-within n j
 unless-within n j k false true u w = refused-within n k
@@ -183,8 +183,8 @@ module _ (n : ℕ) (f : StreamlineField) (sound : Sound n f) where
 
   pub integrate-within : (p : Vec3) (s : StreamlineSettings) (style : Style) → Within n (decided (integrate f p s style))
   unfolding integrate
-  integrate-within p s style = unless-within n 34 35 _ _ _ (line-answer-within style s p)
+  integrate-within p s style = unless-within n WrongOptions SeedNowhere _ _ _ (line-answer-within style s p)
 
   pub rake-within : (r : Rake) (s : StreamlineSettings) → Within n (decided (integrate_rake f r s))
   unfolding integrate_rake
-  rake-within r s = unless-within n 34 35 _ _ _ (within-bind (lines-within s _) (λ ws. given))
+  rake-within r s = unless-within n WrongOptions SeedNowhere _ _ _ (within-bind (lines-within s _) (λ ws. given))

@@ -10,11 +10,8 @@ use borrow.Author.Tests.{eqb-false}
 use Rattle.arith.specs.Lists.{sorted}
 use Rattle.arith.specs.Records.{tab}
 use Rattle.arith.specs.declared.Vec3.{Vec3}
-use Rattle.arith.specs.declared.Found.{Found}
-use Rattle.arith.specs.declared.Found.TheVariants.{At, Nothing}
 use Rattle.arith.proofs.All.{All, all_append, all_get_or, all_set, all_more, all-add_new, foldl-keeps}
 use Rattle.arith.proofs.RecordLaws.{length-tab}
-use Rattle.reading.specs.Result.{fine}
 use Rattle.reading.proofs.ResultLaws.{bound, not-due, length-map_all, steps-keep}
 use Rattle.case_definitions.specs.Faces.{Definition}
 use Rattle.mesh_area.specs.Tables.{Face, Cell, Mesh, face_at, no_face, cell_at, no_cell}
@@ -27,12 +24,16 @@ use Rattle.mesh_centres.specs.Finish.{finished}
 use Rattle.mesh_coordinates.specs.Coordinates.{acceptable}
 use Rattle.mesh.specs.Mesh.{joined, completed, filled, from_cells}
 use Rattle.job_reads.proofs.Within.{Beside, Numbered, Numbers}
+use Rattle.std.specs.Prelude.{Some, None, Ok}
+use Rattle.std.specs.declared.option.Option.{Option}
+use Rattle.refusal.specs.declared.Refusal.TheVariants.{NoCells}
+use Rattle.reading.specs.Result.{Refusable}
 
 -- ---- the cells of a face are below n
 
-beside-more : (n : ℕ) (r : Found) → Beside n r → Beside (suc n) r
-beside-more n Nothing h = tt
-beside-more n (At k) h = omega arith
+beside-more : (n : ℕ) (r : Option ℕ) → Beside n r → Beside (suc n) r
+beside-more n None h = tt
+beside-more n (Some k) h = omega arith
 
 numbered_more : (n : ℕ) (f : Face) → Numbered n f → Numbered (suc n) f
 numbered_more n f h = record { owner = omega (arith, h.owner); neighbour = beside-more n f.neighbour h.neighbour }
@@ -54,27 +55,27 @@ module _ (n cell : ℕ) (below : cell < n) where
     unfolding face_at
     at i = all_get_or (Numbered n) fs i no_face (no-face-numbered n (omega arith)) old
 
-    joining-numbered : (r : Found) (i : ℕ) → numbered_face (joining r cell fs i).answer (joining r cell fs i).faces ≡ fine p → All (Numbered n) p.faces
+    joining-numbered : (r : Option ℕ) (i : ℕ) → numbered_face (joining r cell fs i).answer (joining r cell fs i).faces ≡ Ok p → All (Numbered n) p.faces
     unfolding joining numbered_face
-    joining-numbered Nothing i e =
+    joining-numbered None i e =
         let f : Face = face_at fs i in
         let w : record { faces = set fs i (with_neighbour cell f); number = i } ≡ p = cc in
         rw (← w) (all_set (Numbered n) fs i (with_neighbour cell f) (second-numbered f (at i)) old)
-    joining-numbered (At k) i e = absurd (let z : ◌≡◌ {A = ℕ} 0 1 = cc in omega arith)
+    joining-numbered (Some k) i e = absurd (let z : ◌≡◌ {A = ℕ} 0 1 = cc in omega arith)
 
-    settled-numbered : (r : Found) → numbered_face (settled r cell v m fs).answer (settled r cell v m fs).faces ≡ fine p → All (Numbered n) p.faces
+    settled-numbered : (r : Option ℕ) → numbered_face (settled r cell v m fs).answer (settled r cell v m fs).faces ≡ Ok p → All (Numbered n) p.faces
     unfolding settled numbered_face
-    settled-numbered Nothing e =
+    settled-numbered None e =
         let w : record { faces = fs ++ new_face cell v m ∷ []; number = length fs } ≡ p = cc in
         rw (← w) (all_append (Numbered n) fs (new_face cell v m ∷ []) old (new-numbered v m, tt))
-    settled-numbered (At i) e = joining-numbered (face_at fs i).neighbour i e
+    settled-numbered (Some i) e = joining-numbered (face_at fs i).neighbour i e
 
-    add-numbered : add_face cell v m fs ≡ fine p → All (Numbered n) p.faces
+    add-numbered : add_face cell v m fs ≡ Ok p → All (Numbered n) p.faces
     unfolding add_face use_face
     add-numbered e = settled-numbered (face_with_key (sorted v) fs) e
 
   face-numbered : (d : ℕ) (ps : List Vec3) (reference : Vec3) (g : CellFaces) (l : List ℕ) (h : CellFaces) → All (Numbered n) g.faces
-      → add_face_of d ps cell reference g l ≡ fine h → All (Numbered n) h.faces
+      → add_face_of d ps cell reference g l ≡ Ok h → All (Numbered n) h.faces
   unfolding add_face_of
   face-numbered d ps reference g l h old e =
       let b = bound _ _ _ e in
@@ -88,7 +89,7 @@ record CellsAdded (k : ℕ) (t : PartialMesh) : Type 0 where
   cells : length t.cells ≡ k
   faces : All (Numbered k) t.faces
 
-cell-drafted : (d : ℕ) (ps : List Vec3) (k : ℕ) (t : PartialMesh) (def : Definition) (u : PartialMesh) → CellsAdded k t → add_cell d ps t def ≡ fine u → CellsAdded (suc k) u
+cell-drafted : (d : ℕ) (ps : List Vec3) (k : ℕ) (t : PartialMesh) (def : Definition) (u : PartialMesh) → CellsAdded k t → add_cell d ps t def ≡ Ok u → CellsAdded (suc k) u
 unfolding add_cell
 cell-drafted d ps k t def u h e =
     let a = bound _ _ _ e in
@@ -104,10 +105,10 @@ cell-drafted d ps k t def u h e =
           (λ _ g l g' old q. face-numbered (suc k) (length t.cells) (omega (arith, h.cells)) d ps _ g l g' old q) 0 _ _ c.value first c.had;
     })
   where
-    fine-same : {A : Type 0} {x y : A} → fine x ≡ fine y → x ≡ y
+    fine-same : {A : Type 0} {x y : A} → ◌≡◌ {A = Refusable A} (Ok x) (Ok y) → x ≡ y
     fine-same e = cc
 
-all-drafted : (d : ℕ) (ps : List Vec3) (defs : List Definition) (t : PartialMesh) → partial_mesh d ps defs ≡ fine t → CellsAdded (length defs) t
+all-drafted : (d : ℕ) (ps : List Vec3) (defs : List Definition) (t : PartialMesh) → partial_mesh d ps defs ≡ Ok t → CellsAdded (length defs) t
 unfolding partial_mesh
 all-drafted d ps defs t e =
     let z : 0 + length defs ≡ length defs = omega arith in
@@ -124,10 +125,10 @@ module _ (n : ℕ) (some : 0 < n) (fs : List Face) (old : All (Numbered n) fs) w
   abbrev Low : List ℕ → Type 0
   Low l = All (λ k. k < n) l
 
-  other-below : (cell owner : ℕ) (r : Found) → owner < n → Beside n r → Beside n (other_cell cell owner r)
+  other-below : (cell owner : ℕ) (r : Option ℕ) → owner < n → Beside n r → Beside n (other_cell cell owner r)
   unfolding other_cell
-  other-below cell owner Nothing h b = tt
-  other-below cell owner (At k) h b = by (eqb owner cell)
+  other-below cell owner None h b = tt
+  other-below cell owner (Some k) h b = by (eqb owner cell)
     where
       by : (t : Bool) → cond t k owner < n
       by true = b
@@ -137,10 +138,10 @@ module _ (n : ℕ) (some : 0 < n) (fs : List Face) (old : All (Numbered n) fs) w
   unfolding beyond
   beyond-below cell f h = other-below cell f.owner f.neighbour h.owner h.neighbour
 
-  found-low : (l : List ℕ) (r : Found) → Low l → Beside n r → Low (add_found l r)
+  found-low : (l : List ℕ) (r : Option ℕ) → Low l → Beside n r → Low (add_found l r)
   unfolding add_found
-  found-low l Nothing w h = w
-  found-low l (At k) w h = all-add_new (λ j. j < n) eqb l k w h
+  found-low l None w h = w
+  found-low l (Some k) w h = all-add_new (λ j. j < n) eqb l k w h
 
   neighbour-low : (cell : ℕ) (l : List ℕ) (i : ℕ) → Low l → Low (add_neighbour fs cell l i)
   unfolding add_neighbour face_at
@@ -167,7 +168,7 @@ length-linked : (fs : List Face) (cs : List Cell) → length (linked fs cs) ≡ 
 unfolding linked
 length-linked fs cs = length-tab (linked_at fs cs) (length cs)
 
-joined_numbers : (n : ℕ) (ps : List Vec3) (fs : List Face) (cs : List Cell) (m : Mesh) → 0 < n → All (Numbered n) fs → length cs ≡ n → joined ps fs cs ≡ fine m → Numbers n m
+joined_numbers : (n : ℕ) (ps : List Vec3) (fs : List Face) (cs : List Cell) (m : Mesh) → 0 < n → All (Numbered n) fs → length cs ≡ n → joined ps fs cs ≡ Ok m → Numbers n m
 unfolding joined
 joined_numbers n ps fs cs m some old count e =
     let a = bound _ _ _ e in
@@ -175,22 +176,22 @@ joined_numbers n ps fs cs m some old count e =
     let w : record { points = ps; faces = fs; cells = linked fs cs } ≡ m = cc b.then in
     rw (← w) (record { cells = length-linked fs cs ∙ count; near = linked-low n some fs old cs })
 
-completed-numbers : (n d : ℕ) (ps : List Vec3) (t : PartialMesh) (m : Mesh) → 0 < n → CellsAdded n t → completed d ps t ≡ fine m → Numbers n m
+completed-numbers : (n d : ℕ) (ps : List Vec3) (t : PartialMesh) (m : Mesh) → 0 < n → CellsAdded n t → completed d ps t ≡ Ok m → Numbers n m
 unfolding completed
 completed-numbers n d ps t m some h e =
     let a = bound _ _ _ e in
     joined_numbers n ps t.faces a.value m some h.faces (length-map_all (finished d ps) t.cells a.value a.had ∙ h.cells) a.then
 
-filled-numbers : (d : ℕ) (ps : List Vec3) (defs : List Definition) (m : Mesh) → 0 < length defs → filled d ps defs ≡ fine m → Numbers (length defs) m
+filled-numbers : (d : ℕ) (ps : List Vec3) (defs : List Definition) (m : Mesh) → 0 < length defs → filled d ps defs ≡ Ok m → Numbers (length defs) m
 unfolding filled
 filled-numbers d ps defs m some e =
     let a = bound _ _ _ e in completed-numbers (length defs) d ps a.value m some (all-drafted d ps defs a.value a.had) a.then
 
 -- 8 was not due
-some-cells : (ps : List Vec3) (defs : List Definition) (u : Unit {0}) → acceptable ps defs ≡ fine u → 0 < length defs
+some-cells : (ps : List Vec3) (defs : List Definition) (u : Unit {0}) → acceptable ps defs ≡ Ok u → 0 < length defs
 unfolding acceptable
-some-cells ps defs u e = let a = bound _ _ _ e in omega (arith, eqb-false (length defs) 0 (not-due 8 _ _ a.had))
+some-cells ps defs u e = let a = bound _ _ _ e in omega (arith, eqb-false (length defs) 0 (not-due NoCells _ _ a.had))
 
-pub mesh-numbers : (d : ℕ) (ps : List Vec3) (defs : List Definition) (m : Mesh) → from_cells d ps defs ≡ fine m → Numbers (length defs) m
+pub mesh-numbers : (d : ℕ) (ps : List Vec3) (defs : List Definition) (m : Mesh) → from_cells d ps defs ≡ Ok m → Numbers (length defs) m
 unfolding from_cells
 mesh-numbers d ps defs m e = let a = bound _ _ _ e in filled-numbers d ps defs m (some-cells ps defs a.value a.had) a.then

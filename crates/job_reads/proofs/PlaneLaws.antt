@@ -7,7 +7,7 @@ use lib.ListN.{length}
 use Rattle.arith.specs.Lists.{only, any_of}
 use Rattle.arith.specs.declared.Vec3.{Vec3}
 use Rattle.arith.proofs.All.{All, all_append}
-use Rattle.reading.specs.Result.{Result}
+use Rattle.reading.specs.Result.{Refusable}
 use Rattle.reading.specs.Asks.{Asks}
 use Rattle.reading.proofs.Within.{Within, given, asked, within-bind}
 use Rattle.mesh_area.specs.Tables.{Mesh, Cell}
@@ -68,7 +68,7 @@ module _ (n : ℕ) where
     unfolding intersect
     intersect-within = sample-within _ (pieces-below m _ 0 m.cells (omega arith))
 
-    sampled-within : (answer : List Sample → Result (List ℕ)) → Within n (sampled m s answer)
+    sampled-within : (answer : List Sample → Refusable (List ℕ)) → Within n (sampled m s answer)
     unfolding sampled
     sampled-within answer = within-bind intersect-within (λ r. given)
 

@@ -2,18 +2,18 @@
 use Prim.Native.Nat.{ℕ, ◌≤◌, ◌<◌}
 use mathlib.Core.Path.{◌≡◌}
 use lib.ListN.{length}
-use Rattle.arith.specs.declared.Found.{Found}
-use Rattle.arith.specs.declared.Found.TheVariants.{At, Nothing}
 use Rattle.arith.specs.All.{All}
 use Rattle.mesh_area.specs.Tables.{Face, Mesh, cell_at}
 use Rattle.lines_locate.specs.Field.{StreamlineField}
 use Rattle.lines_velocity.specs.Velocity.{neighbours_of}
 use Rattle.job_room.specs.Room.{Room, flat, solid}
+use Rattle.std.specs.Prelude.{Some, None}
+use Rattle.std.specs.declared.option.Option.{Option}
 
 -- the number, if there is one, is below n
-abbrev pub Beside : ℕ → Found → Type 0
-Beside n Nothing = Unit
-Beside n (At k) = k < n
+abbrev pub Beside : ℕ → Option ℕ → Type 0
+Beside n None = Unit
+Beside n (Some k) = k < n
 
 -- the cells of a face are below n
 pub record Numbered (n : ℕ) (f : Face) : Type 0 where

@@ -26,6 +26,12 @@ use Rattle.job_requests.specs.Codes.{code_of}
 use Rattle.job_requests.specs.Requests.{words_at, requests_in, number, refuse_if, ill_formed, wrong_dimension, settings, streamline, rake_of, rake, over_field, plain_code, is_planar, plane_of, statistics, over_plane, planar, by_code, request_of}
 use Rattle.job_requests.specs.declared.Request.TheVariants.{Refused}
 use Rattle.job_requests.specs.Bounds.{Allowed}
+use Rattle.refusal.specs.declared.Refusal.{Refusal}
+use Rattle.refusal.specs.declared.Refusal.TheVariants.{IllFormed, NoSuchField, OtherDimension, TooFewSeeds, TooManySteps}
+use Rattle.reading.specs.Result.{Refusable}
+use Rattle.std.specs.Prelude.{Ok, Err}
+use Rattle.planes_cut.specs.Plane.{validated}
+use Rattle.job_requests.specs.Requests.{unless}
 
 -- a test of the elements by their numbers, from i on, is the test of what is left at i
 any_numbered : {A : Type 0} (p : A → Bool) (l : List A) (d : A) (i n : ℕ) → n ≡ length l - i
@@ -67,7 +73,7 @@ module _ (bytes : List ℕ) (at : ℕ) where
 
 -- ---- what the refusals leave
 
-allowed-unless : (n : ℕ) (bad : Bool) (r : Request) → (bad ≡ false → Allowed r) → Allowed (refuse_if n bad r)
+allowed-unless : (n : Refusal) (bad : Bool) (r : Request) → (bad ≡ false → Allowed r) → Allowed (refuse_if n bad r)
 unfolding refuse_if Allowed
 allowed-unless n true r h = tt
 allowed-unless n false r h = h refl
@@ -76,15 +82,20 @@ allowed-either : (b : Bool) (r q : Request) → Allowed r → Allowed q → Allo
 allowed-either true r q h k = h
 allowed-either false r q h k = k
 
+allowed-valid : (t : Refusable (Unit {0})) (r : Request) → Allowed r → Allowed (unless t r)
+unfolding unless Allowed
+allowed-valid (Err n) r h = tt
+allowed-valid (Ok t) r h = h
+
 module _ (r : List ℕ) where
   allowed-streamline : (k : ℕ) (style : Style) (search : Search) → Allowed (streamline r k style search)
   unfolding streamline Allowed
-  allowed-streamline k style search = allowed-unless 33 _ _ (ltb-false 65536 (settings r k).options.max_steps)
+  allowed-streamline k style search = allowed-unless TooManySteps _ _ (ltb-false 65536 (settings r k).options.max_steps)
 
   allowed-rake : (k : ℕ) (search : Search) → Allowed (rake r k search)
   unfolding rake rake_of Allowed
   allowed-rake k search =
-      allowed-unless 32 _ _ (λ a. allowed-unless 33 _ _ (λ b. allowed-unless 33 _ _ (λ c.
+      allowed-unless TooFewSeeds _ _ (λ a. allowed-unless TooManySteps _ _ (λ b. allowed-unless TooManySteps _ _ (λ c.
       (ltb-false (number r 7) 2 a, ltb-false 64 (number r 7) b, ltb-false 65536 (settings r k).options.max_steps c))))
 
   allowed-field : (code k : ℕ) (search : Search) → Allowed (over_field r code k search)
@@ -96,11 +107,11 @@ module _ (r : List ℕ) where
   allowed-over : (code : ℕ) (s : Plane) → Allowed (over_plane r code s)
   unfolding over_plane statistics Allowed
   allowed-over code s =
-      allowed-either (eqb code 5) _ _ tt (allowed-either (eqb code 6) _ _ (allowed-unless 38 _ _ (λ a. tt)) (allowed-either (eqb code 7) _ _ tt tt))
+      allowed-either (eqb code 5) _ _ tt (allowed-either (eqb code 6) _ _ (allowed-unless NoSuchField _ _ (λ a. tt)) (allowed-either (eqb code 7) _ _ tt tt))
 
   allowed-planar : (code : ℕ) → Allowed (planar r code)
   unfolding planar
-  allowed-planar code = allowed-unless _ _ _ (λ a. allowed-over code (plane_of r))
+  allowed-planar code = allowed-valid (validated (plane_of r)) _ (allowed-over code (plane_of r))
 
   allowed-code : (code k : ℕ) → Allowed (by_code r code k)
   unfolding by_code
@@ -110,7 +121,7 @@ module _ (r : List ℕ) where
 
   allowed-request : (flat : Bool) → Allowed (request_of flat r)
   unfolding request_of
-  allowed-request flat = allowed-unless 30 _ _ (λ a. allowed-unless 31 _ _ (λ b. allowed-code (number r 0) _))
+  allowed-request flat = allowed-unless IllFormed _ _ (λ a. allowed-unless OtherDimension _ _ (λ b. allowed-code (number r 0) _))
 
 -- ---- refusals 30 and 31
 
@@ -126,12 +137,12 @@ module _ (r : List ℕ) (flat : Bool) where
     row : code_of (number r 0) ≡ c
     row = sym (t ∙ ap code_of f)
 
-    pub request-ill-formed : b ≡ true → Is (Refused 30)
+    pub request-ill-formed : b ≡ true → Is (Refused IllFormed)
     unfolding request_of refuse_if
     request-ill-formed h = whole (rw (row, ← e, h))
 
     module _ {d : Bool} (h : b ≡ false) (g : d ≡ wrong_dimension flat c) where
-      pub request-wrong-dimension : d ≡ true → Is (Refused 31)
+      pub request-wrong-dimension : d ≡ true → Is (Refused OtherDimension)
       unfolding request_of refuse_if
       request-wrong-dimension k = whole (rw (row, ← e, h, ← g, k))
 

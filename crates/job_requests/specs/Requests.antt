@@ -4,9 +4,9 @@
 -- `unused_set`, `bad_direction`, `ill_formed`: refusal 30. `wrong_dimension`: refusal 31.
 -- `direction`, `options`, `settings`: the settings of a line. `streamline`: codes 3, 11, 13 and 14. `rake_of`, `rake`: codes 4 and 12.
 -- `over_field`: codes 1 to 4 and 9 to 12.
--- `plane_of`: the plane. `statistics`: code 6. `over_plane`, `planar`: codes 5 to 8.
+-- `plane_of`: the plane. `statistics`: code 6. `over_plane`, `unless`, `planar`: codes 5 to 8.
 -- `search_of`, `plain_code`, `is_planar`, `by_code`, `request_of`: all codes.
-use Rattle.std.specs.Prelude.{ℕ, ◌+◌, ◌-◌, ◌/◌, Bool, not, cond, ◌&&◌, ◌||◌, List, ltb, leb, eqb, length, get_or, drop, Float}
+use Rattle.std.specs.Prelude.{ℕ, ◌+◌, ◌-◌, ◌/◌, Bool, not, cond, ◌&&◌, ◌||◌, List, ltb, leb, eqb, length, get_or, drop, Float, Ok, Err}
 use Rattle.arith.specs.Limits.{most_steps}
 use Rattle.arith.specs.F64.{float}
 use Rattle.arith.specs.Bytes.{le64, read_all}
@@ -23,11 +23,14 @@ use Rattle.lines_millimetres.specs.declared.Rounding.TheVariants.{AwayFromZero}
 use Rattle.lines_words.specs.declared.Style.{Style}
 use Rattle.lines_words.specs.declared.Style.TheVariants.{Points, Sheet}
 use Rattle.planes_cut.specs.declared.Plane.{Plane}
-use Rattle.planes_cut.specs.Plane.{plane_refusal}
+use Rattle.planes_cut.specs.Plane.{validated}
 use Rattle.job_requests.specs.declared.Code.{Code}
 use Rattle.job_requests.specs.declared.Request.{Request}
 use Rattle.job_requests.specs.declared.Request.TheVariants.{Refused, Locate, Velocity, Streamline, Rake, Section, Statistics, Integrals, Probe}
 use Rattle.job_requests.specs.Codes.{is_unknown, code_of}
+use Rattle.refusal.specs.declared.Refusal.{Refusal}
+use Rattle.reading.specs.Result.{Refusable}
+use Rattle.refusal.specs.declared.Refusal.TheVariants.{IllFormed, OtherDimension, TooFewSeeds, TooManySteps, NoSuchField}
 
 -- the 16 words of the request at a place
 unfoldable pub words_at : List ℕ → ℕ → List ℕ
@@ -50,7 +53,7 @@ unfoldable pub point : List ℕ → ℕ → Vec3
 point r k = vec (real r k) (real r (k + 1)) (real r (k + 2))
 
 -- refusal n where the test holds
-unfoldable pub refuse_if : ℕ → Bool → Request → Request
+unfoldable pub refuse_if : Refusal → Bool → Request → Request
 refuse_if n bad r = cond bad (Refused n) r
 
 -- ---- refusal 30: "unknown code, unused word not zero, direction above 1"
@@ -93,16 +96,16 @@ settings r k = record { direction = direction r k; options = options r k }
 
 -- refusal 33: "max_steps above 65,536"
 unfoldable pub streamline : List ℕ → ℕ → Style → Search → Request
-streamline r k style search = refuse_if 33 (ltb most_steps (settings r k).options.max_steps) (Streamline (point r 1) (settings r k) style search)
+streamline r k style search = refuse_if TooManySteps (ltb most_steps (settings r k).options.max_steps) (Streamline (point r 1) (settings r k) style search)
 
 -- the same of a rake with so many seeds
 unfoldable pub rake_of : List ℕ → ℕ → ℕ → Search → Request
 rake_of r k count search =
-    refuse_if 33 (ltb most_steps (settings r k).options.max_steps) (Rake (record { start = point r 1; end = point r 4; count = count }) (settings r k) search)
+    refuse_if TooManySteps (ltb most_steps (settings r k).options.max_steps) (Rake (record { start = point r 1; end = point r 4; count = count }) (settings r k) search)
 
 -- refusal 32: "rake count below 2"; 33: "count above 64 or max_steps above 65,536"
 unfoldable pub rake : List ℕ → ℕ → Search → Request
-rake r k search = refuse_if 32 (ltb (number r 7) 2) (refuse_if 33 (ltb 64 (number r 7)) (rake_of r k (number r 7) search))
+rake r k search = refuse_if TooFewSeeds (ltb (number r 7) 2) (refuse_if TooManySteps (ltb 64 (number r 7)) (rake_of r k (number r 7) search))
 
 -- codes 1 to 4, by a search
 unfoldable pub over_field : List ℕ → ℕ → ℕ → Search → Request
@@ -119,17 +122,20 @@ plane_of r = record { origin = point r 1; u = point r 4; v = point r 7 }
 
 -- refusal 38: "field above 5"
 unfoldable pub statistics : List ℕ → Plane → Request
-statistics r s = refuse_if 38 (ltb 5 (number r 10)) (Statistics s (number r 10))
+statistics r s = refuse_if NoSuchField (ltb 5 (number r 10)) (Statistics s (number r 10))
 
 -- codes 5 to 8 over an accepted plane
 unfoldable pub over_plane : List ℕ → ℕ → Plane → Request
 over_plane r code s = cond (eqb code 5) (Section s) (cond (eqb code 6) (statistics r s) (cond (eqb code 7) (Integrals s) (Probe s (point r 10))))
 
--- refusals 36 and 37, by the plane: `plane_refusal` is 0 where neither is due
+-- the request, unless a refusal is due
+unfoldable pub unless : Refusable (Unit {0}) → Request → Request
+unless (Err n) q = Refused n
+unless (Ok t) q = q
+
+-- refusals 36 and 37, by the plane
 unfoldable pub planar : List ℕ → ℕ → Request
-planar r code =
-    let k = plane_refusal (plane_of r) in
-    refuse_if k (not (eqb k 0)) (over_plane r code (plane_of r))
+planar r code = unless (validated (plane_of r)) (over_plane r code (plane_of r))
 
 -- ---- all codes
 
@@ -156,4 +162,4 @@ unfoldable pub request_of : Bool → List ℕ → Request
 request_of flat r =
     let code = number r 0 in
     let c = code_of code in
-    refuse_if 30 (ill_formed r c) (refuse_if 31 (wrong_dimension flat c) (by_code r code c.line))
+    refuse_if IllFormed (ill_formed r c) (refuse_if OtherDimension (wrong_dimension flat c) (by_code r code c.line))

@@ -17,6 +17,7 @@ use lines_millimetres::Rounding;
 use lines_step::StreamlineOptions;
 use lines_words::Style;
 use planes_cut::{Plane, axes};
+use refusal::Refusal;
 
 // A row of the table of codes: the dimension that a code needs, how many words it uses, and the
 // word at which the arguments of its lines start.
@@ -29,7 +30,7 @@ pub struct Code {
 
 #[derive(Clone, Copy)]
 pub enum Request {
-    Refused(u64),
+    Refused(Refusal),
     Locate(Vec3, Search),
     Velocity(Vec3, Search),
     Streamline(Vec3, StreamlineSettings, Style, Search),
@@ -138,7 +139,7 @@ fn streamline(bytes: &[u8], at: usize, k: usize, style: Style, search: Search) -
 {
     let s = settings(bytes, at, k);
     if s.options.max_steps > 65536 {
-        return Request::Refused(33);
+        return Request::Refused(Refusal::TooManySteps);
     }
     Request::Streamline(point(bytes, at, 1), s, style, search)
 }
@@ -150,7 +151,7 @@ fn rake_of(bytes: &[u8], at: usize, k: usize, count: usize, search: Search) -> R
 {
     let s = settings(bytes, at, k);
     if s.options.max_steps > 65536 {
-        return Request::Refused(33);
+        return Request::Refused(Refusal::TooManySteps);
     }
     let rake = Rake {
         start: point(bytes, at, 1),
@@ -166,10 +167,10 @@ fn rake(bytes: &[u8], at: usize, k: usize, search: Search) -> Request
 {
     let count = number(bytes, at, 7) as usize;
     if count < 2 {
-        return Request::Refused(32);
+        return Request::Refused(Refusal::TooFewSeeds);
     }
     if count > 64 {
-        return Request::Refused(33);
+        return Request::Refused(Refusal::TooManySteps);
     }
     rake_of(bytes, at, k, count, search)
 }
@@ -208,7 +209,7 @@ fn over_plane(bytes: &[u8], at: usize, code: u64, plane: Plane) -> Request
         6 => {
             let field = number(bytes, at, 10);
             if field > 5 {
-                Request::Refused(38)
+                Request::Refused(Refusal::NoSuchField)
             } else {
                 Request::Statistics(plane, field)
             }
@@ -224,11 +225,10 @@ fn planar(bytes: &[u8], at: usize, code: u64) -> Request
     ensures { result ≡ Requests.planar (words_at bytes.now at) code }
 {
     let plane = plane_of(bytes, at);
-    let k = axes::validate(plane);
-    if k != 0 {
-        return Request::Refused(k);
+    match axes::validate(plane) {
+        Err(refusal) => Request::Refused(refusal),
+        Ok(()) => over_plane(bytes, at, code, plane),
     }
-    over_plane(bytes, at, code, plane)
 }
 
 // Codes 1 to 4 and 13 search the bins, the others of a 2D mesh all cells.
@@ -290,10 +290,10 @@ pub fn request_of(flat: bool, bytes: &[u8], at: usize) -> Request
     let code = number(bytes, at, 0);
     let c = codes::code_of(code);
     if is_ill_formed(bytes, at, c) {
-        return Request::Refused(30);
+        return Request::Refused(Refusal::IllFormed);
     }
     if is_wrong_dimension(flat, c) {
-        return Request::Refused(31);
+        return Request::Refused(Refusal::OtherDimension);
     }
     by_code(bytes, at, code, c.line)
 }

@@ -12,7 +12,7 @@ use Rattle.arith.specs.Lists.{all_of}
 use Rattle.arith.specs.Vec.{each3, origin}
 use Rattle.arith.specs.declared.Vec3.{Vec3}
 use Rattle.arith.proofs.RecordLaws.{length-tab, get_or-tab, lt-or-ge}
-use Rattle.reading.specs.Result.{Result, fine, map_all}
+use Rattle.reading.specs.Result.{Refusable, map_all}
 use Rattle.reading.proofs.ResultLaws.{bound, not-due, length-map_all}
 use Rattle.case_definitions.specs.Faces.{Definition, polygon}
 use Rattle.case_definitions.specs.Definitions.{definitions}
@@ -28,12 +28,14 @@ use Rattle.lines_vertices.proofs.Shapes.{Limited, Over}
 use Rattle.lines_vertices.proofs.CellLaws.{cells-counted, faces-of-cells, limited-faces, eight-vertices}
 use Rattle.lines_vertices.proofs.VertexLaws.{few-polygon-vertices}
 use Rattle.lines_vertices.proofs.LimitLaws.{all-limited}
+use Rattle.std.specs.Prelude.{Ok}
+use Rattle.refusal.specs.declared.Refusal.TheVariants.{CoordinateNotFinite, CoordinateTooLarge}
 
-pub fine-same : {A : Type 0} {a b : A} → fine a ≡ fine b → a ≡ b
+pub fine-same : {A : Type 0} {a b : A} → ◌≡◌ {A = Refusable A} (Ok a) (Ok b) → a ≡ b
 fine-same e = cc
 
 -- the value of each element
-map_all-at : {A B : Type 0} (f : A → Result B) (l : List A) (k : List B) (a : A) (b : B) → map_all f l ≡ fine k → (i : ℕ) → i < length l → f (get_or l i a) ≡ fine (get_or k i b)
+map_all-at : {A B : Type 0} (f : A → Refusable B) (l : List A) (k : List B) (a : A) (b : B) → map_all f l ≡ Ok k → (i : ℕ) → i < length l → f (get_or l i a) ≡ Ok (get_or k i b)
 unfolding map_all
 map_all-at f [] k a b e i h = absurd (omega arith)
 map_all-at f (x ∷ l) k a b e zero h =
@@ -49,7 +51,7 @@ map_all-at f (x ∷ l) k a b e (suc i) h =
 
 -- ---- a cell that is finished, and one with its neighbours, has the faces of its partial cell
 
-finished-faces : (d : ℕ) (ps : List Vec3) (c : PartialCell) (k : Cell) → finished d ps c ≡ fine k → k.faces ≡ c.faces
+finished-faces : (d : ℕ) (ps : List Vec3) (c : PartialCell) (k : Cell) → finished d ps c ≡ Ok k → k.faces ≡ c.faces
 unfolding finished
 finished-faces d ps c k e = let b = bound _ _ _ e in ap (λ (k : Cell). k.faces) (sym (fine-same b.then))
 
@@ -70,33 +72,33 @@ past cs i h = get_or-eq_default cs no_cell h
 
 pub record FromDrafts (d : ℕ) (ps : List Vec3) (defs : List Definition) (m : Mesh) : Type 0 where
   pub t : PartialMesh
-  pub partial : partial_mesh d ps defs ≡ fine t
+  pub partial : partial_mesh d ps defs ≡ Ok t
   pub whole : all_of (each3 finite) ps ≡ true
   pub near : all_of (each3 within) ps ≡ true
   pub over : (none : PartialCell) → Over ps t none m
 
-all-finite : (ps : List Vec3) (defs : List Definition) (u : Unit {0}) → acceptable ps defs ≡ fine u → all_of (each3 finite) ps ≡ true
+all-finite : (ps : List Vec3) (defs : List Definition) (u : Unit {0}) → acceptable ps defs ≡ Ok u → all_of (each3 finite) ps ≡ true
 unfolding acceptable
 all-finite ps defs u e =
     let b8 = bound _ _ _ e in
     let b9 = bound _ _ _ b8.then in
-    not-false _ (not-due 9 _ _ b9.had)
+    not-false _ (not-due CoordinateNotFinite _ _ b9.had)
 
-all-within : (ps : List Vec3) (defs : List Definition) (u : Unit {0}) → acceptable ps defs ≡ fine u → all_of (each3 within) ps ≡ true
+all-within : (ps : List Vec3) (defs : List Definition) (u : Unit {0}) → acceptable ps defs ≡ Ok u → all_of (each3 within) ps ≡ true
 unfolding acceptable
 all-within ps defs u e =
     let b8 = bound _ _ _ e in
     let b9 = bound _ _ _ b8.then in
-    not-false _ (not-due 10 _ _ b9.then)
+    not-false _ (not-due CoordinateTooLarge _ _ b9.then)
 
-joined_is : (ps : List Vec3) (fs : List Face) (cs : List Cell) (m : Mesh) → joined ps fs cs ≡ fine m → record { points = ps; faces = fs; cells = linked fs cs } ≡ m
+joined_is : (ps : List Vec3) (fs : List Face) (cs : List Cell) (m : Mesh) → joined ps fs cs ≡ Ok m → record { points = ps; faces = fs; cells = linked fs cs } ≡ m
 unfolding joined
 joined_is ps fs cs m e =
     let b1 = bound _ _ _ e in
     let b2 = bound _ _ _ b1.then in
     fine-same b2.then
 
-completed-over : (d : ℕ) (ps : List Vec3) (t : PartialMesh) (m : Mesh) (none : PartialCell) → completed d ps t ≡ fine m → Over ps t none m
+completed-over : (d : ℕ) (ps : List Vec3) (t : PartialMesh) (m : Mesh) (none : PartialCell) → completed d ps t ≡ Ok m → Over ps t none m
 unfolding completed
 completed-over d ps t m none e =
     let b = bound _ _ _ e in
@@ -112,7 +114,7 @@ completed-over d ps t m none e =
           ∙ finished-faces d ps (get_or t.cells i none) (get_or b.value i no_cell) (map_all-at (finished d ps) t.cells b.value none no_cell b.had i h);
     })
 
-pub from-drafts : (d : ℕ) (ps : List Vec3) (defs : List Definition) (m : Mesh) → from_cells d ps defs ≡ fine m → FromDrafts d ps defs m
+pub from-drafts : (d : ℕ) (ps : List Vec3) (defs : List Definition) (m : Mesh) → from_cells d ps defs ≡ Ok m → FromDrafts d ps defs m
 unfolding from_cells filled
 from-drafts d ps defs m e =
     let b1 = bound _ _ _ e in
@@ -127,7 +129,7 @@ from-drafts d ps defs m e =
 
 -- ---- the mesh of the definitions of a case
 
-module _ (d n : ℕ) (ps : List Vec3) (ws : List ℕ) (defs : List Definition) (m : Mesh) (right : definitions n ws ≡ fine defs) (e : from_cells d ps defs ≡ fine m) where
+module _ (d n : ℕ) (ps : List Vec3) (ws : List ℕ) (defs : List Definition) (m : Mesh) (right : definitions n ws ≡ Ok defs) (e : from_cells d ps defs ≡ Ok m) where
   f : FromDrafts d ps defs m
   f = from-drafts d ps defs m e
 

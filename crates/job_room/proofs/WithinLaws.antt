@@ -17,7 +17,6 @@ use Rattle.arith.specs.declared.Vec3.{Vec3}
 use Rattle.arith.proofs.All.{All, all-add_new, all_get_or, foldl-keeps}
 use Rattle.arith.proofs.RecordLaws.{length-tab, get_or-tab, lt-or-ge}
 use Rattle.arith.proofs.SortLaws.{all_insert}
-use Rattle.reading.specs.Result.{fine}
 use Rattle.reading.proofs.ResultLaws.{bound}
 use Rattle.mesh_area.specs.Tables.{Mesh, Cell, point_at, face_at}
 use Rattle.mesh_area.specs.Layout.{points_in}
@@ -33,6 +32,7 @@ use Rattle.lines_field.specs.Bins.{listed_in}
 use Rattle.lines_field.specs.Field.{polygons_of, field_of}
 use Rattle.lines_velocity.specs.Ensures.{vertices_within}
 use Rattle.job_room.proofs.MeshLaws.{fine-same}
+use Rattle.std.specs.Prelude.{Ok}
 
 -- ---- a test that every element passes
 
@@ -105,7 +105,7 @@ module _ (m : Mesh) (w : (k : ℕ) → xy_within (xy_of (point_at m.points k)) �
   listed-within g [] = tt
   listed-within g (c ∷ l) = (polygon-within c, listed-within g l)
 
-  pub field-within : (f : StreamlineField) → field_of m ≡ fine f → vertices_within f ≡ true
+  pub field-within : (f : StreamlineField) → field_of m ≡ Ok f → vertices_within f ≡ true
   unfolding field_of vertices_within polygons_of
   field-within f e =
       let b = bound _ _ _ e in

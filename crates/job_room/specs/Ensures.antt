@@ -1,26 +1,24 @@
 -- The contracts of `prepare` and its parts: a room that stands in the work area.
 -- `room_in`, `counts_in`: the room at a place, and the counts of its case. `Servable`, `RoomStands`: it can be served over.
 -- `add_field`, `build_room` and `prepare`: `PrepareExit`. `shortage`: `Shortage`. `add_field`: `AddFieldEntry`.
-use Rattle.std.specs.Prelude.{ℕ, ◌≤◌, ◌≡◌, true, List, length, Float}
+use Rattle.std.specs.Prelude.{ℕ, ◌≤◌, ◌≡◌, true, List, length, Float, Ok, Err}
 use Rattle.arith.specs.F64.{within}
 use Rattle.arith.specs.Lists.{all_of}
 use Rattle.arith.specs.Vec.{each3}
-use Rattle.reading.specs.Result.{Result, refused, fine}
+use Rattle.reading.specs.Result.{Refusable}
 use Rattle.case_file.specs.declared.Counts.{Counts}
-use Rattle.case_file.specs.declared.Opened.TheVariants.{Case}
 use Rattle.case_file.specs.Trailer.{opened}
 use Rattle.mesh_area.specs.Layout.{points_in, mesh_in, LentWords, LentFloats}
 use Rattle.lines_velocity.specs.Ensures.{tracer_field, TracerEntry}
 use Rattle.job_room.specs.Room.{Room, flat, solid, Lent, shortage}
 use Rattle.job_room.specs.declared.Place.{Place}
 use Rattle.job_room.specs.declared.Place.TheVariants.{Flat, Solid}
-use Rattle.job_room.specs.declared.Prepared.{Prepared}
 use Rattle.case_definitions.specs.Faces.{Definition, faces_counted}
 use Rattle.mesh_area.specs.declared.Sizes.{Sizes}
 use Rattle.lines_field.specs.Ensures.{VertexLimit}
 use Rattle.planes_crossings.specs.Ensures.{MeshLimits}
-use Rattle.mesh_coordinates.specs.Coordinates.{accepted_as}
 use Rattle.planes_samples.specs.Ensures as Planes
+use Rattle.refusal.specs.declared.Refusal.{Refusal}
 
 -- the room that stands at a place
 unfoldable pub room_in : List ℕ → List ℕ → List Float → Place → Room
@@ -39,21 +37,21 @@ Servable file words floats (Solid n s) = (marks : List ℕ) → n.cells ≤ leng
 
 -- the case is open, and what serves its requests stands in the area
 pub record RoomStands (file words : List ℕ) (floats : List Float) (p : Place) : Type 0 where
-  pub opens : opened file ≡ Case (counts_in p)
+  pub opens : opened file ≡ Ok (counts_in p)
   pub servable : Servable file words floats p
 
 -- the room stands in the area, or the refusal
-pub data PrepareExit (r : Result Room) (file words : List ℕ) (floats : List Float) : Prepared → Type 0 where
-  standing : {p : Place} → r ≡ fine (room_in file words floats p) → RoomStands file words floats p → PrepareExit r file words floats (Prepared.Ready p)
-  barred : {k : ℕ} → r ≡ refused k → PrepareExit r file words floats (Prepared.Refused k)
+pub data PrepareExit (r : Refusable Room) (file words : List ℕ) (floats : List Float) : Refusable Place → Type 0 where
+  standing : {p : Place} → r ≡ Ok (room_in file words floats p) → RoomStands file words floats p → PrepareExit r file words floats (Ok p)
+  barred : {k : Refusal} → r ≡ Err k → PrepareExit r file words floats (Err k)
 
 -- the refusal of a case with these counts and as many faces
-unfoldable pub Shortage : Counts → ℕ → ℕ → Lent → ℕ → Type 0
-Shortage n faces requests lent r = (defs : List Definition) → faces ≡ faces_counted defs → shortage (record { counts = n; definitions = defs }) requests lent ≡ accepted_as r
+unfoldable pub Shortage : Counts → ℕ → ℕ → Lent → Refusable (Unit {0}) → Type 0
+Shortage n faces requests lent r = (defs : List Definition) → faces ≡ faces_counted defs → shortage (record { counts = n; definitions = defs }) requests lent ≡ r
 
 -- the mesh of a case stands in the area, and no point is "beyond 1,048,576 in size"
 pub record AddFieldEntry (case : List ℕ) (n : Counts) (s : Sizes) (words : List ℕ) (floats : List Float) : Type 0 where
-  pub opens : opened case ≡ Case n
+  pub opens : opened case ≡ Ok n
   pub lent-words : LentWords s words
   pub lent-floats : LentFloats s floats
   pub cells : s.cells ≡ n.cells

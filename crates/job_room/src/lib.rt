@@ -3,7 +3,6 @@
 
 ghost use Rattle.std.specs.Prelude.{◌≤◌, ◌≡◌, List, length};
 ghost use Rattle.arith.specs.Limits.{most_cells, most_words};
-ghost use Rattle.reading.specs.Result.{fine};
 ghost use Rattle.case_definitions.specs.Faces.{Definition};
 ghost use Rattle.case_definitions.specs.Definitions.{definitions};
 ghost use Rattle.case_file.specs.Trailer.{words_of};
@@ -14,11 +13,11 @@ ghost use Rattle.job_room.specs.Room as Room;
 ghost use Rattle.job_room.specs.Ensures.{PrepareExit, Shortage, AddFieldEntry};
 
 use case_file::Counts;
-use case_survey::Surveyed;
 use lines_build::build;
 use lines_locate::Search;
 use lines_velocity::Tracer;
 use mesh_area::Sizes;
+use refusal::Refusal;
 
 // Where a room stands in the work area.
 #[derive(Clone, Copy)]
@@ -27,36 +26,30 @@ pub enum Place {
     Solid(Counts, Sizes),
 }
 
-// The room, or the refusal.
-#[derive(Clone, Copy)]
-pub enum Prepared {
-    Ready(Place),
-    Refused(u64),
-}
-
 // The field of a 2D mesh; a 3D one needs none.
-fn add_field(case: &[u8], n: Counts, s: Sizes, words: &mut [u32], floats: &mut [f64]) -> Prepared
+fn add_field(
+    case: &[u8],
+    n: Counts,
+    s: Sizes,
+    words: &mut [u32],
+    floats: &mut [f64],
+) -> Result<Place, Refusal>
     requires { AddFieldEntry case.now n s words.old floats.old }
     ensures { PrepareExit (Room.room_from n.dimension (zones_of case.now)
         (mesh_in (points_in case.now n.points) s words.old floats.old))
         case.now words.new floats.new result }
 {
     if n.dimension != 2 {
-        return Prepared::Ready(Place::Solid(n, s));
+        return Ok(Place::Solid(n, s));
     }
-    match build::from_dataset(case, n.points, words, floats, s) {
-        lines_field::Built::Refused(k) => Prepared::Refused(k),
-        lines_field::Built::Made(g) => {
-            let t = Tracer {
-                counts: n,
-                sizes: s,
-                grid: g,
-                search: Search::Bins,
-                home: 0,
-            };
-            Prepared::Ready(Place::Flat(t))
-        }
-    }
+    let grid = build::from_dataset(case, n.points, words, floats, s)?;
+    Ok(Place::Flat(Tracer {
+        counts: n,
+        sizes: s,
+        grid,
+        search: Search::Bins,
+        home: 0,
+    }))
 }
 
 // 8 to 19.
@@ -66,16 +59,14 @@ fn build_room(
     faces: usize,
     words: &mut [u32],
     floats: &mut [f64],
-) -> Prepared
+) -> Result<Place, Refusal>
     requires { BuildEntry case.now n faces words.old floats.old }
-    ensures { (defs : List Definition) → definitions n.cells (words_of case.now n) ≡ fine defs
+    ensures { (defs : List Definition) → definitions n.cells (words_of case.now n) ≡ Ok defs
         → PrepareExit (Room.room_of case.now (record { counts = n; definitions = defs })) case.now
         words.new floats.new result }
 {
-    match mesh::build(case, n, faces, words, floats) {
-        mesh::Built::Refused(k) => Prepared::Refused(k),
-        mesh::Built::Mesh(s) => add_field(case, n, s, words, floats),
-    }
+    let s = mesh::build(case, n, faces, words, floats)?;
+    add_field(case, n, s, words, floats)
 }
 
 // Refusal 6: no multiple of 128 bytes, or over 4,096 requests.
@@ -85,7 +76,7 @@ fn are_wrong(requests: usize) -> bool
     requests % 128 != 0 || requests > 524288
 }
 
-// Refusals 4 to 7, or 0.
+// Refusals 4 to 7.
 fn shortage(
     n: Counts,
     faces: usize,
@@ -94,24 +85,24 @@ fn shortage(
     marks: usize,
     requests: usize,
     answers: usize,
-) -> u64
+) -> Result<(), Refusal>
     requires { (faces ≤ most_words) × (n.cells ≤ most_cells) }
     ensures { Shortage n faces requests
         (record { words = words; floats = floats; marks = marks; answers = answers }) result }
 {
     if mesh::is_short(n, faces, words, floats) {
-        return 4;
+        return Err(Refusal::ShortWorkArea);
     }
     if marks < n.cells {
-        return 5;
+        return Err(Refusal::ShortMarks);
     }
     if are_wrong(requests) {
-        return 6;
+        return Err(Refusal::WrongRequestBytes);
     }
     if answers < 2 * (requests / 128) {
-        return 7;
+        return Err(Refusal::ShortAnswers);
     }
-    0
+    Ok(())
 }
 
 // The room of a case, into the work area; of the other buffers the lengths are given.
@@ -122,7 +113,7 @@ pub fn prepare(
     marks: usize,
     requests: usize,
     answers: usize,
-) -> Prepared
+) -> Result<Place, Refusal>
     ensures { PrepareExit (Room.prepared case.now requests
         (record {
           words = length words.entry.now;
@@ -132,22 +123,15 @@ pub fn prepare(
               answers;
         })) case.now words.exit.now floats.new result }
 {
-    match case_survey::survey(case) {
-        Surveyed::Refused(k) => Prepared::Refused(k),
-        Surveyed::Case(n, faces) => {
-            let k = shortage(
-                n,
-                faces,
-                words.len(),
-                floats.len(),
-                marks,
-                requests,
-                answers,
-            );
-            if k != 0 {
-                return Prepared::Refused(k);
-            }
-            build_room(case, n, faces, words, floats)
-        }
-    }
+    let (n, faces) = case_survey::survey(case)?;
+    shortage(
+        n,
+        faces,
+        words.len(),
+        floats.len(),
+        marks,
+        requests,
+        answers,
+    )?;
+    build_room(case, n, faces, words, floats)
 }

@@ -10,7 +10,7 @@ use lib.Ieee.{Float}
 use Rattle.arith.specs.Lists.{flatten}
 use Rattle.arith.specs.declared.Vec3.{Vec3}
 use Rattle.reading.specs.declared.Values.{Values}
-use Rattle.reading.specs.Result.{Result, refused, fine}
+use Rattle.reading.specs.Result.{Refusable}
 use Rattle.reading.specs.Asks.{Asks, give, run, reads, ◌>>=◌}
 use Rattle.reading.specs.Marks.{mark_all}
 use Rattle.reading.specs.Served.{Served}
@@ -24,8 +24,6 @@ use Rattle.lines_locate.specs.Field.{StreamlineField, searching}
 use Rattle.case_file.specs.declared.Counts.{Counts}
 use Rattle.planes_cut.specs.declared.Plane.{Plane}
 use Rattle.planes_sections.specs.Intersect.{intersect}
-use Rattle.lines_velocity.specs.declared.Vector.{Vector}
-use Rattle.lines_velocity.specs.declared.Vector.TheVariants.{Here, Nowhere}
 use Rattle.lines_velocity.specs.declared.Tracer.{Tracer}
 use Rattle.lines_velocity.specs.Velocity.{located_in, velocity_at}
 use Rattle.lines_velocity.specs.Ensures.{tracer_field, TracerEntry}
@@ -36,8 +34,7 @@ use Rattle.lines.specs.Line.{integrate}
 use Rattle.lines.specs.Rake.{integrate_rake}
 use Rattle.planes.specs.Answers.{section_of, statistics_of, integrals_of, probe_of}
 use Rattle.answers.specs.Words.{vec_words}
-use Rattle.answers.specs.declared.Answered.{Answered}
-use Rattle.answers.specs.Ensures.{answer_of, length_of, decided, replied, Reply}
+use Rattle.answers.specs.Ensures.{length_of, decided, replied, Reply}
 use Rattle.planes_sums.specs.Words.{sample_words}
 use Rattle.planes_samples.specs.Ensures as Planes
 use Rattle.planes_samples.specs.Sampling.{taken}
@@ -54,16 +51,20 @@ use types.Run.{OneOf}
 use denote.Enum.Declared.{tag_of}
 use Rattle.job_serve.specs.Serve.{located_words, velocity_words, serve_flat, serve_solid, serve}
 use Rattle.job_serve.specs.Ensures.{left_under}
+use Rattle.std.specs.Prelude.{Some, None, Ok, Err}
+use Rattle.std.specs.declared.option.Option.{Option}
+use Rattle.refusal.specs.declared.Refusal.{Refusal}
+use Rattle.refusal.specs.declared.Refusal.TheVariants.{OtherDimension}
 
 -- ---- an answer, or a refusal, that is decided before any value is read
 
 module _ {f : ℕ → Values} {o m : List ℕ} where
-  pub replied-no : (n : ℕ) → Reply (give (refused n)) f o (Answered.Refused n) o o m m
-  unfolding answer_of length_of replied
+  pub replied-no : (n : Refusal) → Reply (give (Err n)) f o (Err n) o o m m
+  unfolding length_of replied
   replied-no n = record { result = refl; answers = refl; marks = refl }
 
-  pub replied-yes : {left o' : List ℕ} (ws : List ℕ) (n : ℕ) → length ws ≡ n → o' ≡ sets o 0 ws → Reply (give (fine ws)) f left (Answered.Words n) o o' m m
-  unfolding answer_of length_of replied
+  pub replied-yes : {left o' : List ℕ} (ws : List ℕ) (n : ℕ) → length ws ≡ n → o' ≡ sets o 0 ws → Reply (give (Ok ws)) f left (Ok n) o o' m m
+  unfolding length_of replied
   replied-yes ws n e h = record { result = rw e; answers = h; marks = refl }
 
 -- ---- codes 1 to 4, and 9 to 12
@@ -72,26 +73,26 @@ located-two : (r : Located) → length (located_words r) ≡ 2
 unfolding located_words
 located-two r = refl
 
-velocity-four : (r : Vector) → length (velocity_words r) ≡ 4
+velocity-four : (r : Option Vec3) → length (velocity_words r) ≡ 4
 unfolding velocity_words vec_words
-velocity-four (Here u) = refl
-velocity-four Nowhere = refl
+velocity-four (Some u) = refl
+velocity-four None = refl
 
 module _ {v : ℕ → Values} {o o' m : List ℕ} where
   pub locate-reply : (F G : StreamlineField) (p : Vec3) (search : Search) (r : Located) → G ≡ searching search F → r ≡ located_in G p → o' ≡ sets o 0 (located_words r)
-      → Reply (serve_flat F (Locate p search)) v o (Answered.Words 2) o o' m m
+      → Reply (serve_flat F (Locate p search)) v o (Ok 2) o o' m m
   unfolding serve_flat
   locate-reply F G p search r g e h = rw (sym g, sym e) (replied-yes (located_words r) 2 (located-two r) h)
 
-  pub velocity-reply : (F G : StreamlineField) {m' : List ℕ} (p : Vec3) (search : Search) (r : Vector) → G ≡ searching search F → Served (velocity_at G p) v m m' r → o' ≡ sets o 0 (velocity_words r)
-      → Reply (serve_flat F (Velocity p search)) v o (Answered.Words 4) o o' m m'
-  unfolding serve_flat answer_of length_of replied
+  pub velocity-reply : (F G : StreamlineField) {m' : List ℕ} (p : Vec3) (search : Search) (r : Option Vec3) → G ≡ searching search F → Served (velocity_at G p) v m m' r → o' ≡ sets o 0 (velocity_words r)
+      → Reply (serve_flat F (Velocity p search)) v o (Ok 4) o o' m m'
+  unfolding serve_flat length_of replied
   velocity-reply F G p search r g t h =
-      let tail : Vector → Asks (Result (List ℕ)) = λ u. give (fine (velocity_words u)) in
-      let answer : run (velocity_at G p >>= tail) v ≡ fine (velocity_words r) = run_bind (velocity_at G p) tail v ∙ ap (λ (u : Vector). fine (velocity_words u)) (sym t.answer) in
+      let tail : Option Vec3 → Asks (Refusable (List ℕ)) = λ u. give (Ok (velocity_words u)) in
+      let answer : run (velocity_at G p >>= tail) v ≡ Ok (velocity_words r) = run_bind (velocity_at G p) tail v ∙ ap (λ (u : Option Vec3). Ok (velocity_words u)) (sym t.answer) in
       rw (sym g)
       (record {
-        result = rw answer (ap fine (sym (velocity-four r)));
+        result = rw answer (ap Ok (sym (velocity-four r)));
         answers = rw answer h;
         marks = t.marks ∙ ap (mark_all m) (sym (reads-bind (velocity_at G p) tail v ∙ append-nil (reads (velocity_at G p) v)));
       })
@@ -124,26 +125,26 @@ high x (inr (inr (inl e))) = omega arith
 high x (inr (inr (inr e))) = omega arith
 
 module _ (F : StreamlineField) {v : ℕ → Values} {o m : List ℕ} where
-  pub flat-refused : (q : Request) (n : ℕ) → q ≡ Refused n → Reply (serve_flat F q) v o (Answered.Refused n) o o m m
+  pub flat-refused : (q : Request) (n : Refusal) → q ≡ Refused n → Reply (serve_flat F q) v o (Err n) o o m m
   unfolding serve_flat
   flat-refused q n e = rw e (replied-no n)
 
-  pub flat-other : (q : Request) → OneOf (5 ∷ 6 ∷ 7 ∷ 8 ∷ []) (tag q) → Reply (serve_flat F q) v o (Answered.Refused 31) o o m m
+  pub flat-other : (q : Request) → OneOf (5 ∷ 6 ∷ 7 ∷ 8 ∷ []) (tag q) → Reply (serve_flat F q) v o (Err OtherDimension) o o m m
   unfolding serve_flat
   flat-other (Refused n) h = absurd (let k = high 0 h in omega arith)
   flat-other (Locate p search) h = absurd (let k = high 1 h in omega arith)
   flat-other (Velocity p search) h = absurd (let k = high 2 h in omega arith)
   flat-other (Streamline p s style search) h = absurd (let k = high 3 h in omega arith)
   flat-other (Rake k s search) h = absurd (let k = high 4 h in omega arith)
-  flat-other (Section s) h = replied-no 31
-  flat-other (Statistics s field) h = replied-no 31
-  flat-other (Integrals s) h = replied-no 31
-  flat-other (Probe s p) h = replied-no 31
+  flat-other (Section s) h = replied-no OtherDimension
+  flat-other (Statistics s field) h = replied-no OtherDimension
+  flat-other (Integrals s) h = replied-no OtherDimension
+  flat-other (Probe s p) h = replied-no OtherDimension
 
-  pub flat-code : {r : Answered} {o' m' : List ℕ} (q k : Request) → q ≡ k → Reply (serve_flat F k) v o r o o' m m' → Reply (serve_flat F q) v o r o o' m m'
+  pub flat-code : {r : Refusable ℕ} {o' m' : List ℕ} (q k : Request) → q ≡ k → Reply (serve_flat F k) v o r o o' m m' → Reply (serve_flat F q) v o r o o' m m'
   flat-code q k e h = rw e h
 
-  module _ {r : Answered} {o' m' : List ℕ} (G : StreamlineField) (q : Request) (s : StreamlineSettings) (search : Search) (g : G ≡ searching search F) where
+  module _ {r : Refusable ℕ} {o' m' : List ℕ} (G : StreamlineField) (q : Request) (s : StreamlineSettings) (search : Search) (g : G ≡ searching search F) where
     pub flat-streamline : (p : Vec3) (style : Style) → q ≡ Streamline p s style search → Reply (decided (integrate G p s style)) v o r o o' m m' → Reply (serve_flat F q) v o r o o' m m'
     unfolding serve_flat
     flat-streamline p style e h = rw (e, sym g) h
@@ -153,23 +154,23 @@ module _ (F : StreamlineField) {v : ℕ → Values} {o m : List ℕ} where
     flat-rake k e h = rw (e, sym g) h
 
 module _ (M : Mesh) (v : ℕ → Values) (o : List ℕ) {m : List ℕ} where
-  pub solid-refused : (q : Request) (n : ℕ) → q ≡ Refused n → Reply (serve_solid M q) v (left_under (solid M) q v o) (Answered.Refused n) o o m m
+  pub solid-refused : (q : Request) (n : Refusal) → q ≡ Refused n → Reply (serve_solid M q) v (left_under (solid M) q v o) (Err n) o o m m
   unfolding serve_solid left_under
   solid-refused q n e = rw e (replied-no n)
 
-  pub solid-other : (q : Request) → OneOf (1 ∷ 2 ∷ 3 ∷ 4 ∷ []) (tag q) → Reply (serve_solid M q) v (left_under (solid M) q v o) (Answered.Refused 31) o o m m
+  pub solid-other : (q : Request) → OneOf (1 ∷ 2 ∷ 3 ∷ 4 ∷ []) (tag q) → Reply (serve_solid M q) v (left_under (solid M) q v o) (Err OtherDimension) o o m m
   unfolding serve_solid left_under
   solid-other (Refused n) h = absurd (let k = low 0 h in omega arith)
-  solid-other (Locate p search) h = replied-no 31
-  solid-other (Velocity p search) h = replied-no 31
-  solid-other (Streamline p s style search) h = replied-no 31
-  solid-other (Rake k s search) h = replied-no 31
+  solid-other (Locate p search) h = replied-no OtherDimension
+  solid-other (Velocity p search) h = replied-no OtherDimension
+  solid-other (Streamline p s style search) h = replied-no OtherDimension
+  solid-other (Rake k s search) h = replied-no OtherDimension
   solid-other (Section s) h = absurd (let k = low 5 h in omega arith)
   solid-other (Statistics s field) h = absurd (let k = low 6 h in omega arith)
   solid-other (Integrals s) h = absurd (let k = low 7 h in omega arith)
   solid-other (Probe s p) h = absurd (let k = low 8 h in omega arith)
 
-  module _ {r : Answered} {o' m' : List ℕ} (q : Request) (s : Plane) where
+  module _ {r : Refusable ℕ} {o' m' : List ℕ} (q : Request) (s : Plane) where
     pub solid-section : q ≡ Section s → Reply (section_of M s) v (left_by v (intersect M s) o) r o o' m m' → Reply (serve_solid M q) v (left_under (solid M) q v o) r o o' m m'
     unfolding serve_solid left_under
     solid-section e h = rw e h
@@ -197,7 +198,7 @@ module _ (file words : List ℕ) (floats : List Float) (p : Place) where
   unfolding Servable counts_in
   stands-solid n s marks e h b = (rw e at h.servable) marks (rw e at b)
 
-  module _ (v : ℕ → Values) {r : Answered} (o : List ℕ) {o' m m' : List ℕ} (q : Request) where
+  module _ (v : ℕ → Values) {r : Refusable ℕ} (o : List ℕ) {o' m m' : List ℕ} (q : Request) where
     pub in-flat : (t : Tracer) → p ≡ Flat t → Reply (serve_flat (tracer_field t file words floats) q) v o r o o' m m'
         → Reply (serve (room_in file words floats p) q) v (left_under (room_in file words floats p) q v o) r o o' m m'
     unfolding serve room_in left_under
@@ -224,10 +225,10 @@ left-long (solid m) (Statistics s field) v o = refl
 left-long (solid m) (Integrals s) v o = refl
 left-long (solid m) (Probe s p) v o = refl
 
-long_of : (o left : List ℕ) (r : Result (List ℕ)) → length left ≡ length o → length (replied o left r) ≡ length o
+long_of : (o left : List ℕ) (r : Refusable (List ℕ)) → length left ≡ length o → length (replied o left r) ≡ length o
 unfolding replied
-long_of o left (refused n) h = h
-long_of o left (fine ws) h = length-sets o 0 ws
+long_of o left (Err n) h = h
+long_of o left (Ok ws) h = length-sets o 0 ws
 
 pub replied-long : (room : Room) (q : Request) (v : ℕ → Values) (o : List ℕ) → length (replied o (left_under room q v o) (run (serve room q) v)) ≡ length o
 replied-long room q v o = long_of o (left_under room q v o) (run (serve room q) v) (left-long room q v o)

@@ -17,25 +17,25 @@ ghost use Rattle.job_room.specs.Ensures.{room_in, counts_in, RoomStands};
 ghost use Rattle.job_serve.specs.Serve as Serve;
 ghost use Rattle.job_serve.specs.Ensures.{left_under};
 
-use answers::Answered;
-use arith::{Found, Vec3};
+use arith::Vec3;
 use case_file::Counts;
 use job_requests::Request;
 use job_room::Place;
 use lines::{integrate, rakes};
 use lines_locate::{Located, Search};
 use lines_polygon::Position;
-use lines_velocity::{Tracer, Vector, interpolate};
+use lines_velocity::{Tracer, interpolate};
 use mesh_area::Sizes;
 use planes::codes;
+use refusal::Refusal;
 
 // The cell, or 2^64-1 for none.
-fn cell_word(r: Found) -> u64
+fn cell_word(r: Option<usize>) -> u64
     ensures { result ≡ Serve.cell_word r }
 {
     match r {
-        Found::At(i) => i as u64,
-        Found::Nothing => 0xffff_ffff_ffff_ffff,
+        Some(i) => i as u64,
+        None => 0xffff_ffff_ffff_ffff,
     }
 }
 
@@ -61,15 +61,15 @@ fn put_located(r: Located, out: &mut [u64])
 }
 
 // 1 and the velocity, or four zeros.
-fn put_velocity(r: Vector, out: &mut [u64])
+fn put_velocity(r: Option<Vec3>, out: &mut [u64])
     ensures { out.new ≡ sets out.old 0 (Serve.velocity_words r) }
 {
     match r {
-        Vector::Here(v) => {
+        Some(v) => {
             answers::put(out, 0, 1);
             answers::put_vec(out, 1, v);
         }
-        Vector::Nowhere => {
+        None => {
             answers::put(out, 0, 0);
             answers::put_vec(out, 1, Vec3::new(0.0, 0.0, 0.0));
         }
@@ -84,7 +84,7 @@ fn serve_locate(
     out: &mut [u64],
     p: Vec3,
     search: Search,
-) -> Answered
+) -> Result<usize, Refusal>
     requires { LocateEntry words.now floats.now t }
     ensures { (case : List ℕ) (f : ℕ → Values) (m : List ℕ) → Reply
         (Serve.serve_flat (tracer_field t case words.now floats.now) (Code.Locate p search))
@@ -92,7 +92,7 @@ fn serve_locate(
 {
     let tracer = lines_velocity::searching(t, search);
     put_located(interpolate::locate(words, floats, tracer, p), out);
-    Answered::Words(2)
+    Ok(2)
 }
 
 // Codes 2 and 10.
@@ -105,7 +105,7 @@ fn serve_velocity(
     out: &mut [u64],
     p: Vec3,
     search: Search,
-) -> Answered
+) -> Result<usize, Refusal>
     requires { TracerEntry case.now words.now floats.now t }
     ensures { Reply (Serve.serve_flat
         (tracer_field t case.now words.now floats.now)
@@ -115,7 +115,7 @@ fn serve_velocity(
     let tracer = lines_velocity::searching(t, search);
     let v = interpolate::velocity_at(case, words, floats, tracer, marks, p);
     put_velocity(v, out);
-    Answered::Words(4)
+    Ok(4)
 }
 
 // Codes 1 to 4 and 9 to 14.
@@ -127,7 +127,7 @@ fn serve_flat(
     marks: &mut [u8],
     out: &mut [u64],
     q: Request,
-) -> Answered
+) -> Result<usize, Refusal>
     requires tracer_entry { TracerEntry case.now words.now floats.now t }
     requires allowed { Allowed q }
     ensures { Reply (Serve.serve_flat
@@ -136,7 +136,7 @@ fn serve_flat(
         marks.new }
 {
     match q {
-        Request::Refused(k) => Answered::Refused(k),
+        Request::Refused(k) => Err(k),
         Request::Locate(p, search) => serve_locate(words, floats, t, out, p, search),
         Request::Velocity(p, search) => {
             serve_velocity(case, words, floats, t, marks, out, p, search)
@@ -149,7 +149,7 @@ fn serve_flat(
             let tracer = lines_velocity::searching(t, search);
             rakes::integrate_rake(case, words, floats, tracer, marks, out, rake, s)
         }
-        _ => Answered::Refused(31), // request_of gave 31 already
+        _ => Err(Refusal::OtherDimension), // request_of gave 31 already
     }
 }
 
@@ -162,7 +162,7 @@ fn serve_solid(
     marks: &mut [u8],
     out: &mut [u64],
     q: Request,
-) -> Answered
+) -> Result<usize, Refusal>
     requires { Planes.SampleEntry case.now n s words.now marks.old }
     ensures { (floats : List Float) → Reply
         (Serve.serve_solid (mesh_in (points_in case.now n.points) s words.now floats) q)
@@ -171,14 +171,14 @@ fn serve_solid(
         out.new marks.old marks.new }
 {
     match q {
-        Request::Refused(k) => Answered::Refused(k),
+        Request::Refused(k) => Err(k),
         Request::Section(plane) => codes::section(case, n, words, s, plane, out, marks),
         Request::Statistics(plane, field) => {
             codes::statistics(case, n, words, s, plane, field, out, marks)
         }
         Request::Integrals(plane) => codes::integrals(case, n, words, s, plane, out, marks),
         Request::Probe(plane, p) => codes::probe(case, n, words, s, plane, p, out, marks),
-        _ => Answered::Refused(31), // request_of gave 31 already
+        _ => Err(Refusal::OtherDimension), // request_of gave 31 already
     }
 }
 
@@ -191,7 +191,7 @@ pub fn serve(
     marks: &mut [u8],
     out: &mut [u64],
     q: Request,
-) -> Answered
+) -> Result<usize, Refusal>
     requires { RoomStands case.now words.now floats.now place × ((counts_in place).cells ≤ length marks.old)
         × Allowed q }
     ensures { Reply (Serve.serve (room_in case.now words.now floats.now place)

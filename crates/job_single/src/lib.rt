@@ -3,15 +3,15 @@
 
 ghost use Rattle.std.specs.Prelude.{◌≡◌, length};
 ghost use Rattle.job_requests.specs.Encode.{bytes_of};
-ghost use Rattle.job_promise.specs.Job.{number_of, outcome_of};
+ghost use Rattle.job_promise.specs.Job.{number_of, result_of};
 ghost use Rattle.job_promise.specs.Promise.{JobPromise};
 ghost use Rattle.job_encoding.specs.Single.{locate_words, velocity_words, streamline_words, sheet_words, rake_words, section_words, statistics_words, integrals_words, probe_words};
 
 use arith::Vec3;
-use job_promise::Outcome;
 use lines::{Rake, StreamlineSettings};
 use lines_locate::Search;
 use planes_cut::Plane;
+use refusal::Refusal;
 
 // The cell at a point.
 pub fn locate(
@@ -22,11 +22,12 @@ pub fn locate(
     floats: &mut [f64],
     marks: &mut [u8],
     answers: &mut [u64],
-) -> Outcome
+) -> Result<(), Refusal>
     ensures promise { JobPromise case.now (bytes_of (locate_words p search))
         (length words.old) (length floats.old) answers.old marks.old
         (record { result = number_of result; answers = answers.new; marks = marks.new }) }
-    ensures value { result ≡ outcome_of (number_of result) }
+    ensures value { result ≡ result_of case.now (bytes_of (locate_words p search))
+        (length words.old) (length floats.old) answers.old marks.old }
 {
     let request = job_encoding::locate(p, search);
     job::job(case, &request, words, floats, marks, answers)
@@ -41,11 +42,12 @@ pub fn velocity(
     floats: &mut [f64],
     marks: &mut [u8],
     answers: &mut [u64],
-) -> Outcome
+) -> Result<(), Refusal>
     ensures promise { JobPromise case.now (bytes_of (velocity_words p search))
         (length words.old) (length floats.old) answers.old marks.old
         (record { result = number_of result; answers = answers.new; marks = marks.new }) }
-    ensures value { result ≡ outcome_of (number_of result) }
+    ensures value { result ≡ result_of case.now (bytes_of (velocity_words p search))
+        (length words.old) (length floats.old) answers.old marks.old }
 {
     let request = job_encoding::velocity(p, search);
     job::job(case, &request, words, floats, marks, answers)
@@ -61,11 +63,12 @@ pub fn streamline(
     floats: &mut [f64],
     marks: &mut [u8],
     answers: &mut [u64],
-) -> Outcome
+) -> Result<(), Refusal>
     ensures promise { JobPromise case.now (bytes_of (streamline_words seed settings search))
         (length words.old) (length floats.old) answers.old marks.old
         (record { result = number_of result; answers = answers.new; marks = marks.new }) }
-    ensures value { result ≡ outcome_of (number_of result) }
+    ensures value { result ≡ result_of case.now (bytes_of (streamline_words seed settings search))
+        (length words.old) (length floats.old) answers.old marks.old }
 {
     let request = job_encoding::streamline(seed, settings, search);
     job::job(case, &request, words, floats, marks, answers)
@@ -81,11 +84,12 @@ pub fn sheet(
     floats: &mut [f64],
     marks: &mut [u8],
     answers: &mut [u64],
-) -> Outcome
+) -> Result<(), Refusal>
     ensures promise { JobPromise case.now (bytes_of (sheet_words seed settings search))
         (length words.old) (length floats.old) answers.old marks.old
         (record { result = number_of result; answers = answers.new; marks = marks.new }) }
-    ensures value { result ≡ outcome_of (number_of result) }
+    ensures value { result ≡ result_of case.now (bytes_of (sheet_words seed settings search))
+        (length words.old) (length floats.old) answers.old marks.old }
 {
     let request = job_encoding::sheet(seed, settings, search);
     job::job(case, &request, words, floats, marks, answers)
@@ -101,11 +105,12 @@ pub fn rake(
     floats: &mut [f64],
     marks: &mut [u8],
     answers: &mut [u64],
-) -> Outcome
+) -> Result<(), Refusal>
     ensures promise { JobPromise case.now (bytes_of (rake_words seeds settings search))
         (length words.old) (length floats.old) answers.old marks.old
         (record { result = number_of result; answers = answers.new; marks = marks.new }) }
-    ensures value { result ≡ outcome_of (number_of result) }
+    ensures value { result ≡ result_of case.now (bytes_of (rake_words seeds settings search))
+        (length words.old) (length floats.old) answers.old marks.old }
 {
     let request = job_encoding::rake(seeds, settings, search);
     job::job(case, &request, words, floats, marks, answers)
@@ -119,11 +124,12 @@ pub fn section(
     floats: &mut [f64],
     marks: &mut [u8],
     answers: &mut [u64],
-) -> Outcome
+) -> Result<(), Refusal>
     ensures promise { JobPromise case.now (bytes_of (section_words plane))
         (length words.old) (length floats.old) answers.old marks.old
         (record { result = number_of result; answers = answers.new; marks = marks.new }) }
-    ensures value { result ≡ outcome_of (number_of result) }
+    ensures value { result ≡ result_of case.now (bytes_of (section_words plane))
+        (length words.old) (length floats.old) answers.old marks.old }
 {
     let request = job_encoding::section(plane);
     job::job(case, &request, words, floats, marks, answers)
@@ -138,11 +144,12 @@ pub fn statistics(
     floats: &mut [f64],
     marks: &mut [u8],
     answers: &mut [u64],
-) -> Outcome
+) -> Result<(), Refusal>
     ensures promise { JobPromise case.now (bytes_of (statistics_words plane field))
         (length words.old) (length floats.old) answers.old marks.old
         (record { result = number_of result; answers = answers.new; marks = marks.new }) }
-    ensures value { result ≡ outcome_of (number_of result) }
+    ensures value { result ≡ result_of case.now (bytes_of (statistics_words plane field))
+        (length words.old) (length floats.old) answers.old marks.old }
 {
     let request = job_encoding::statistics(plane, field);
     job::job(case, &request, words, floats, marks, answers)
@@ -156,11 +163,12 @@ pub fn integrals(
     floats: &mut [f64],
     marks: &mut [u8],
     answers: &mut [u64],
-) -> Outcome
+) -> Result<(), Refusal>
     ensures promise { JobPromise case.now (bytes_of (integrals_words plane))
         (length words.old) (length floats.old) answers.old marks.old
         (record { result = number_of result; answers = answers.new; marks = marks.new }) }
-    ensures value { result ≡ outcome_of (number_of result) }
+    ensures value { result ≡ result_of case.now (bytes_of (integrals_words plane))
+        (length words.old) (length floats.old) answers.old marks.old }
 {
     let request = job_encoding::integrals(plane);
     job::job(case, &request, words, floats, marks, answers)
@@ -175,11 +183,12 @@ pub fn probe(
     floats: &mut [f64],
     marks: &mut [u8],
     answers: &mut [u64],
-) -> Outcome
+) -> Result<(), Refusal>
     ensures promise { JobPromise case.now (bytes_of (probe_words plane p))
         (length words.old) (length floats.old) answers.old marks.old
         (record { result = number_of result; answers = answers.new; marks = marks.new }) }
-    ensures value { result ≡ outcome_of (number_of result) }
+    ensures value { result ≡ result_of case.now (bytes_of (probe_words plane p))
+        (length words.old) (length floats.old) answers.old marks.old }
 {
     let request = job_encoding::probe(plane, p);
     job::job(case, &request, words, floats, marks, answers)

@@ -4,8 +4,6 @@ use mathlib.Core.Path.{◌≡◌, refl, ap, sym, ◌∙◌}
 use mathlib.Core.List.{List}
 use lib.Ieee.{Float}
 use Rattle.arith.specs.declared.Vec3.{Vec3}
-use Rattle.arith.specs.declared.Found.{Found}
-use Rattle.arith.specs.declared.Found.TheVariants.{At, Nothing}
 use Rattle.case_file.specs.Field.{zone_of}
 use Rattle.case_file.proofs.ZoneLaws.{zone-first}
 use Rattle.lines_locate.specs.Field.{StreamlineField, staying}
@@ -14,6 +12,8 @@ use Rattle.lines_velocity.specs.Velocity.{locate_in}
 use Rattle.lines_velocity.specs.Ensures.{tracer_field, tracer_staying, TracerEntry}
 use Rattle.lines_velocity.proofs.TracerLaws.{tracer-zone, staying-field}
 use Rattle.lines.specs.Line.{zone_found, home_of}
+use Rattle.std.specs.Prelude.{Some, None}
+use Rattle.std.specs.declared.option.Option.{Option}
 
 module _ (t : Tracer) (case words : List ℕ) (floats : List Float) (seed : Vec3) where
   abbrev F : StreamlineField
@@ -24,16 +24,16 @@ module _ (t : Tracer) (case words : List ℕ) (floats : List Float) (seed : Vec3
   unfolding home_of
   home-first h one = by (locate_in F seed)
     where
-      by : (r : Found) → 0 ≡ zone_found F r
-      by Nothing = unfold zone_found in refl
-      by (At i) = unfold zone_found in tracer-zone t case words floats i 0 (sym (zone-first case t.counts h.opens i one))
+      by : (r : Option ℕ) → 0 ≡ zone_found F r
+      by None = unfold zone_found in refl
+      by (Some i) = unfold zone_found in tracer-zone t case words floats i 0 (sym (zone-first case t.counts h.opens i one))
 
-  module _ (r : Found) (e : r ≡ locate_in F seed) where
-    pub home-there : (i z : ℕ) → r ≡ At i → z ≡ zone_of case i → z ≡ home_of F seed
+  module _ (r : Option ℕ) (e : r ≡ locate_in F seed) where
+    pub home-there : (i z : ℕ) → r ≡ Some i → z ≡ zone_of case i → z ≡ home_of F seed
     unfolding home_of zone_found
     home-there i z n ez = rw (sym e ∙ n) (tracer-zone t case words floats i z ez)
 
-    pub home-none : r ≡ Nothing → 0 ≡ home_of F seed
+    pub home-none : r ≡ None → 0 ≡ home_of F seed
     unfolding home_of zone_found
     home-none n = rw (sym e ∙ n)
 

@@ -11,8 +11,6 @@ use Rattle.arith.specs.Lists.{any_of}
 use Rattle.arith.proofs.RecordLaws.{length-tab, get_or-tab, drop-tab, drop-end}
 use Rattle.arith.proofs.ListLaws.{any_here, any_next}
 use Rattle.arith.specs.declared.Vec3.{Vec3}
-use Rattle.arith.specs.declared.Found.{Found}
-use Rattle.arith.specs.declared.Found.TheVariants.{At, Nothing}
 use Rattle.reading.specs.declared.Values.{Values}
 use Rattle.reading.specs.Asks.{Asks, give, run, reads, ◌>>=◌}
 use Rattle.reading.specs.Marks.{mark_all}
@@ -21,11 +19,10 @@ use Rattle.reading.proofs.Going.{Going}
 use Rattle.reading.proofs.AsksLaws.{bind_assoc, bind-give, run_bind, reads-bind}
 use Rattle.reading.proofs.ServedLaws.{going_start, going-part, going_end}
 use Rattle.reading.specs.Result as result
-use Rattle.reading.specs.Result.{Result, fine, refused, refuse}
+use Rattle.reading.specs.Result.{Refusable, refuse}
 use Rattle.lines_locate.specs.Field.{StreamlineField}
 use Rattle.lines_velocity.specs.Velocity.{locate_in}
-use Rattle.answers.specs.declared.Answered.TheVariants.{Words, Refused}
-use Rattle.answers.specs.Ensures.{answer_of, length_of, decided, replied, Reply}
+use Rattle.answers.specs.Ensures.{length_of, decided, replied, Reply}
 use Rattle.lines.specs.declared.StreamlineSettings.{StreamlineSettings}
 use Rattle.lines.specs.declared.Rake.{Rake}
 use Rattle.lines.specs.Line.{is_nowhere, nowhere, line_answer}
@@ -34,49 +31,54 @@ use Rattle.lines.specs.Ensures.{TraceExit}
 use Rattle.answers.proofs.WordLaws.{sets-append, sets-set}
 use Rattle.lines_words.specs.declared.Style.TheVariants.{Points}
 use Rattle.lines.proofs.LineLaws.{give-then}
+use Rattle.std.specs.Prelude.{Some, None, Ok, Err}
+use Rattle.std.specs.declared.option.Option.{Option}
+use Rattle.refusal.specs.declared.Refusal.{Refusal}
+use Rattle.refusal.specs.declared.Refusal.TheVariants.{WrongOptions, SeedNowhere}
 
 -- ---- a point that locates, or not
 
-module _ (F : StreamlineField) (p : Vec3) (r : Found) (e : r ≡ locate_in F p) where
-  pub nowhere-not : (i : ℕ) → r ≡ At i → false ≡ nowhere F p
+module _ (F : StreamlineField) (p : Vec3) (r : Option ℕ) (e : r ≡ locate_in F p) where
+  pub nowhere-not : (i : ℕ) → r ≡ Some i → false ≡ nowhere F p
   unfolding nowhere is_nowhere
   nowhere-not i h = rw (sym e ∙ h)
 
-  pub nowhere-so : r ≡ Nothing → true ≡ nowhere F p
+  pub nowhere-so : r ≡ None → true ≡ nowhere F p
   unfolding nowhere is_nowhere
   nowhere-so h = rw (sym e ∙ h)
 
 -- ---- the answer of a job
 
-module _ {j : Result (Asks (List ℕ))} {f : ℕ → Values} {m o : List ℕ} where
-  pub answered-refused : (k : ℕ) → j ≡ refused k → Reply (decided j) f o (Refused k) o o m m
-  unfolding answer_of length_of decided replied
+module _ {j : Refusable (Asks (List ℕ))} {f : ℕ → Values} {m o : List ℕ} where
+  pub answered-refused : (k : Refusal) → j ≡ Err k → Reply (decided j) f o (Err k) o o m m
+  unfolding length_of decided replied
   answered-refused k e = rw e (record { result = refl; answers = refl; marks = refl })
 
-  pub answered-fine : {m' o' : List ℕ} {r : ℕ} (t : Asks (List ℕ)) → j ≡ fine t → TraceExit t f m m' o o' 0 r → Reply (decided j) f o (Words r) o o' m m'
-  unfolding answer_of length_of decided replied
+  pub answered-fine : {m' o' : List ℕ} {r : ℕ} (t : Asks (List ℕ)) → j ≡ Ok t → TraceExit t f m m' o o' 0 r → Reply (decided j) f o (Ok r) o o' m m'
+  unfolding length_of decided replied
   answered-fine t e w =
-      let answer : run (t >>= λ ws. give (fine ws)) f ≡ fine (run t f) = run_bind t (λ ws. give (fine ws)) f in
-      let asked : reads (t >>= λ ws. give (fine ws)) f ≡ reads t f = reads-bind t (λ ws. give (fine ws)) f ∙ append-nil (reads t f) in
+      let told : Asks (Refusable (List ℕ)) = t >>= λ ws. give (Ok ws) in
+      let answer : ◌≡◌ {A = Refusable (List ℕ)} (run told f) (Ok (run t f)) = run_bind t (λ ws. give (Ok ws)) f in
+      let asked : reads told f ≡ reads t f = reads-bind t (λ ws. give (Ok ws)) f ∙ append-nil (reads t f) in
       rw e
       (record {
-        result = rw answer (ap fine w.count);
+        result = rw answer (ap {B = Refusable ℕ} Ok w.count);
         answers = rw answer w.words;
         marks = w.marks ∙ ap (mark_all m) (sym asked);
       })
 
 -- the two refusals, whatever follows
 module _ {good : Bool} (lost : Bool) (t : Asks (List ℕ)) {a : Bool} (ea : a ≡ good) where
-  pub not_good : a ≡ false → result.◌>>=◌ (refuse 34 (not good)) (λ _. result.◌>>=◌ (refuse 35 lost) (λ _. fine t)) ≡ refused 34
+  pub not_good : a ≡ false → result.◌>>=◌ (refuse WrongOptions (not good)) (λ _. result.◌>>=◌ (refuse SeedNowhere lost) (λ _. Ok t)) ≡ Err WrongOptions
   unfolding refuse result.◌>>=◌
   not_good h = rw (sym ea ∙ h)
 
   module _ {b : Bool} (h : a ≡ true) (eb : b ≡ lost) where
-    pub is_lost : b ≡ true → result.◌>>=◌ (refuse 34 (not good)) (λ _. result.◌>>=◌ (refuse 35 lost) (λ _. fine t)) ≡ refused 35
+    pub is_lost : b ≡ true → result.◌>>=◌ (refuse WrongOptions (not good)) (λ _. result.◌>>=◌ (refuse SeedNowhere lost) (λ _. Ok t)) ≡ Err SeedNowhere
     unfolding refuse result.◌>>=◌
     is_lost k = rw (sym ea ∙ h, sym eb ∙ k)
 
-    pub is-fine : b ≡ false → result.◌>>=◌ (refuse 34 (not good)) (λ _. result.◌>>=◌ (refuse 35 lost) (λ _. fine t)) ≡ fine t
+    pub is-fine : b ≡ false → result.◌>>=◌ (refuse WrongOptions (not good)) (λ _. result.◌>>=◌ (refuse SeedNowhere lost) (λ _. Ok t)) ≡ Ok t
     unfolding refuse result.◌>>=◌
     is-fine k = rw (sym ea ∙ h, sym eb ∙ k)
 

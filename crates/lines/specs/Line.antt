@@ -3,14 +3,12 @@
 -- `zone_found`, `home_of`: the zone of a seed. `onward`, `line_from`, `points_after`, `line`: the points of a line.
 -- `is_length`, `is_speed`, `are_accepted`: refusal 34. `is_nowhere`, `nowhere`: refusal 35.
 -- `line_answer`: the answer. `integrate`: the answer, or the refusal.
-use Rattle.std.specs.Prelude.{ℕ, zero, suc, Bool, true, false, not, ◌&&◌, List, [], ◌∷◌, ltb, Float}
+use Rattle.std.specs.Prelude.{ℕ, zero, suc, Bool, true, false, not, ◌&&◌, List, [], ◌∷◌, ltb, Float, Some, None, Ok}
 use Rattle.arith.specs.F64.{◌⊕◌, ◌⊗◌, ◌≺◌, ◌≼◌, 0·0, 1·0, -1·0, finite}
 use Rattle.arith.specs.declared.Vec3.{Vec3}
-use Rattle.arith.specs.declared.Found.{Found}
-use Rattle.arith.specs.declared.Found.TheVariants.{At, Nothing}
 use Rattle.reading.specs.Asks.{Asks, give, ◌>>=◌}
 use Rattle.reading.specs.Result as result
-use Rattle.reading.specs.Result.{Result, fine, refuse}
+use Rattle.reading.specs.Result.{Refusable, refuse}
 use Rattle.lines_words.specs.declared.Style.{Style}
 use Rattle.lines_words.specs.Words.{line_words}
 use Rattle.lines_locate.specs.Field.{StreamlineField, zone_at, staying}
@@ -22,6 +20,8 @@ use Rattle.lines_step.specs.Step.{step}
 use Rattle.lines.specs.declared.StreamlineDirection.{StreamlineDirection}
 use Rattle.lines.specs.declared.StreamlineDirection.TheVariants.{Forward, Backward}
 use Rattle.lines.specs.declared.StreamlineSettings.{StreamlineSettings}
+use Rattle.std.specs.declared.option.Option.{Option}
+use Rattle.refusal.specs.declared.Refusal.TheVariants.{WrongOptions, SeedNowhere}
 
 -- "direction (0 forward, 1 backward)"
 unfoldable pub sign : StreamlineDirection → Float
@@ -33,9 +33,9 @@ unfoldable pub signed_step : StreamlineSettings → Float
 signed_step s = s.options.step_size ⊗ sign s.direction
 
 -- the zone of the cell that was found; for none, which is refused with 35, it is 0
-unfoldable pub zone_found : StreamlineField → Found → ℕ
-zone_found f Nothing = 0
-zone_found f (At i) = zone_at f i
+unfoldable pub zone_found : StreamlineField → Option ℕ → ℕ
+zone_found f None = 0
+zone_found f (Some i) = zone_at f i
 
 -- the zone that a seed locates in
 unfoldable pub home_of : StreamlineField → Vec3 → ℕ
@@ -72,9 +72,9 @@ unfoldable pub are_accepted : StreamlineOptions → Bool
 are_accepted o = is_length o.step_size && (ltb 0 o.max_steps && (is_length o.max_length && is_speed o.stagnation_speed))
 
 -- no cell was found
-unfoldable pub is_nowhere : Found → Bool
-is_nowhere Nothing = true
-is_nowhere (At i) = false
+unfoldable pub is_nowhere : Option ℕ → Bool
+is_nowhere None = true
+is_nowhere (Some i) = false
 
 -- 35 "seed (of a rake: any seed) locates nowhere"
 unfoldable pub nowhere : StreamlineField → Vec3 → Bool
@@ -85,8 +85,8 @@ unfoldable pub line_answer : StreamlineField → Style → StreamlineSettings �
 line_answer f style s seed = line f s seed >>= λ l. give (line_words style l)
 
 -- `integrate`, in a style: "Marks and refusals are those of code 3"
-unfoldable pub integrate : StreamlineField → Vec3 → StreamlineSettings → Style → Result (Asks (List ℕ))
+unfoldable pub integrate : StreamlineField → Vec3 → StreamlineSettings → Style → Refusable (Asks (List ℕ))
 integrate f seed s style =
-    result.◌>>=◌ (refuse 34 (not (are_accepted s.options))) (λ _.
-    result.◌>>=◌ (refuse 35 (nowhere f seed)) (λ _.
-    fine (line_answer f style s seed)))
+    result.◌>>=◌ (refuse WrongOptions (not (are_accepted s.options))) (λ _.
+    result.◌>>=◌ (refuse SeedNowhere (nowhere f seed)) (λ _.
+    Ok (line_answer f style s seed)))

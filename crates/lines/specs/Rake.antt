@@ -1,5 +1,5 @@
 -- `integrate_rake`: a line from each of the seeds between two points, with the refusals 34 and 35.
-use Rattle.std.specs.Prelude.{ℕ, ◌-◌, not, List, [], ◌∷◌, ◌++◌}
+use Rattle.std.specs.Prelude.{ℕ, ◌-◌, not, List, [], ◌∷◌, ◌++◌, Ok}
 use Rattle.arith.specs.F64.{◌⊘◌, ofℕ}
 use Rattle.arith.specs.Lists.{any_of}
 use Rattle.arith.specs.Records.{tab}
@@ -7,12 +7,13 @@ use Rattle.arith.specs.Vec.{plus, minus, times}
 use Rattle.arith.specs.declared.Vec3.{Vec3}
 use Rattle.reading.specs.Asks.{Asks, give, ◌>>=◌}
 use Rattle.reading.specs.Result as result
-use Rattle.reading.specs.Result.{Result, fine, refuse}
+use Rattle.reading.specs.Result.{Refusable, refuse}
 use Rattle.lines_locate.specs.Field.{StreamlineField}
 use Rattle.lines_words.specs.declared.Style.TheVariants.{Points}
 use Rattle.lines.specs.declared.Rake.{Rake}
 use Rattle.lines.specs.declared.StreamlineSettings.{StreamlineSettings}
 use Rattle.lines.specs.Line.{line_answer, are_accepted, nowhere}
+use Rattle.refusal.specs.declared.Refusal.TheVariants.{WrongOptions, SeedNowhere}
 
 -- `start + (end - start) * t`, seed i of count
 unfoldable pub seed_at : Rake → ℕ → Vec3
@@ -28,8 +29,8 @@ lines_words f s [] = give []
 lines_words f s (p ∷ ps) = line_answer f Points s p >>= λ l. lines_words f s ps >>= λ ws. give (l ++ ws)
 
 -- "4: line count, each line as in 3"; "35 seed (of a rake: any seed) locates nowhere"
-unfoldable pub integrate_rake : StreamlineField → Rake → StreamlineSettings → Result (Asks (List ℕ))
+unfoldable pub integrate_rake : StreamlineField → Rake → StreamlineSettings → Refusable (Asks (List ℕ))
 integrate_rake f r s =
-    result.◌>>=◌ (refuse 34 (not (are_accepted s.options))) (λ _.
-    result.◌>>=◌ (refuse 35 (any_of (nowhere f) (seeds r))) (λ _.
-    fine (lines_words f s (seeds r) >>= λ ws. give (r.count ∷ ws))))
+    result.◌>>=◌ (refuse WrongOptions (not (are_accepted s.options))) (λ _.
+    result.◌>>=◌ (refuse SeedNowhere (any_of (nowhere f) (seeds r))) (λ _.
+    Ok (lines_words f s (seeds r) >>= λ ws. give (r.count ∷ ws))))

@@ -7,11 +7,11 @@ ghost use Rattle.lines_velocity.specs.Ensures.{tracer_field, LocateEntry, Tracer
 ghost use Rattle.lines.specs.Line as Line;
 
 use crate::{StreamlineSettings, line};
-use answers::Answered;
-use arith::{Found, Vec3, float};
+use arith::{Vec3, float};
 use lines_step::StreamlineOptions;
 use lines_velocity::{Tracer, interpolate};
 use lines_words::Style;
+use refusal::Refusal;
 
 // A finite length above 0.
 fn is_length(x: f64) -> bool
@@ -46,8 +46,8 @@ pub(crate) fn is_nowhere(words: &[u32], floats: &[f64], t: Tracer, p: Vec3) -> b
     let found = interpolate::locate(words, floats, t, p);
     let cell = found.cell;
     match cell {
-        Found::At(_) => false,
-        Found::Nothing => true,
+        Some(_) => false,
+        None => true,
     }
 }
 
@@ -62,7 +62,7 @@ pub fn integrate(
     seed: Vec3,
     settings: StreamlineSettings,
     style: Style,
-) -> Answered
+) -> Result<usize, Refusal>
     requires tracer_entry { TracerEntry case.now words.now floats.now t }
     requires max_steps_bound { settings.options.max_steps ≤ most_steps }
     ensures { Reply (decided (Line.integrate
@@ -72,11 +72,11 @@ pub fn integrate(
 {
     if are_accepted(settings.options) {
         if is_nowhere(words, floats, t, seed) {
-            return Answered::Refused(35);
+            return Err(Refusal::SeedNowhere);
         }
         let pen = lines_words::pen_at(style, 0);
         let count = line::trace(case, words, floats, t, marks, out, pen, seed, settings);
-        return Answered::Words(count);
+        return Ok(count);
     }
-    Answered::Refused(34)
+    Err(Refusal::WrongOptions)
 }

@@ -7,7 +7,7 @@ ghost use Rattle.lines.specs.Line as Line;
 ghost use Rattle.lines.specs.Ensures.{PointsAfterExit, TraceExit};
 
 use crate::{StreamlineDirection, StreamlineSettings};
-use arith::{Found, Vec3};
+use arith::Vec3;
 use case_file::field;
 use lines_step::Step;
 use lines_velocity::{Tracer, interpolate};
@@ -77,8 +77,8 @@ fn home_of(case: &[u8], words: &[u32], floats: &[f64], t: Tracer, seed: Vec3) ->
     let found = interpolate::locate(words, floats, t, seed);
     let cell = found.cell;
     match cell {
-        Found::At(i) => field::zone(case, t.counts, i),
-        Found::Nothing => 0,
+        Some(i) => field::zone(case, t.counts, i),
+        None => 0,
     }
 }
 

@@ -10,10 +10,10 @@ ghost use Rattle.lines.specs.Rake as Rakes;
 ghost use Rattle.lines.specs.Ensures.{TraceExit};
 
 use crate::{Rake, StreamlineSettings, integrate, line};
-use answers::Answered;
 use arith::Vec3;
 use lines_velocity::Tracer;
 use lines_words::Style;
+use refusal::Refusal;
 
 // Seed i of a rake.
 fn seed_at(rake: Rake, i: usize) -> Vec3
@@ -78,7 +78,7 @@ pub fn integrate_rake(
     out: &mut [u64],
     rake: Rake,
     settings: StreamlineSettings,
-) -> Answered
+) -> Result<usize, Refusal>
     requires tracer_entry { TracerEntry case.now words.now floats.now t }
     requires le_count { (2 ≤ rake.count) × (rake.count ≤ 64) × (settings.options.max_steps ≤ most_steps) }
     ensures { Reply (decided (Rakes.integrate_rake
@@ -88,12 +88,12 @@ pub fn integrate_rake(
 {
     if integrate::are_accepted(settings.options) {
         if any_nowhere(words, floats, t, rake) {
-            return Answered::Refused(35);
+            return Err(Refusal::SeedNowhere);
         }
         let written = trace_all(case, words, floats, t, marks, out, rake, settings);
         answers::put(out, 0, rake.count as u64);
         let all = written + 1;
-        return Answered::Words(all);
+        return Ok(all);
     }
-    Answered::Refused(34)
+    Err(Refusal::WrongOptions)
 }

@@ -14,9 +14,11 @@ ghost use Rattle.lines_locate.specs.Ensures.{HasLimits};
 use crate::vertices;
 use arith::{Vec2, Vec3};
 use arith_angles::{angles, sort};
-use lines_field::{Built, bins, bounds};
+use lines_field::{bins, bounds};
+use lines_locate::Grid;
 use lines_polygon::{Limits, extent};
 use mesh_area::Sizes;
+use refusal::Refusal;
 
 // The quarters and slopes of the first n points about a centre.
 fn angles_about(
@@ -222,7 +224,7 @@ pub fn from_dataset(
     words: &mut [u32],
     floats: &mut [f64],
     s: Sizes,
-) -> Built
+) -> Result<Grid, Refusal>
     requires points_le_most_points { (points ≤ most_points) × (24 * points ≤ length case.now) × LentWords s words.old
         × LentFloats s floats.old }
     requires vertex_limit { VertexLimit (mesh_in (points_in case.now points) s words.old floats.old) }
@@ -235,8 +237,8 @@ pub fn from_dataset(
     let n = bins::bin_counts(s.cells, b);
     let built = bins::grid_for(b, n);
     match built {
-        Built::Refused(_) => {}
-        Built::Made(g) => {
+        Err(_) => {}
+        Ok(g) => {
             bins::index_cells(words, floats, s, g);
         }
     }

@@ -12,7 +12,7 @@ use Rattle.arith.specs.Records.{tab}
 use Rattle.arith.specs.declared.Vec2.{Vec2}
 use Rattle.arith.specs.declared.Vec3.{Vec3}
 use Rattle.arith.proofs.RecordLaws.{tab-next, tab-same, same-below}
-use Rattle.reading.specs.Result.{fine, ◌>>=◌}
+use Rattle.reading.specs.Result.{◌>>=◌, Refusable}
 use Rattle.mesh_area.specs.declared.Sizes.{Sizes}
 use Rattle.mesh_area.specs.Tables.{cell_at}
 use Rattle.mesh_area.specs.Layout.{LentWords, LentFloats, words_end, floats_end, mesh_words, mesh_floats, cell_in, cells_in, mesh_in}
@@ -20,18 +20,18 @@ use Rattle.mesh_area.proofs.LayoutLaws.{cell-in, mesh-same, length-cells_in}
 use Rattle.lines_locate.specs.declared.Box.{Box}
 use Rattle.lines_locate.specs.declared.Bin.{Bin}
 use Rattle.lines_locate.specs.declared.Grid.{Grid}
-use Rattle.lines_field.specs.declared.Built.{Built}
-use Rattle.lines_field.specs.declared.Built.TheVariants.{Made, Refused}
 use Rattle.lines_field.specs.Vertices.{turns_about, cell_vertices, polygon_of}
 use Rattle.lines_field.specs.Bounds.{bounds_of}
 use Rattle.lines_field.specs.Bins.{bin_counts, listed_in}
 use Rattle.lines_field.specs.Ensures.{VertexLimit, polygons_in, vertex_in, vertices_in, PolygonExit, PutPolygonExit, MeshKept, FromDatasetExit}
-use Rattle.lines_field.specs.Field.{polygons_of, grid_for, grid_of, field_of, built_grid}
+use Rattle.lines_field.specs.Field.{polygons_of, grid_for, grid_of, field_of}
 use Rattle.lines_locate.specs.Layout.{words_at, floats_at, count_in, polygon_in, cell_polygons_in, field_in}
 use Rattle.lines_locate.specs.Ensures.{LocateCellEntry}
 use Rattle.lines_polygon.specs.Vertices.{pair_from, pairs_from}
 use Rattle.lines_field.proofs.VertexLaws.{cell-vertices-any}
 use Rattle.lines_field.proofs.GridLaws.{map-tab}
+use Rattle.std.specs.Prelude.{Ok, Err}
+use Rattle.refusal.specs.declared.Refusal.{Refusal}
 
 -- ---- one cell
 
@@ -150,31 +150,31 @@ lent-words s w w' l e = record { few-slots = l.few-slots; few-faces = l.few-face
 pub lent-floats : (s : Sizes) (f f' : List Float) → LentFloats s f → length f' ≡ length f → LentFloats s f'
 lent-floats s f f' l e = record { few-slots = l.few-slots; few-faces = l.few-faces; few-cells = l.few-cells; long = rw e l.long }
 
-module _ (ps : List Vec3) (s : Sizes) (w₀ w : List ℕ) (f₀ f : List Float) (b : Box) (n : Bin) (r : Built)
+module _ (ps : List Vec3) (s : Sizes) (w₀ w : List ℕ) (f₀ f : List Float) (b : Box) (n : Bin) (r : Refusable Grid)
     (polygons : polygons_in s w f ≡ polygons_of (mesh_in ps s w₀ f₀)) (kept : MeshKept s w₀ w f₀ f) (eb : b ≡ bounds_of (flatten (polygons_in s w f))) (en : n ≡ bin_counts s.cells b)
-    (grid : built_grid r ≡ grid_for b n) where
-  result : built_grid r ≡ grid_of s.cells (polygons_of (mesh_in ps s w₀ f₀))
+    (grid : r ≡ grid_for b n) where
+  result : r ≡ grid_of s.cells (polygons_of (mesh_in ps s w₀ f₀))
   unfolding grid_of
   result = grid ∙ rw (en, eb, polygons)
 
-  pub refused-field : (k : ℕ) → r ≡ Refused k → FromDatasetExit (mesh_in ps s w₀ f₀) s w f r × MeshKept s w₀ w f₀ f
+  pub refused-field : (k : Refusal) → r ≡ Err k → FromDatasetExit (mesh_in ps s w₀ f₀) s w f r × MeshKept s w₀ w f₀ f
   refused-field k e =
       (record { result = result; field = λ g q. absurd (never g q); searchable = λ g q. absurd (never g q) }, kept)
     where
-      never : (g : Grid) → r ≡ Made g → ⊥
+      never : (g : Grid) → r ≡ Ok g → ⊥
       never g q = let z : ◌≡◌ {A = ℕ} 0 1 = cc in omega arith
 
-  pub made-field : (g : Grid) (w' : List ℕ) → r ≡ Made g → cell_polygons_in s w' f ≡ map (listed_in g) (polygons_in s w f) → take (words_end s) w' ≡ take (words_end s) w → LocateCellEntry g s w' f
-      → FromDatasetExit (mesh_in ps s w₀ f₀) s w' f (Made g) × MeshKept s w₀ w' f₀ f
+  pub made-field : (g : Grid) (w' : List ℕ) → r ≡ Ok g → cell_polygons_in s w' f ≡ map (listed_in g) (polygons_in s w f) → take (words_end s) w' ≡ take (words_end s) w → LocateCellEntry g s w' f
+      → FromDatasetExit (mesh_in ps s w₀ f₀) s w' f (Ok g) × MeshKept s w₀ w' f₀ f
   made-field g w' e l t se =
       let tw : take (words_end s) w' ≡ take (words_end s) w₀ = t ∙ kept.words in
       rw (← e)
       (record { result = result; field = λ g' q. let i : g ≡ g' = cc in rw (← i) (whole tw); searchable = λ g' q. let i : g ≡ g' = cc in rw (← i) se }, record { words = tw; floats = kept.floats })
     where
-      made : grid_of (length (mesh_in ps s w₀ f₀).cells) (polygons_of (mesh_in ps s w₀ f₀)) ≡ fine g
-      made = unfold mesh_in in rw (length-cells_in s w₀ f₀) (sym result ∙ rw e (unfold built_grid in refl))
+      made : grid_of (length (mesh_in ps s w₀ f₀).cells) (polygons_of (mesh_in ps s w₀ f₀)) ≡ Ok g
+      made = unfold mesh_in in rw (length-cells_in s w₀ f₀) (sym result ∙ e)
 
-      whole : take (words_end s) w' ≡ take (words_end s) w₀ → field_of (mesh_in ps s w₀ f₀) ≡ fine (field_in g s w' f)
+      whole : take (words_end s) w' ≡ take (words_end s) w₀ → field_of (mesh_in ps s w₀ f₀) ≡ Ok (field_in g s w' f)
       whole tw =
           unfold field_of in rw made
           (unfold ◌>>=◌ in unfold field_in in rw (l, polygons, cells_same ps s w₀ w' f₀ f tw kept.floats) (unfold mesh_in in refl))

@@ -18,27 +18,28 @@ use Rattle.arith.specs.declared.Vec2.{Vec2}
 use Rattle.arith.proofs.ListLaws.{foldl-next}
 use Rattle.arith.proofs.RecordLaws.{length-tab, get_or-tab, tab-next, tab-same, drop-tab, drop-end, same-below, lt-or-ge, get_or-puts-out, get_or-puts-at, take-puts}
 use Rattle.arith.proofs.SortLaws.{foldl-append}
-use Rattle.reading.specs.Result.{refuse, ◌>>=◌}
+use Rattle.reading.specs.Result.{refuse, ◌>>=◌, Refusable}
 use Rattle.mesh_area.specs.declared.Sizes.{Sizes}
 use Rattle.mesh_area.specs.Layout.{words_end}
 use Rattle.lines_locate.specs.declared.Box.{Box}
 use Rattle.lines_locate.specs.declared.Bin.{Bin}
 use Rattle.lines_locate.specs.declared.Grid.{Grid}
-use Rattle.lines_field.specs.declared.Built.{Built}
-use Rattle.lines_field.specs.declared.Built.TheVariants.{Made, Refused}
 use Rattle.lines_field.specs.declared.BinSpan.{BinSpan}
 use Rattle.lines_field.specs.Bounds.{boundless, widened, bounds_of, low_corner, high_corner}
 use Rattle.lines_locate.specs.Bins.{CellPolygon, bin_for}
 use Rattle.lines_locate.specs.Ranges.{first_bin, last_bin, Ranged}
 use Rattle.lines_locate.specs.Ensures.{Spread, HasBins}
 use Rattle.lines_field.specs.Bins.{listed_in, are_flat, are_many}
-use Rattle.lines_field.specs.Field.{grid_for, built_grid}
+use Rattle.lines_field.specs.Field.{grid_for}
 use Rattle.lines_locate.specs.Layout.{words_at, floats_at, count_in, polygon_in, bin_from, cell_polygon_in, cell_polygons_in}
 use Rattle.lines_field.specs.Ensures.{polygons_in, bin_word, cell_words, SpanWithin, listed_span, ListCellExit, ListCellsExit}
 use Rattle.lines_polygon.specs.declared.Limits.{Limits}
 use Rattle.lines_polygon.specs.Extent.{limits_from}
 use Rattle.lines_polygon.specs.Vertices.{pair_from, pairs_from}
 use Rattle.lines_polygon.proofs.Laws.{length_pairs, pairs-at}
+use Rattle.std.specs.Prelude.{Ok, Err}
+use Rattle.refusal.specs.declared.Refusal.{Refusal}
+use Rattle.refusal.specs.declared.Refusal.TheVariants.{FlatBounds, TooManyBins}
 
 -- ---- a grid's bounds are not flat
 
@@ -56,28 +57,28 @@ bounds-spread b n e = by (finite b.left) (finite b.bottom) (b.left ≺ b.right) 
 -- ---- 18, 19, or the grid
 
 -- what the answer says
-pub Answer : Built → Box → Bin → Type 0
-Answer r b n = (built_grid r ≡ grid_for b n) × ((g : Grid) → r ≡ Made g → HasBins g)
+pub Answer : Refusable Grid → Box → Bin → Type 0
+Answer r b n = (r ≡ grid_for b n) × ((g : Grid) → r ≡ Ok g → HasBins g)
 
-never : (k : ℕ) (g : Grid) → Refused k ≡ Made g → HasBins g
+never : (k : Refusal) (g : Grid) → Err k ≡ Ok g → HasBins g
 never k g e = absurd (let z : ◌≡◌ {A = ℕ} 0 1 = cc in omega arith)
 
 module _ (b : Box) (n : Bin) where
-  pub grid-flat : are_flat b ≡ true → (built_grid (Refused 18) ≡ grid_for b n) × ((g : Grid) → Refused 18 ≡ Made g → HasBins g)
-  unfolding grid_for built_grid refuse ◌>>=◌
-  grid-flat e = (rw e, never 18)
+  pub grid-flat : are_flat b ≡ true → ((Err FlatBounds) ≡ grid_for b n) × ((g : Grid) → Err FlatBounds ≡ Ok g → HasBins g)
+  unfolding grid_for refuse ◌>>=◌
+  grid-flat e = (rw e, never FlatBounds)
 
-  pub grid-wide : are_flat b ≡ false → 65536 < n.x → (built_grid (Refused 19) ≡ grid_for b n) × ((g : Grid) → Refused 19 ≡ Made g → HasBins g)
-  unfolding grid_for built_grid refuse ◌>>=◌ are_many
-  grid-wide e h = (rw (e, lt-ltb 65536 n.x h), never 19)
+  pub grid-wide : are_flat b ≡ false → 65536 < n.x → ((Err TooManyBins) ≡ grid_for b n) × ((g : Grid) → Err TooManyBins ≡ Ok g → HasBins g)
+  unfolding grid_for refuse ◌>>=◌ are_many
+  grid-wide e h = (rw (e, lt-ltb 65536 n.x h), never TooManyBins)
 
-  pub grid-high : are_flat b ≡ false → n.x ≤ 65536 → 65536 < n.y → (built_grid (Refused 19) ≡ grid_for b n) × ((g : Grid) → Refused 19 ≡ Made g → HasBins g)
-  unfolding grid_for built_grid refuse ◌>>=◌ are_many
-  grid-high e k h = (rw (e, le-ltb 65536 n.x k, lt-ltb 65536 n.y h), never 19)
+  pub grid-high : are_flat b ≡ false → n.x ≤ 65536 → 65536 < n.y → ((Err TooManyBins) ≡ grid_for b n) × ((g : Grid) → Err TooManyBins ≡ Ok g → HasBins g)
+  unfolding grid_for refuse ◌>>=◌ are_many
+  grid-high e k h = (rw (e, le-ltb 65536 n.x k, lt-ltb 65536 n.y h), never TooManyBins)
 
   pub grid-made : are_flat b ≡ false → n.x ≤ 65536 → n.y ≤ 65536 → 0 < n.x → 0 < n.y
-      → (built_grid (Made (record { bounds = b; bins = n })) ≡ grid_for b n) × ((g : Grid) → Made (record { bounds = b; bins = n }) ≡ Made g → HasBins g)
-  unfolding grid_for built_grid refuse ◌>>=◌ are_many
+      → (◌≡◌ {A = Refusable Grid} (Ok (record { bounds = b; bins = n })) (grid_for b n)) × ((g : Grid) → ◌≡◌ {A = Refusable Grid} (Ok (record { bounds = b; bins = n })) (Ok g) → HasBins g)
+  unfolding grid_for refuse ◌>>=◌ are_many
   grid-made e k h x y = (
     rw (e, le-ltb 65536 n.x k, le-ltb 65536 n.y h),
     λ g w. let i : record { bounds = b; bins = n } ≡ g = cc in rw (← i) (record { wide = x; high = y; few-wide = k; few-high = h; spread = bounds-spread b n e }),

@@ -99,7 +99,7 @@ module _ (c : Vec3) (xs ys : List Float) (q : List ℕ) (s : List Float) (n : �
       let l2 : length (up_to n) ≡ n = unfold up_to in length-tab (λ i. i) n in
       let lp : length part ≡ n = ap length (rw lq at e) ∙ l1 ∙ l2 in
       let t : take n (part ++ drop n places) ≡ sorted_places (take n q) (take n s) n = take_at part (drop n places) n lp ∙ rw lq at e in
-      (sorted-vertices (part ++ drop n places) t, λ k h. place-below (take n q) (take n s) (part ++ drop n places) n k t h)
+      (sorted-vertices (part ++ drop n places) t, λ k h. rw (get_or-take n (part ++ drop n places) k 0 h) at (place-below (take n q) (take n s) (part ++ drop n places) n k t h))
 
 -- ---- storing, one point after another
 

@@ -4,7 +4,7 @@
 -- `polygon`: `PolygonExit`. `store_polygon` and `put_polygon`: `PutPolygonExit`. `limit_cell`: `LimitCellExit`.
 -- `bin_word`, `cell_words`, `SpanWithin`, `listed_span`: the words of a cell. `list_cell`: `ListCellExit`. `list_cells`: `ListCellsExit`.
 -- `from_dataset`: `FromDatasetExit`. `bin_counts`: `BinCountsExit`. `VertexLimit`: what the mesh promises.
-use Rattle.std.specs.Prelude.{ℕ, ◌+◌, ◌*◌, ◌≤◌, ◌<◌, ◌≡◌, List, [], ◌∷◌, map, get_or, take, drop, length, Float}
+use Rattle.std.specs.Prelude.{ℕ, ◌+◌, ◌*◌, ◌≤◌, ◌<◌, ◌≡◌, List, [], ◌∷◌, map, get_or, take, drop, length, Float, Ok}
 use Rattle.std.specs.Float.{nan}
 use Rattle.arith.specs.Limits.{most_bins}
 use Rattle.arith.specs.Records.{tab}
@@ -13,7 +13,6 @@ use Rattle.arith.specs.declared.Vec2.{Vec2}
 use Rattle.arith.specs.declared.Vec3.{Vec3}
 use Rattle.arith_angles.specs.Angle.{angle_of}
 use Rattle.arith_angles.specs.Sort.{angle_at}
-use Rattle.reading.specs.Result.{fine}
 use Rattle.mesh_area.specs.declared.Sizes.{Sizes}
 use Rattle.mesh_area.specs.Tables.{Mesh, cell_at}
 use Rattle.mesh_area.specs.Layout.{words_end, floats_end}
@@ -23,13 +22,12 @@ use Rattle.lines_locate.specs.Layout.{words_at, floats_at, polygon_in, cell_poly
 use Rattle.lines_locate.specs.Ranges.{Ranged}
 use Rattle.lines_locate.specs.Ensures.{HasRanges, LocateCellEntry}
 use Rattle.lines_field.specs.declared.BinSpan.{BinSpan}
-use Rattle.lines_field.specs.declared.Built.{Built}
-use Rattle.lines_field.specs.declared.Built.TheVariants.{Made}
 use Rattle.lines_field.specs.Vertices.{about, cell_vertices}
 use Rattle.lines_field.specs.Bins.{listed_in, bin_counts}
-use Rattle.lines_field.specs.Field.{grid_of, polygons_of, field_of, built_grid}
+use Rattle.lines_field.specs.Field.{grid_of, polygons_of, field_of}
 use Rattle.lines_locate.specs.declared.Bin.{Bin}
 use Rattle.lines_locate.specs.declared.Box.{Box}
+use Rattle.reading.specs.Result.{Refusable}
 
 -- the polygons of all cells that the area holds
 unfoldable pub polygons_in : Sizes → List ℕ → List Float → List (List Vec2)
@@ -112,10 +110,10 @@ pub record LimitCellExit (s : Sizes) (w : List ℕ) (f f' : List Float) (i : ℕ
   pub mesh : take (floats_end s) f' ≡ take (floats_end s) f
 
 -- the refusal, or the field of the mesh
-pub record FromDatasetExit (m : Mesh) (s : Sizes) (words' : List ℕ) (floats' : List Float) (r : Built) : Type 0 where
-  pub result : built_grid r ≡ grid_of s.cells (polygons_of m)
-  pub field : (g : Grid) → r ≡ Made g → field_of m ≡ fine (field_in g s words' floats')
-  pub searchable : (g : Grid) → r ≡ Made g → LocateCellEntry g s words' floats'
+pub record FromDatasetExit (m : Mesh) (s : Sizes) (words' : List ℕ) (floats' : List Float) (r : Refusable Grid) : Type 0 where
+  pub result : r ≡ grid_of s.cells (polygons_of m)
+  pub field : (g : Grid) → r ≡ Ok g → field_of m ≡ Ok (field_in g s words' floats')
+  pub searchable : (g : Grid) → r ≡ Ok g → LocateCellEntry g s words' floats'
 
 -- what `bin_counts` promises
 pub record BinCountsExit (cells : ℕ) (b : Box) (n : Bin) : Type 0 where

@@ -11,14 +11,15 @@ ghost use Rattle.lines_field.specs.Bins.{listed_in};
 ghost use Rattle.lines_polygon.specs.Vertices.{pairs_from};
 ghost use Rattle.lines_locate.specs.Ranges.{first_bin, last_bin};
 ghost use Rattle.lines_field.specs.Ensures.{BinCountsExit, polygons_in, bin_word, SpanWithin, cell_words, listed_span, ListCellExit, ListCellsExit};
-ghost use Rattle.lines_field.specs.Field.{grid_for, built_grid};
+ghost use Rattle.lines_field.specs.Field.{grid_for};
 ghost use Rattle.lines_locate.specs.Layout.{cell_polygons_in};
 
-use crate::{BinSpan, Built, bounds};
+use crate::{BinSpan, bounds};
 use arith::{Vec2, float};
 use lines_locate::{Bin, Box, Grid};
 use lines_polygon::{Limits, extent};
 use mesh_area::Sizes;
+use refusal::Refusal;
 
 // How many bins for a length whose square is x.
 fn bin_count(x: f64) -> usize
@@ -57,20 +58,20 @@ fn are_flat(b: Box) -> bool
 }
 
 // The grid, or the refusal.
-pub fn grid_for(b: Box, n: Bin) -> Built
+pub fn grid_for(b: Box, n: Bin) -> Result<Grid, Refusal>
     requires { (0 < n.x) × (0 < n.y) }
-    ensures { (built_grid result ≡ grid_for b n) × ((g : Grid) → result ≡ Built.Made g → HasBins g) }
+    ensures { (result ≡ grid_for b n) × ((g : Grid) → result ≡ Ok g → HasBins g) }
 {
     if are_flat(b) {
-        return Built::Refused(18);
+        return Err(Refusal::FlatBounds);
     }
     if n.x > 65536 {
-        return Built::Refused(19);
+        return Err(Refusal::TooManyBins);
     }
     if n.y > 65536 {
-        return Built::Refused(19);
+        return Err(Refusal::TooManyBins);
     }
-    Built::Made(Grid { bounds: b, bins: n })
+    Ok(Grid { bounds: b, bins: n })
 }
 
 // A bin in one word.

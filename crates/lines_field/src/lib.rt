@@ -6,13 +6,6 @@ pub mod bounds;
 
 use lines_locate::{Bin, Grid};
 
-// The grid of a field that was built, or the refusal.
-#[derive(Clone, Copy)]
-pub enum Built {
-    Made(Grid),
-    Refused(u64),
-}
-
 // Bins from the first to the last, each way.
 #[derive(Clone, Copy)]
 struct BinSpan {

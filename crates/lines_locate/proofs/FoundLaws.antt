@@ -10,8 +10,6 @@ use Rattle.arith.specs.F64.{finite}
 use Rattle.arith.specs.Lists.{first_from}
 use Rattle.arith.specs.declared.Vec2.{Vec2}
 use Rattle.arith.specs.declared.Vec3.{Vec3}
-use Rattle.arith.specs.declared.Found.{Found}
-use Rattle.arith.specs.declared.Found.TheVariants.{At, Nothing}
 use Rattle.mesh_area.specs.declared.Sizes.{Sizes}
 use Rattle.lines_polygon.specs.declared.Position.{Position}
 use Rattle.lines_polygon.specs.Contains.{position, is_within, contains}
@@ -27,27 +25,29 @@ use Rattle.lines_locate.specs.Locate.{is_found, xy_of, is_searched, holds, locat
 use Rattle.lines_locate.specs.Ensures.{first_holding, nowhere}
 use Rattle.lines_locate.proofs.LocateLaws.{cell_polygon-at}
 use Rattle.lines_locate.proofs.SearchLaws.{bins-bettered}
+use Rattle.std.specs.Prelude.{Some, None}
+use Rattle.std.specs.declared.option.Option.{Option}
 
-nothing-found : {i : ℕ} → Nothing ≡ At i → ⊥
+nothing-found : {i : ℕ} → None ≡ Some i → ⊥
 nothing-found e = let z : ◌≡◌ {A = ℕ} 0 1 = cc in omega arith
 
 -- the element that was found is in the list, and passes the test
 module _ {A : Type 0} (p : A → Bool) (d : A) (i : ℕ) (G : Type 0) where
-  passed : (l : List A) (k : ℕ) → first_from p k l ≡ At i → ((j : ℕ) → i ≡ k + j → j < length l → p (get_or l j d) ≡ true → G) → G
+  passed : (l : List A) (k : ℕ) → first_from p k l ≡ Some i → ((j : ℕ) → i ≡ k + j → j < length l → p (get_or l j d) ≡ true → G) → G
   unfolding first_from
   passed [] k e then = absurd (nothing-found e)
   passed (a ∷ l) k e then = by (p a) refl e (λ f. passed l (suc k) f (λ j m h t. then (suc j) (omega arith) (omega arith) t))
     where
-      by : (t : Bool) → p a ≡ t → elim t as (λ _. Found) [ true ↦ At k | false ↦ first_from p (suc k) l ] ≡ At i → (first_from p (suc k) l ≡ At i → G) → G
+      by : (t : Bool) → p a ≡ t → elim t as (λ _. Option ℕ) [ true ↦ Some k | false ↦ first_from p (suc k) l ] ≡ Some i → (first_from p (suc k) l ≡ Some i → G) → G
       by true h f g = let same : i ≡ k = cc in then 0 (omega arith) (omega arith) h
       by false h f g = g f
 
-pub found_at : (search : Search) (g : Grid) (cells : List CellPolygon) (p : Vec3) (i : ℕ) → locate search g cells p ≡ At i
+pub found_at : (search : Search) (g : Grid) (cells : List CellPolygon) (p : Vec3) (i : ℕ) → locate search g cells p ≡ Some i
     → (i < length cells) × (contains (xy_of p) (cell_polygon_at cells i).polygon ≡ true)
 unfolding locate locate_where cell_polygon_at holds
 found_at search g cells p i e = by (finite p.x && finite p.y) e
   where
-    by : (t : Bool) → locate_where t search g cells (xy_of p) ≡ At i → (i < length cells) × (contains (xy_of p) (cell_polygon_at cells i).polygon ≡ true)
+    by : (t : Bool) → locate_where t search g cells (xy_of p) ≡ Some i → (i < length cells) × (contains (xy_of p) (cell_polygon_at cells i).polygon ≡ true)
     by false k = absurd (nothing-found {i = i} k)
     by true k =
         passed (holds search (bin_for g (xy_of p)) (xy_of p)) no_polygon i _ cells 0 k
@@ -56,11 +56,11 @@ found_at search g cells p i e = by (finite p.x && finite p.y) e
         let k = both (is_searched search (bin_for g (xy_of p)) (get_or cells j no_polygon)) (contains (xy_of p) (get_or cells j no_polygon).polygon) t in
         (rw same at h, rw same at k.1))
 
-pub found-finite : (search : Search) (g : Grid) (cells : List CellPolygon) (p : Vec3) (i : ℕ) → locate search g cells p ≡ At i → (finite p.x ≡ true) × (finite p.y ≡ true)
+pub found-finite : (search : Search) (g : Grid) (cells : List CellPolygon) (p : Vec3) (i : ℕ) → locate search g cells p ≡ Some i → (finite p.x ≡ true) × (finite p.y ≡ true)
 unfolding locate locate_where
 found-finite search g cells p i e = both (finite p.x) (finite p.y) (by (finite p.x && finite p.y) e)
   where
-    by : (t : Bool) → locate_where t search g cells (xy_of p) ≡ At i → t ≡ true
+    by : (t : Bool) → locate_where t search g cells (xy_of p) ≡ Some i → t ≡ true
     by false k = absurd (nothing-found {i = i} k)
     by true k = refl
 
@@ -76,9 +76,9 @@ pub located-within : (search : Search) (g : Grid) (cells : List CellPolygon) (p 
 unfolding FoundWithin located with_position position_in is_found contains is_within
 located-within search g cells p = by (locate search g cells p) refl
   where
-    by : (found : Found) → locate search g cells p ≡ found → is_found found ≡ is_within (position_in cells (xy_of p) found)
-    by (At i) e = sym (found_at search g cells p i e).1
-    by Nothing e = refl
+    by : (found : Option ℕ) → locate search g cells p ≡ found → is_found found ≡ is_within (position_in cells (xy_of p) found)
+    by (Some i) e = sym (found_at search g cells p i e).1
+    by None e = refl
 
 -- ---- one turn: the cell that holds the point, and where the point lies to it
 
@@ -94,15 +94,15 @@ module _ (s : Sizes) (w : List ℕ) (f : List Float) (i : ℕ) (search : Search)
       rw (sym (et f) ∙ e) (eu ∙ ap is_within same)
 
 module _ (s : Sizes) (w : List ℕ) (f : List Float) (search : Search) (b : Bin) (q : Vec2) where
-  pub held-here : (i : ℕ) (r : Position) → i < s.cells → At i ≡ first_from (holds search b q) 0 (cell_polygons_in s w f) → r ≡ position q (polygon_in s w f i)
-      → record { cell = At i; position = r } ≡ first_holding search b q (cell_polygons_in s w f)
+  pub held-here : (i : ℕ) (r : Position) → i < s.cells → Some i ≡ first_from (holds search b q) 0 (cell_polygons_in s w f) → r ≡ position q (polygon_in s w f i)
+      → record { cell = Some i; position = r } ≡ first_holding search b q (cell_polygons_in s w f)
   unfolding first_holding with_position position_in cell_polygon_at
   held-here i r l e h =
       let there : get_or (cell_polygons_in s w f) i no_polygon ≡ cell_polygon_in s w f i = cell_polygon-at s w f i no_polygon l in
       let same : r ≡ position q (cell_polygon_in s w f i).polygon = (unfold cell_polygon_in in h) in
       rw (sym e, there, same)
 
-  pub held-nowhere : (r : Located) → r ≡ nowhere → Nothing ≡ first_from (holds search b q) 0 (cell_polygons_in s w f) → r ≡ first_holding search b q (cell_polygons_in s w f)
+  pub held-nowhere : (r : Located) → r ≡ nowhere → None ≡ first_from (holds search b q) 0 (cell_polygons_in s w f) → r ≡ first_holding search b q (cell_polygons_in s w f)
   unfolding first_holding with_position position_in nowhere
   held-nowhere r h e = rw (sym e, h)
 

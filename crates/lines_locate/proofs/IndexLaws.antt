@@ -10,8 +10,6 @@ use lib.Dec.{eqb}
 use borrow.Author.Tests.{eqb-true}
 use lib.Ieee.{Float}
 use Rattle.arith.specs.Lists.{first_from}
-use Rattle.arith.specs.declared.Found.{Found}
-use Rattle.arith.specs.declared.Found.TheVariants.{At, Nothing}
 use Rattle.mesh_area.specs.declared.Sizes.{Sizes}
 use Rattle.mesh_area.specs.Layout.{words_end}
 use Rattle.lines_bins.specs.Index.{in_bin, pool_in, head_in, Chain}
@@ -21,13 +19,15 @@ use Rattle.lines_locate.specs.declared.Bin.{Bin}
 use Rattle.lines_locate.specs.Bins.{CellPolygon}
 use Rattle.lines_locate.specs.Layout.{cell_polygon_in, cell_polygons_in}
 use Rattle.lines_locate.proofs.LocateLaws.{locate-here, locate-next, locate-end}
+use Rattle.std.specs.Prelude.{Some, None}
+use Rattle.std.specs.declared.option.Option.{Option}
 
 -- ---- along the chain of a bin, of which the cells that it does not list fail a test
 
 module _ (s : Sizes) (w : List ℕ) (f : List Float) (p : CellPolygon → Bool) (c : Bin)
     (out : (j : ℕ) → j < s.cells → in_bin w (words_end s) c.x c.y j ≡ false → p (cell_polygon_in s w f j) ≡ false) where
   -- past cells that are not listed
-  past : (d i : ℕ) (r : Found) → first_from p i (drop i (cell_polygons_in s w f)) ≡ r → i + d ≤ s.cells → ((j : ℕ) → i ≤ j → j < i + d → in_bin w (words_end s) c.x c.y j ≡ false)
+  past : (d i : ℕ) (r : Option ℕ) → first_from p i (drop i (cell_polygons_in s w f)) ≡ r → i + d ≤ s.cells → ((j : ℕ) → i ≤ j → j < i + d → in_bin w (words_end s) c.x c.y j ≡ false)
       → first_from p (i + d) (drop (i + d) (cell_polygons_in s w f)) ≡ r
   past zero i r inv le off = let e : i + 0 ≡ i = omega arith in rw e inv
   past (suc d) i r inv le off =
@@ -35,7 +35,7 @@ module _ (s : Sizes) (w : List ℕ) (f : List Float) (p : CellPolygon → Bool) 
       let on = locate-next s w f p i r inv _ (omega arith) refl (out i (omega arith) (off i (le_refl i) (omega arith))) in
       rw e (past d (i + 1) r on (omega arith) (λ j l h. off j (omega arith) (omega arith)))
 
-  past_to : (i k : ℕ) (r : Found) → first_from p i (drop i (cell_polygons_in s w f)) ≡ r → i ≤ k → k ≤ s.cells → ((j : ℕ) → i ≤ j → j < k → in_bin w (words_end s) c.x c.y j ≡ false)
+  past_to : (i k : ℕ) (r : Option ℕ) → first_from p i (drop i (cell_polygons_in s w f)) ≡ r → i ≤ k → k ≤ s.cells → ((j : ℕ) → i ≤ j → j < k → in_bin w (words_end s) c.x c.y j ≡ false)
       → first_from p k (drop k (cell_polygons_in s w f)) ≡ r
   past_to i k r inv le hi off =
       let e : i + (k - i) ≡ k = omega arith in
@@ -75,7 +75,7 @@ module _ (s : Sizes) (w : List ℕ) (f : List Float) (p : CellPolygon → Bool) 
       → first_from p k (drop k (cell_polygons_in s w f)) ≡ first_from p 0 (cell_polygons_in s w f)
   past-here k le hi off = past_to s w f p g.bin g.out g.at k _ g.same le hi off
 
-  pub go-end : h ≡ 0 → Nothing ≡ first_from p 0 (cell_polygons_in s w f)
+  pub go-end : h ≡ 0 → None ≡ first_from p 0 (cell_polygons_in s w f)
   go-end z =
       locate-end s w f p s.cells _ (past-here s.cells g.below (le_refl s.cells) (closed g.some g.chain z)) (le_refl s.cells)
 
@@ -96,7 +96,7 @@ module _ (s : Sizes) (w : List ℕ) (f : List Float) (p : CellPolygon → Bool) 
       here : first_from p i (drop i (cell_polygons_in s w f)) ≡ first_from p 0 (cell_polygons_in s w f)
       here = let l = o.low in rw ei (past-here (pool_in w (words_end s) s.cells h) o.from (omega arith) o.gap)
 
-      pub go-hit : (t : Bool) → t ≡ p (cell_polygon_in s w f i) → t ≡ true → At i ≡ first_from p 0 (cell_polygons_in s w f)
+      pub go-hit : (t : Bool) → t ≡ p (cell_polygon_in s w f i) → t ≡ true → Some i ≡ first_from p 0 (cell_polygons_in s w f)
       go-hit t et e = locate-here s w f p i _ here t go-cell et e
 
       pub go-turn : (t : Bool) (h' : ℕ) → t ≡ p (cell_polygon_in s w f i) → t ≡ false → h' ≡ pool_in w (words_end s) s.cells (h + 1) → Going s w f p h'

@@ -7,8 +7,6 @@ use lib.ListN.{length, get_or, drop}
 use lib.Ieee.{Float}
 use Rattle.arith.specs.Lists.{first_from}
 use Rattle.arith.specs.declared.Vec2.{Vec2}
-use Rattle.arith.specs.declared.Found.{Found}
-use Rattle.arith.specs.declared.Found.TheVariants.{At, Nothing}
 use Rattle.arith.proofs.ListLaws.{first-here, first_next}
 use Rattle.arith.proofs.RecordLaws.{length-tab, get_or-tab, drop-end}
 use Rattle.mesh_area.specs.declared.Sizes.{Sizes}
@@ -23,6 +21,8 @@ use Rattle.lines_polygon.specs.Extent.{limits_from, misses}
 use Rattle.lines_polygon.proofs.LimitLaws.{missed}
 use Rattle.lines_locate.specs.Layout.{floats_at, count_in, polygon_in, cell_polygon_in, cell_polygons_in}
 use Rattle.lines_locate.specs.Ensures.{HasLimits}
+use Rattle.std.specs.Prelude.{Some, None}
+use Rattle.std.specs.declared.option.Option.{Option}
 
 module _ (s : Sizes) (words : List ℕ) (floats : List Float) where
   pub length-cell_polygons : length (cell_polygons_in s words floats) ≡ s.cells
@@ -33,11 +33,11 @@ module _ (s : Sizes) (words : List ℕ) (floats : List Float) where
   unfolding cell_polygons_in
   cell_polygon-at i d h = get_or-tab (cell_polygon_in s words floats) s.cells i d h
 
-  module _ (h : CellPolygon → Bool) (i : ℕ) (r : Found) (inv : first_from h i (drop i (cell_polygons_in s words floats)) ≡ r) where
+  module _ (h : CellPolygon → Bool) (i : ℕ) (r : Option ℕ) (inv : first_from h i (drop i (cell_polygons_in s words floats)) ≡ r) where
     in-range : i < s.cells → i < length (cell_polygons_in s words floats)
     in-range l = rw length-cell_polygons l
 
-    pub locate-here : (t : Bool) → i < s.cells → t ≡ h (cell_polygon_in s words floats i) → t ≡ true → At i ≡ r
+    pub locate-here : (t : Bool) → i < s.cells → t ≡ h (cell_polygon_in s words floats i) → t ≡ true → Some i ≡ r
     locate-here t l e w =
         sym (first-here (cell_polygons_in s words floats) i (cell_polygon_in s words floats i) (in-range l) h (rw (cell_polygon-at i (cell_polygon_in s words floats i) l) (sym e ∙ w))) ∙ inv
 
@@ -46,7 +46,7 @@ module _ (s : Sizes) (words : List ℕ) (floats : List Float) where
     locate-next t l e w =
         sym (first_next (cell_polygons_in s words floats) i (cell_polygon_in s words floats i) (in-range l) h (rw (cell_polygon-at i (cell_polygon_in s words floats i) l) (sym e ∙ w))) ∙ inv
 
-    pub locate-end : s.cells ≤ i → Nothing ≡ r
+    pub locate-end : s.cells ≤ i → None ≡ r
     unfolding first_from
     locate-end l =
         let none : drop i (cell_polygons_in s words floats) ≡ [] = drop-end (cell_polygons_in s words floats) i (rw length-cell_polygons l) in

@@ -9,8 +9,6 @@ use Rattle.arith.specs.F64.{finite}
 use Rattle.arith.specs.Lists.{first_from}
 use Rattle.arith.specs.declared.Vec2.{Vec2}
 use Rattle.arith.specs.declared.Vec3.{Vec3}
-use Rattle.arith.specs.declared.Found.{Found}
-use Rattle.arith.specs.declared.Found.TheVariants.{At}
 use Rattle.lines_polygon.specs.Contains.{contains}
 use Rattle.lines_polygon.proofs.LimitLaws.{both}
 use Rattle.lines_locate.specs.declared.Bin.{Bin}
@@ -19,16 +17,18 @@ use Rattle.lines_locate.specs.declared.Search.{Search}
 use Rattle.lines_locate.specs.declared.Search.TheVariants.{Bins, All}
 use Rattle.lines_locate.specs.Bins.{CellPolygon, bin_for, is_listed}
 use Rattle.lines_locate.specs.Locate.{is_searched, holds, locate_where, locate, xy_of, AtOrBelow}
+use Rattle.std.specs.Prelude.{Some}
+use Rattle.std.specs.declared.option.Option.{Option}
 
 -- ---- the first of a list that passes a test that asks for less
 
 module _ {A : Type 0} where
-  no-earlier : (r : A → Bool) (k i : ℕ) (l : List A) → k ≤ i → AtOrBelow (At k) (first_from r i l)
+  no-earlier : (r : A → Bool) (k i : ℕ) (l : List A) → k ≤ i → AtOrBelow (Some k) (first_from r i l)
   unfolding first_from AtOrBelow
   no-earlier r k i [] h = tt
   no-earlier r k i (a ∷ l) h = by (r a) (no-earlier r k (suc i) l (omega arith))
     where
-      by : (t : Bool) → AtOrBelow (At k) (first_from r (suc i) l) → AtOrBelow (At k) (elim t as (λ _. Found) [ true ↦ At i | false ↦ first_from r (suc i) l ])
+      by : (t : Bool) → AtOrBelow (Some k) (first_from r (suc i) l) → AtOrBelow (Some k) (elim t as (λ _. Option ℕ) [ true ↦ Some i | false ↦ first_from r (suc i) l ])
       by true n = h
       by false n = n
 
@@ -38,7 +38,7 @@ module _ {A : Type 0} where
   sooner p r h i (a ∷ l) = by (p a) refl (r a) refl (sooner p r h (suc i) l)
     where
       by : (t : Bool) → p a ≡ t → (u : Bool) → r a ≡ u → AtOrBelow (first_from p (suc i) l) (first_from r (suc i) l)
-          → AtOrBelow (elim t as (λ _. Found) [ true ↦ At i | false ↦ first_from p (suc i) l ]) (elim u as (λ _. Found) [ true ↦ At i | false ↦ first_from r (suc i) l ])
+          → AtOrBelow (elim t as (λ _. Option ℕ) [ true ↦ Some i | false ↦ first_from p (suc i) l ]) (elim u as (λ _. Option ℕ) [ true ↦ Some i | false ↦ first_from r (suc i) l ])
       by true e true f n = le_refl i
       by true e false f n = no-earlier r i (suc i) l (omega arith)
       by false e true f n = absurd (true≢false (sym (h a f) ∙ e))

@@ -1,10 +1,9 @@
 -- What `locate_cell` and its parts need of the work area, and what its parts answer.
-use Rattle.std.specs.Prelude.{ℕ, ◌+◌, ◌<◌, ◌≤◌, ◌≡◌, true, List, Float}
+use Rattle.std.specs.Prelude.{ℕ, ◌+◌, ◌<◌, ◌≤◌, ◌≡◌, true, List, Float, None}
 use Rattle.arith.specs.F64.{◌≺◌, finite}
 use Rattle.arith.specs.Limits.{most_bins}
 use Rattle.arith.specs.Lists.{first_from}
 use Rattle.arith.specs.declared.Vec2.{Vec2}
-use Rattle.arith.specs.declared.Found.TheVariants.{Nothing}
 use Rattle.mesh_area.specs.declared.Sizes.{Sizes}
 use Rattle.mesh_area.specs.Layout.{words_end}
 use Rattle.lines_bins.specs.Index.{flag_in}
@@ -56,4 +55,4 @@ first_holding search b q cells = with_position cells q (first_from (holds search
 
 -- no cell
 unfoldable pub nowhere : Located
-nowhere = record { cell = Nothing; position = Outside }
+nowhere = record { cell = None; position = Outside }

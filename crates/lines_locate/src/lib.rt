@@ -20,7 +20,7 @@ ghost use Rattle.lines_locate.specs.Layout as Layout;
 ghost use Rattle.lines_locate.specs.Ensures as Ensures;
 
 use arith::number::wide;
-use arith::{Found, Vec2, Vec3, float};
+use arith::{Vec2, Vec3, float};
 use lines_polygon::{Position, extent};
 use mesh_area::Sizes;
 
@@ -57,7 +57,7 @@ pub enum Search {
 // The cell that a point locates in, and where the point lies to its polygon; outside where there is none.
 #[derive(Clone, Copy)]
 pub struct Located {
-    pub cell: Found,
+    pub cell: Option<usize>,
     pub position: Position,
 }
 
@@ -66,7 +66,7 @@ fn nowhere() -> Located
     ensures { result ≡ Ensures.nowhere }
 {
     Located {
-        cell: Found::Nothing,
+        cell: None,
         position: Position::Outside,
     }
 }
@@ -266,7 +266,7 @@ fn first_holding(
                 let position = position_in(words, floats, s, q, i);
                 if lines_polygon::is_within(position) {
                     return Located {
-                        cell: Found::At(i),
+                        cell: Some(i),
                         position,
                     };
                 }
@@ -313,7 +313,7 @@ fn first_indexed(
                 let position = position_in(words, floats, s, q, i);
                 if lines_polygon::is_within(position) {
                     return Located {
-                        cell: Found::At(i),
+                        cell: Some(i),
                         position,
                     };
                 }

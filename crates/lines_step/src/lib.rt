@@ -9,10 +9,10 @@ ghost use Rattle.lines_velocity.specs.Ensures.{tracer_field, TracerEntry};
 ghost use Rattle.lines_step.specs.RungeKutta as RungeKutta;
 ghost use Rattle.lines_step.specs.Step as Steps;
 
-use arith::{Found, Vec3, float};
+use arith::{Vec3, float};
 use case_file::field;
+use lines_velocity::Tracer;
 use lines_velocity::interpolate::{direction_at, locate};
-use lines_velocity::{Tracer, Vector};
 
 // The next point with its segment length, or that the line ends.
 #[derive(Clone, Copy)]
@@ -56,7 +56,7 @@ fn fourth(
     k1: Vec3,
     k2: Vec3,
     k3: Vec3,
-) -> Vector
+) -> Option<Vec3>
     requires { TracerEntry case.now words.now floats.now t }
     ensures { Served (RungeKutta.fourth
         (direction_at (tracer_field t case.now words.now floats.now)
@@ -65,11 +65,8 @@ fn fourth(
         (values_of case.now) marks.old marks.new result }
 {
     let q = start.point.add(k3.scale(start.step));
-    let Vector::Here(k4) = direction_at(case, words, floats, t, marks, q, start.stagnation_speed)
-    else {
-        return Vector::Nowhere;
-    };
-    Vector::Here(weighed(start.step, start.point, k1, k2, k3, k4))
+    let k4 = direction_at(case, words, floats, t, marks, q, start.stagnation_speed)?;
+    Some(weighed(start.step, start.point, k1, k2, k3, k4))
 }
 
 // From the second direction on.
@@ -82,7 +79,7 @@ fn third(
     start: StepStart,
     k1: Vec3,
     k2: Vec3,
-) -> Vector
+) -> Option<Vec3>
     requires { TracerEntry case.now words.now floats.now t }
     ensures { Served (RungeKutta.third
         (direction_at (tracer_field t case.now words.now floats.now)
@@ -91,10 +88,7 @@ fn third(
         (values_of case.now) marks.old marks.new result }
 {
     let q = start.point.add(k2.scale(start.step * 0.5));
-    let Vector::Here(k3) = direction_at(case, words, floats, t, marks, q, start.stagnation_speed)
-    else {
-        return Vector::Nowhere;
-    };
+    let k3 = direction_at(case, words, floats, t, marks, q, start.stagnation_speed)?;
     fourth(case, words, floats, t, marks, start, k1, k2, k3)
 }
 
@@ -107,7 +101,7 @@ fn second(
     marks: &mut [u8],
     start: StepStart,
     k1: Vec3,
-) -> Vector
+) -> Option<Vec3>
     requires { TracerEntry case.now words.now floats.now t }
     ensures { Served (RungeKutta.second
         (direction_at (tracer_field t case.now words.now floats.now)
@@ -116,10 +110,7 @@ fn second(
         (values_of case.now) marks.old marks.new result }
 {
     let q = start.point.add(k1.scale(start.step * 0.5));
-    let Vector::Here(k2) = direction_at(case, words, floats, t, marks, q, start.stagnation_speed)
-    else {
-        return Vector::Nowhere;
-    };
+    let k2 = direction_at(case, words, floats, t, marks, q, start.stagnation_speed)?;
     third(case, words, floats, t, marks, start, k1, k2)
 }
 
@@ -131,24 +122,15 @@ fn runge_kutta(
     t: Tracer,
     marks: &mut [u8],
     start: StepStart,
-) -> Vector
+) -> Option<Vec3>
     requires { TracerEntry case.now words.now floats.now t }
     ensures { Served (RungeKutta.runge_kutta
         (direction_at (tracer_field t case.now words.now floats.now)
         start.stagnation_speed)
         start.step start.point) (values_of case.now) marks.old marks.new result }
 {
-    let Vector::Here(k1) = direction_at(
-        case,
-        words,
-        floats,
-        t,
-        marks,
-        start.point,
-        start.stagnation_speed,
-    ) else {
-        return Vector::Nowhere;
-    };
+    let p = start.point;
+    let k1 = direction_at(case, words, floats, t, marks, p, start.stagnation_speed)?;
     second(case, words, floats, t, marks, start, k1)
 }
 
@@ -160,31 +142,25 @@ fn rk4_step(
     t: Tracer,
     marks: &mut [u8],
     start: StepStart,
-) -> Vector
+) -> Option<Vec3>
     requires { TracerEntry case.now words.now floats.now t }
     ensures { Served (Steps.rk4_step
         (tracer_field t case.now words.now floats.now)
         start.stagnation_speed start.step start.point)
         (values_of case.now) marks.old marks.new result }
 {
-    let Vector::Here(q) = runge_kutta(case, words, floats, t, marks, start) else {
-        return Vector::Nowhere;
-    };
-    let found = locate(words, floats, t, q);
-    let cell = found.cell;
-    let Found::At(i) = cell else {
-        return Vector::Nowhere;
-    };
+    let q = runge_kutta(case, words, floats, t, marks, start)?;
+    let i = locate(words, floats, t, q).cell?;
     if field::zone(case, t.counts, i) == t.home {
-        Vector::Here(q)
+        Some(q)
     } else {
-        Vector::Nowhere
+        None
     }
 }
 
 // The next point q with its segment, where the line may go on to it.
 fn within_length(longest: f64, p: Vec3, total: f64, q: Vec3) -> Step
-    ensures { result ≡ Steps.within_length longest p total (Vector.Here q) }
+    ensures { result ≡ Steps.within_length longest p total (Some q) }
 {
     let segment = q.sub(p).norm();
     if float::is_finite(segment) {
@@ -218,7 +194,7 @@ pub fn line_step(
         step: h,
         stagnation_speed: options.stagnation_speed,
     };
-    let Vector::Here(q) = rk4_step(case, words, floats, t, marks, start) else {
+    let Some(q) = rk4_step(case, words, floats, t, marks, start) else {
         return Step::Ended;
     };
     within_length(options.max_length, p, total, q)

@@ -8,7 +8,6 @@ use lib.ListN.{length, get_or}
 use Rattle.arith.specs.F64.{◌≺◌, float, abs}
 use Rattle.arith.specs.Lists.{all_of}
 use Rattle.arith.specs.declared.Vec3.{Vec3}
-use Rattle.arith.specs.declared.Found.TheVariants.{At}
 use Rattle.lines_polygon.specs.Vertices.{xy_within}
 use Rattle.lines_polygon.proofs.LimitLaws.{all_first}
 use Rattle.lines_polygon.proofs.ReachLaws.{contained-near}
@@ -18,13 +17,14 @@ use Rattle.lines_locate.specs.Locate.{xy_of}
 use Rattle.lines_locate.proofs.FoundLaws.{found_at, found-finite}
 use Rattle.lines_velocity.specs.Velocity.{locate_in}
 use Rattle.lines_velocity.specs.Ensures.{vertices_within}
+use Rattle.std.specs.Prelude.{Some}
 
 all-at : {A : Type 0} (p : A → Bool) (d : A) (l : List A) (i : ℕ) → i < length l → all_of p l ≡ true → p (get_or l i d) ≡ true
 all-at p d [] i b h = absurd (omega arith)
 all-at p d (a ∷ l) zero b h = (all_first p a l h).0
 all-at p d (a ∷ l) (suc i) b h = all-at p d l i (omega arith) (all_first p a l h).1
 
-pub located-near : (f : StreamlineField) (p : Vec3) (i : ℕ) → vertices_within f ≡ true → locate_in f p ≡ At i
+pub located-near : (f : StreamlineField) (p : Vec3) (i : ℕ) → vertices_within f ≡ true → locate_in f p ≡ Some i
     → ((abs p.x ≺ float 0x4340000000000000) ≡ true) × ((abs p.y ≺ float 0x4340000000000000) ≡ true)
 unfolding vertices_within locate_in xy_of cell_polygon_at
 located-near f p i w e =

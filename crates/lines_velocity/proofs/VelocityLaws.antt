@@ -10,8 +10,6 @@ use Rattle.arith.specs.F64.{◌≺◌, finite, nearer}
 use Rattle.arith.specs.Lists.{fold}
 use Rattle.arith.specs.Vec.{minus, over, norm}
 use Rattle.arith.specs.declared.Vec3.{Vec3}
-use Rattle.arith.specs.declared.Found.{Found}
-use Rattle.arith.specs.declared.Found.TheVariants.{At, Nothing}
 use Rattle.arith.proofs.ListLaws.{foldl-next}
 use Rattle.arith.proofs.RecordLaws.{drop-end}
 use Rattle.reading.specs.declared.Values.{Values}
@@ -23,19 +21,19 @@ use Rattle.mesh_area.specs.Layout.{cells_in}
 use Rattle.lines_locate.specs.Field.{StreamlineField, searching, zoned, staying}
 use Rattle.lines_locate.specs.Layout.{field_in}
 use Rattle.lines_velocity.specs.declared.Tracer.{Tracer}
-use Rattle.lines_velocity.specs.declared.Vector.{Vector}
-use Rattle.lines_velocity.specs.declared.Vector.TheVariants.{Here, Nowhere}
 use Rattle.lines_velocity.specs.Velocity.{locate_in, centre_of, neighbours_of, distance_squared, nearer_of, nearest_of, blended, apart, beside_if, beside, beside_nearest, toward, velocity_in, velocity_where, velocity_at, from, unit}
 use Rattle.lines_velocity.specs.Ensures.{tracer_field}
+use Rattle.std.specs.Prelude.{Some, None}
+use Rattle.std.specs.declared.option.Option.{Option}
 
 -- ---- what was found, and what was not
 
-module _ {t : Asks Vector} {f : ℕ → Values} {m m' : List ℕ} {r : Vector} (h : Vec3 → Asks Vector) where
-  pub served-lost : Served t f m m' r → r ≡ Nowhere → Served (t >>= from h) f m m' Nowhere
+module _ {t : Asks (Option Vec3)} {f : ℕ → Values} {m m' : List ℕ} {r : Option Vec3} (h : Vec3 → Asks (Option Vec3)) where
+  pub served-lost : Served t f m m' r → r ≡ None → Served (t >>= from h) f m m' None
   unfolding from
   served-lost s e = served-then (from h) (rw e at s) served-give
 
-  pub served-found : {m'' : List ℕ} {v : Vec3} {a : Vector} → Served t f m m' r → r ≡ Here v → Served (h v) f m' m'' a → Served (t >>= from h) f m m'' a
+  pub served-found : {m'' : List ℕ} {v : Vec3} {a : Option Vec3} → Served t f m m' r → r ≡ Some v → Served (h v) f m' m'' a → Served (t >>= from h) f m m'' a
   unfolding from
   served-found s e u = served-then (from h) (rw e at s) u
 
@@ -117,25 +115,25 @@ module _ (F : StreamlineField) (v : ℕ → Values) (m : List ℕ) (p : Vec3) wh
   unfolding velocity_in
   velocity-in i s t = served-then (λ x. toward F p i x.velocity) s t
 
-  pub velocity-nowhere : {r : Found} → r ≡ locate_in F p → r ≡ Nothing → Served (velocity_at F p) v m m Nowhere
+  pub velocity-nowhere : {r : Option ℕ} → r ≡ locate_in F p → r ≡ None → Served (velocity_at F p) v m m None
   unfolding velocity_at velocity_where
   velocity-nowhere e n = rw (sym e ∙ n) served-give
 
-  pub velocity-here : {m' : List ℕ} {r : Found} {u : Vec3} (i : ℕ) → r ≡ locate_in F p → r ≡ At i → Served (velocity_in F p i) v m m' u → Served (velocity_at F p) v m m' (Here u)
+  pub velocity-here : {m' : List ℕ} {r : Option ℕ} {u : Vec3} (i : ℕ) → r ≡ locate_in F p → r ≡ Some i → Served (velocity_in F p i) v m m' u → Served (velocity_at F p) v m m' (Some u)
   unfolding velocity_at velocity_where
-  velocity-here i e n s = rw (sym e ∙ n) (served-then (λ x. give (Here x)) s served-give)
+  velocity-here i e n s = rw (sym e ∙ n) (served-then (λ x. give (Some x)) s served-give)
 
 -- ---- the direction of a velocity, by the tests of its speed
 
 module _ (still speed : Float) (v : Vec3) (is_finite : Bool) (es : speed ≡ norm v) (ef : is_finite ≡ finite speed) where
-  pub unit-moving : (u : Vec3) → u ≡ over v speed → is_finite ≡ true → (still ≺ speed) ≡ true → Here u ≡ unit still v
+  pub unit-moving : (u : Vec3) → u ≡ over v speed → is_finite ≡ true → (still ≺ speed) ≡ true → Some u ≡ unit still v
   unfolding unit
   unit-moving u e h k = rw (← es, ← ef, h, k, e)
 
-  pub unit-still : is_finite ≡ true → (still ≺ speed) ≡ false → Nowhere ≡ unit still v
+  pub unit-still : is_finite ≡ true → (still ≺ speed) ≡ false → None ≡ unit still v
   unfolding unit
   unit-still h k = rw (← es, ← ef, h, k)
 
-  pub unit-endless : is_finite ≡ false → Nowhere ≡ unit still v
+  pub unit-endless : is_finite ≡ false → None ≡ unit still v
   unfolding unit
   unit-endless h = rw (← es, ← ef, h)

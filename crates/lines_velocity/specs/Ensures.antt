@@ -1,7 +1,6 @@
 -- A tracer: the field that it traces in, and what the functions that take velocities and trace lines need of it.
-use Rattle.std.specs.Prelude.{ℕ, ◌≡◌, Bool, true, List, Float}
+use Rattle.std.specs.Prelude.{ℕ, ◌≡◌, Bool, true, List, Float, Ok}
 use Rattle.arith.specs.Lists.{all_of}
-use Rattle.case_file.specs.declared.Opened.TheVariants.{Case}
 use Rattle.case_file.specs.Trailer.{opened}
 use Rattle.case_file.specs.Field.{zones_of}
 use Rattle.mesh_area.specs.Layout.{LentWords, LentFloats}
@@ -36,6 +35,6 @@ pub record LocateEntry (words : List ℕ) (floats : List Float) (t : Tracer) : T
 
 -- the same, a case that opens, and vertices that are not far out
 pub record TracerEntry (case words : List ℕ) (floats : List Float) (t : Tracer) : Type 0 where
-  pub opens : opened case ≡ Case t.counts
+  pub opens : opened case ≡ Ok t.counts
   pub area : LocateEntry words floats t
   pub within : vertices_within (tracer_field t case words floats) ≡ true

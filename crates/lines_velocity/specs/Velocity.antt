@@ -4,27 +4,24 @@
 -- `blended`, `apart`, `beside_if`, `beside`, `beside_nearest`, `toward`: a cell's velocity, blended toward that of a neighbour.
 -- `velocity_in`, `velocity_where`, `velocity_at`: the velocity at a point.
 -- `from`: what goes on from a vector, where there is one. `unit`, `direction_at`: the direction at a point.
-use Rattle.std.specs.Prelude.{ℕ, Bool, true, false, not, cond, ◌&&◌, List, [], ◌∷◌, get_or, drop, Float}
+use Rattle.std.specs.Prelude.{ℕ, Bool, true, false, not, cond, ◌&&◌, List, [], ◌∷◌, get_or, drop, Float, Some, None}
 use Rattle.arith.specs.F64.{◌⊘◌, ◌≺◌, ◌≼◌, 2^-52, finite, clamp, nearer}
 use Rattle.arith.specs.Lists.{fold}
 use Rattle.arith.specs.Vec.{plus, minus, times, over, dot, norm_squared, norm}
 use Rattle.arith.specs.declared.Vec3.{Vec3}
-use Rattle.arith.specs.declared.Found.{Found}
-use Rattle.arith.specs.declared.Found.TheVariants.{At, Nothing}
 use Rattle.reading.specs.Asks.{Asks, give, ask, ◌>>=◌}
 use Rattle.mesh_area.specs.Tables.{Cell, cell_at}
 use Rattle.lines_locate.specs.declared.Located.{Located}
 use Rattle.lines_locate.specs.Locate.{locate, located}
 use Rattle.lines_locate.specs.Field.{StreamlineField}
-use Rattle.lines_velocity.specs.declared.Vector.{Vector}
-use Rattle.lines_velocity.specs.declared.Vector.TheVariants.{Here, Nowhere}
+use Rattle.std.specs.declared.option.Option.{Option}
 
 -- `locate_cell`, with where the point lies to the cell's polygon
 unfoldable pub located_in : StreamlineField → Vec3 → Located
 located_in f p = located f.search f.grid f.polygons p
 
 -- `locate_cell`
-unfoldable pub locate_in : StreamlineField → Vec3 → Found
+unfoldable pub locate_in : StreamlineField → Vec3 → Option ℕ
 locate_in f p = locate f.search f.grid f.polygons p
 
 -- the centre of a cell
@@ -78,23 +75,23 @@ unfoldable pub velocity_in : StreamlineField → Vec3 → ℕ → Asks Vec3
 velocity_in f p i = ask i give >>= λ v. toward f p i v.velocity
 
 -- the velocity in the cell that was found, or nowhere
-unfoldable pub velocity_where : StreamlineField → Vec3 → Found → Asks Vector
-velocity_where f p Nothing = give Nowhere
-velocity_where f p (At i) = velocity_in f p i >>= λ v. give (Here v)
+unfoldable pub velocity_where : StreamlineField → Vec3 → Option ℕ → Asks (Option Vec3)
+velocity_where f p None = give None
+velocity_where f p (Some i) = velocity_in f p i >>= λ v. give (Some v)
 
 -- "Velocity reads the located cell"; "nothing where its point locates nowhere"
-unfoldable pub velocity_at : StreamlineField → Vec3 → Asks Vector
+unfoldable pub velocity_at : StreamlineField → Vec3 → Asks (Option Vec3)
 velocity_at f p = velocity_where f p (locate_in f p)
 
 -- goes on from what was found; ends where there is nothing
-unfoldable pub from : (Vec3 → Asks Vector) → Vector → Asks Vector
-from h (Here p) = h p
-from h Nowhere = give Nowhere
+unfoldable pub from : (Vec3 → Asks (Option Vec3)) → Option Vec3 → Asks (Option Vec3)
+from h (Some p) = h p
+from h None = give None
 
 -- the unit vector of a velocity: "Equal to stagnation_speed ends"
-unfoldable pub unit : Float → Vec3 → Vector
-unit stagnation v = cond (finite (norm v) && (stagnation ≺ norm v)) (Here (over v (norm v))) Nowhere
+unfoldable pub unit : Float → Vec3 → Option Vec3
+unit stagnation v = cond (finite (norm v) && (stagnation ≺ norm v)) (Some (over v (norm v))) None
 
 -- `direction_at`
-unfoldable pub direction_at : StreamlineField → Float → Vec3 → Asks Vector
+unfoldable pub direction_at : StreamlineField → Float → Vec3 → Asks (Option Vec3)
 direction_at f stagnation p = velocity_at f p >>= from (λ v. give (unit stagnation v))

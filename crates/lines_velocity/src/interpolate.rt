@@ -1,15 +1,14 @@
 // The velocity at a point, and its direction.
-ghost use Rattle.std.specs.Prelude.{◌≡◌, List, ℕ};
+ghost use Rattle.std.specs.Prelude.{◌≡◌, List, ℕ, Ok};
 ghost use Rattle.reading.specs.Served.{Served};
-ghost use Rattle.case_file.specs.declared.Opened.TheVariants.{Case};
 ghost use Rattle.case_file.specs.Trailer.{opened};
 ghost use Rattle.case_file.specs.Field.{values_of};
 ghost use Rattle.mesh_area.specs.Layout.{LentWords, LentFloats, cells_in};
 ghost use Rattle.lines_velocity.specs.Velocity as Velocity;
 ghost use Rattle.lines_velocity.specs.Ensures.{tracer_field, LocateEntry, TracerEntry};
 
-use crate::{Near, Tracer, Vector};
-use arith::{Found, Vec3, float};
+use crate::{Near, Tracer};
+use arith::{Vec3, float};
 use case_file::field;
 use lines_locate::Located;
 use mesh_area::Sizes;
@@ -87,7 +86,7 @@ fn beside(
     base: Vec3,
     k: usize,
 ) -> Vec3
-    requires { (opened case.now ≡ Case t.counts) × LentFloats t.sizes floats.now }
+    requires { (opened case.now ≡ Ok t.counts) × LentFloats t.sizes floats.now }
     ensures { (words : List ℕ) → Served
         (Velocity.beside (tracer_field t case.now words floats.now) p i base k)
         (values_of case.now) marks.old marks.new result }
@@ -163,32 +162,27 @@ pub fn velocity_at(
     t: Tracer,
     marks: &mut [u8],
     p: Vec3,
-) -> Vector
+) -> Option<Vec3>
     requires { TracerEntry case.now words.now floats.now t }
     ensures { Served (Velocity.velocity_at
         (tracer_field t case.now words.now floats.now) p)
         (values_of case.now) marks.old marks.new result }
 {
-    let found = locate(words, floats, t, p);
-    let cell = found.cell;
-    let Found::At(i) = cell else {
-        return Vector::Nowhere;
-    };
-    let v = velocity_in(case, words, floats, t, marks, p, i);
-    Vector::Here(v)
+    let i = locate(words, floats, t, p).cell?;
+    Some(velocity_in(case, words, floats, t, marks, p, i))
 }
 
 // The unit vector of a velocity; none at a speed that is not finite, or not above stagnation_speed.
-fn unit(stagnation_speed: f64, v: Vec3) -> Vector
+fn unit(stagnation_speed: f64, v: Vec3) -> Option<Vec3>
     ensures { result ≡ Velocity.unit stagnation_speed v }
 {
     let speed = v.norm();
     if float::is_finite(speed) {
         if speed > stagnation_speed {
-            return Vector::Here(v.div(speed));
+            return Some(v.div(speed));
         }
     }
-    Vector::Nowhere
+    None
 }
 
 // The direction of the velocity at p.
@@ -200,14 +194,12 @@ pub fn direction_at(
     marks: &mut [u8],
     p: Vec3,
     stagnation_speed: f64,
-) -> Vector
+) -> Option<Vec3>
     requires { TracerEntry case.now words.now floats.now t }
     ensures { Served (Velocity.direction_at
         (tracer_field t case.now words.now floats.now)
         stagnation_speed p) (values_of case.now) marks.old marks.new result }
 {
-    let Vector::Here(v) = velocity_at(case, words, floats, t, marks, p) else {
-        return Vector::Nowhere;
-    };
+    let v = velocity_at(case, words, floats, t, marks, p)?;
     unit(stagnation_speed, v)
 }

@@ -22,13 +22,6 @@ pub struct Tracer {
     pub home: u32,
 }
 
-// A velocity, a direction or a point; or that there is none.
-#[derive(Clone, Copy)]
-pub enum Vector {
-    Here(Vec3),
-    Nowhere,
-}
-
 // A cell, and the squared distance of its centre from a point.
 #[derive(Clone, Copy)]
 struct Near {

@@ -9,7 +9,7 @@ use lib.ListN.{length, get_or, length-map, get_or-map}
 use Rattle.arith.specs.Lists.{sorted}
 use Rattle.arith.specs.declared.Vec3.{Vec3}
 use Rattle.arith.proofs.All.{All, all_append, all_get_or, all_more}
-use Rattle.reading.specs.Result.{fine, steps}
+use Rattle.reading.specs.Result.{steps}
 use Rattle.reading.proofs.ResultLaws.{bound, not-due, steps-keep}
 use Rattle.mesh_area.specs.Tables.{Face, face_at, no_face}
 use Rattle.case_definitions.specs.Faces.{Definition, faces_of}
@@ -21,6 +21,8 @@ use Rattle.mesh_cell_parts.specs.Parts.{CellFaces, add_face_of, measured_from}
 use Rattle.mesh_cells.specs.Cells.{PartialCell, PartialMesh, add_cell, partial_mesh}
 use Rattle.lines_vertices.proofs.Shapes.{key_in, Turned, Later, Placing, Naming, Named, FacesNamed, Limited}
 use Rattle.lines_vertices.proofs.TableLaws.{turned, later-self, later_more, all-at, AllFaces, placing, placing-all}
+use Rattle.std.specs.Prelude.{Ok}
+use Rattle.refusal.specs.declared.Refusal.TheVariants.{WrongKind}
 
 -- ---- numbers name the same faces in a later table
 
@@ -61,11 +63,11 @@ record FaceStep (d cell : ℕ) (g h : CellFaces) (l : List ℕ) : Type 0 where
   m : FaceGeometry
   p : NumberedFace
   turns : Turned d l v
-  placed : add_face cell v m g.faces ≡ fine p
+  placed : add_face cell v m g.faces ≡ Ok p
   same : h ≡ record { faces = p.faces; numbers = g.numbers ++ p.number ∷ [] }
 
 module _ (d : ℕ) (ps : List Vec3) (cell : ℕ) (reference : Vec3) where
-  face-step : (g h : CellFaces) (l : List ℕ) → add_face_of d ps cell reference g l ≡ fine h → FaceStep d cell g h l
+  face-step : (g h : CellFaces) (l : List ℕ) → add_face_of d ps cell reference g l ≡ Ok h → FaceStep d cell g h l
   unfolding add_face_of
   face-step g h l e =
       let b = bound _ _ _ e in
@@ -79,18 +81,18 @@ module _ (d : ℕ) (ps : List Vec3) (cell : ℕ) (reference : Vec3) where
         same = cc c.then;
       }
 
-  face-naming : (g h : CellFaces) (l : List ℕ) (ls : List (List ℕ)) → add_face_of d ps cell reference g l ≡ fine h → Naming g.faces g.numbers ls
+  face-naming : (g h : CellFaces) (l : List ℕ) (ls : List (List ℕ)) → add_face_of d ps cell reference g l ≡ Ok h → Naming g.faces g.numbers ls
       → Naming h.faces h.numbers (ls ++ l ∷ [])
   face-naming g h l ls e n =
       let s = face-step g h l e in
       rw s.same (naming-next g.faces s.p.faces g.numbers ls l s.v s.p.number n (placing cell s.v s.m g.faces s.p s.placed) s.turns.key)
 
-  face-later : (g h : CellFaces) (l : List ℕ) → add_face_of d ps cell reference g l ≡ fine h → Later g.faces h.faces
+  face-later : (g h : CellFaces) (l : List ℕ) → add_face_of d ps cell reference g l ≡ Ok h → Later g.faces h.faces
   face-later g h l e =
       let s = face-step g h l e in rw s.same (placing cell s.v s.m g.faces s.p s.placed).later
 
   -- all of them
-  faces-naming : (k : List (List ℕ)) (g h : CellFaces) (ls : List (List ℕ)) → steps (add_face_of d ps cell reference) g k ≡ fine h → Naming g.faces g.numbers ls
+  faces-naming : (k : List (List ℕ)) (g h : CellFaces) (ls : List (List ℕ)) → steps (add_face_of d ps cell reference) g k ≡ Ok h → Naming g.faces g.numbers ls
       → Naming h.faces h.numbers (ls ++ k)
   unfolding steps
   faces-naming [] g h ls e n = let w : g ≡ h = cc in rw (← w, append-nil ls) n
@@ -98,7 +100,7 @@ module _ (d : ℕ) (ps : List Vec3) (cell : ℕ) (reference : Vec3) where
       let b = bound _ _ _ e in
       rw (append_assoc ls (l ∷ []) k) at (faces-naming k b.value h (ls ++ l ∷ []) b.then (face-naming g b.value l ls b.had n))
 
-  faces-later : (g h : CellFaces) (k : List (List ℕ)) → steps (add_face_of d ps cell reference) g k ≡ fine h → Later g.faces h.faces
+  faces-later : (g h : CellFaces) (k : List (List ℕ)) → steps (add_face_of d ps cell reference) g k ≡ Ok h → Later g.faces h.faces
   faces-later g h k e =
       steps-keep (λ n t. Later g.faces t.faces) (add_face_of d ps cell reference)
       (λ n s l t w q. later_more g.faces s.faces t.faces w (face-later s t l q)) 0 g k h (later-self g.faces) e
@@ -109,19 +111,19 @@ module _ (d : ℕ) (ps : List Vec3) (cell : ℕ) (reference : Vec3) where
 record CellStep (d : ℕ) (ps : List Vec3) (t u : PartialMesh) (def : Definition) : Type 0 where
   g : CellFaces
   kind : wrong_kind d def ≡ false
-  faces : steps (add_face_of d ps (length t.cells) (reference_of ps def)) (record { faces = t.faces; numbers = [] }) (faces_of def) ≡ fine g
+  faces : steps (add_face_of d ps (length t.cells) (reference_of ps def)) (record { faces = t.faces; numbers = [] }) (faces_of def) ≡ Ok g
   same : u ≡ record { faces = g.faces; cells = t.cells ++ record { definition = def; faces = g.numbers; reference = reference_of ps def } ∷ [] }
 
 module _ (d : ℕ) (ps : List Vec3) where
-  cell-step : (t u : PartialMesh) (def : Definition) → add_cell d ps t def ≡ fine u → CellStep d ps t u def
+  cell-step : (t u : PartialMesh) (def : Definition) → add_cell d ps t def ≡ Ok u → CellStep d ps t u def
   unfolding add_cell
   cell-step t u def e =
       let a = bound _ _ _ e in
       let b = bound _ _ _ a.then in
       let c = bound _ _ _ b.then in
-      record { g = c.value; kind = not-due 11 _ a.value a.had; faces = c.had; same = cc c.then }
+      record { g = c.value; kind = not-due WrongKind _ a.value a.had; faces = c.had; same = cc c.then }
 
-  cell-named : (t u : PartialMesh) (def : Definition) → add_cell d ps t def ≡ fine u → All (Named d t.faces) t.cells → All (Named d u.faces) u.cells
+  cell-named : (t u : PartialMesh) (def : Definition) → add_cell d ps t def ≡ Ok u → All (Named d t.faces) t.cells → All (Named d u.faces) u.cells
   cell-named t u def e n =
       let s = cell-step t u def e in
       let at : ℕ = length t.cells in
@@ -136,18 +138,18 @@ module _ (d : ℕ) (ps : List Vec3) where
       (record { kind = s.kind; faces = own }, tt))
 
   -- every cell names the faces of its definition
-  pub cells-named : (defs : List Definition) (t : PartialMesh) → partial_mesh d ps defs ≡ fine t → All (Named d t.faces) t.cells
+  pub cells-named : (defs : List Definition) (t : PartialMesh) → partial_mesh d ps defs ≡ Ok t → All (Named d t.faces) t.cells
   unfolding partial_mesh
   cells-named defs t e =
       steps-keep (λ n t. All (Named d t.faces) t.cells) (add_cell d ps) (λ n s def t w q. cell-named s t def q w) 0
       (record { faces = []; cells = [] }) defs t tt e
 
-  cell-definitions : (t u : PartialMesh) (def : Definition) → add_cell d ps t def ≡ fine u → map (λ c. c.definition) u.cells ≡ map (λ c. c.definition) t.cells ++ def ∷ []
+  cell-definitions : (t u : PartialMesh) (def : Definition) → add_cell d ps t def ≡ Ok u → map (λ c. c.definition) u.cells ≡ map (λ c. c.definition) t.cells ++ def ∷ []
   cell-definitions t u def e =
       let s = cell-step t u def e in
       rw s.same (map-append (λ c. c.definition) t.cells (record { definition = def; faces = s.g.numbers; reference = reference_of ps def } ∷ []))
 
-  steps-definitions : (defs : List Definition) (t u : PartialMesh) → steps (add_cell d ps) t defs ≡ fine u
+  steps-definitions : (defs : List Definition) (t u : PartialMesh) → steps (add_cell d ps) t defs ≡ Ok u
       → map (λ c. c.definition) u.cells ≡ map (λ c. c.definition) t.cells ++ defs
   unfolding steps
   steps-definitions [] t u e = let w : t ≡ u = cc in rw (← w) (sym (append-nil (map (λ c. c.definition) t.cells)))
@@ -157,16 +159,16 @@ module _ (d : ℕ) (ps : List Vec3) where
       ∙ append_assoc (map (λ c. c.definition) t.cells) (def ∷ []) defs
 
   -- a cell for each definition
-  pub cells-defined : (defs : List Definition) (t : PartialMesh) → partial_mesh d ps defs ≡ fine t → map (λ c. c.definition) t.cells ≡ defs
+  pub cells-defined : (defs : List Definition) (t : PartialMesh) → partial_mesh d ps defs ≡ Ok t → map (λ c. c.definition) t.cells ≡ defs
   unfolding partial_mesh
   cells-defined defs t e = steps-definitions defs (record { faces = []; cells = [] }) t e
 
-  pub cells-counted : (defs : List Definition) (t : PartialMesh) → partial_mesh d ps defs ≡ fine t → length t.cells ≡ length defs
+  pub cells-counted : (defs : List Definition) (t : PartialMesh) → partial_mesh d ps defs ≡ Ok t → length t.cells ≡ length defs
   cells-counted defs t e = sym (length-map t.cells (λ c. c.definition)) ∙ ap length (cells-defined defs t e)
 
   -- ---- what holds of every face: Q of the definitions' faces, P of those that stand in the table
   module _ (Q P : List ℕ → Type 0) (turning : (l v : List ℕ) → Q l → Turned d l v → P v) where
-    steps_all : (cell : ℕ) (reference : Vec3) (k : List (List ℕ)) (g h : CellFaces) → All Q k → steps (add_face_of d ps cell reference) g k ≡ fine h
+    steps_all : (cell : ℕ) (reference : Vec3) (k : List (List ℕ)) (g h : CellFaces) → All Q k → steps (add_face_of d ps cell reference) g k ≡ Ok h
         → AllFaces P g.faces → AllFaces P h.faces
     unfolding steps
     steps_all cell reference [] g h q e a = let w : g ≡ h = cc in rw (← w) a
@@ -177,7 +179,7 @@ module _ (d : ℕ) (ps : List Vec3) where
         rw s.same (placing-all cell s.v s.m g.faces s.p P (turning l s.v q.0 s.turns) a s.placed) in
         steps_all cell reference k b.value h q.1 b.then n
 
-    cells-all : (defs : List Definition) (t u : PartialMesh) → All (λ def. All Q (faces_of def)) defs → steps (add_cell d ps) t defs ≡ fine u
+    cells-all : (defs : List Definition) (t u : PartialMesh) → All (λ def. All Q (faces_of def)) defs → steps (add_cell d ps) t defs ≡ Ok u
         → AllFaces P t.faces → AllFaces P u.faces
     unfolding steps
     cells-all [] t u q e a = let w : t ≡ u = cc in rw (← w) a
@@ -188,7 +190,7 @@ module _ (d : ℕ) (ps : List Vec3) where
         rw s.same (steps_all (length t.cells) (reference_of ps def) (faces_of def) (record { faces = t.faces; numbers = [] }) s.g q.0 s.faces a) in
         cells-all defs b.value u q.1 b.then n
 
-    pub faces-all : (defs : List Definition) (t : PartialMesh) → All (λ def. All Q (faces_of def)) defs → partial_mesh d ps defs ≡ fine t → AllFaces P t.faces
+    pub faces-all : (defs : List Definition) (t : PartialMesh) → All (λ def. All Q (faces_of def)) defs → partial_mesh d ps defs ≡ Ok t → AllFaces P t.faces
     unfolding partial_mesh
     faces-all defs t q e = cells-all defs (record { faces = []; cells = [] }) t q e tt
 
@@ -205,7 +207,7 @@ as_long : {A B C : Type 0} (f : A → C) (g : B → C) (l : List A) (k : List B)
 as_long f g l k w = sym (length-map l f) ∙ ap length w ∙ length-map k g
 
 -- the k-th number of cell i names a face with the numbers of the k-th face of its definition
-pub faces-of-cells : (d : ℕ) (ps : List Vec3) (defs : List Definition) (t : PartialMesh) → partial_mesh d ps defs ≡ fine t
+pub faces-of-cells : (d : ℕ) (ps : List Vec3) (defs : List Definition) (t : PartialMesh) → partial_mesh d ps defs ≡ Ok t
     → (i : ℕ) (none : PartialCell) → i < length t.cells → FacesNamed t.faces (get_or t.cells i none)
 unfolding key_in
 faces-of-cells d ps defs t e i none b =
@@ -228,18 +230,18 @@ two-enough : (l : List ℕ) → enough 2 l ≡ true → length l ≡ 2
 unfolding enough
 two-enough l e = eqb-true (length l) 2 e
 
-pub all_two : (d : ℕ) (ps : List Vec3) (defs : List Definition) (t : PartialMesh) → d ≡ 2 → partial_mesh d ps defs ≡ fine t → AllFaces (λ v. length v ≡ 2) t.faces
+pub all_two : (d : ℕ) (ps : List Vec3) (defs : List Definition) (t : PartialMesh) → d ≡ 2 → partial_mesh d ps defs ≡ Ok t → AllFaces (λ v. length v ≡ 2) t.faces
 all_two d ps defs t two e =
     faces-all d ps (λ l. Unit {0}) (λ v. length v ≡ 2) (λ l v q w. two-enough v (rw two at w.many)) defs t
     (all_of (λ def. All (λ l. Unit {0}) (faces_of def)) (λ def. all_of (λ l. Unit {0}) (λ l. tt) (faces_of def)) defs) e
 
-pub two-vertices : (d : ℕ) (ps : List Vec3) (defs : List Definition) (t : PartialMesh) → d ≡ 2 → partial_mesh d ps defs ≡ fine t
+pub two-vertices : (d : ℕ) (ps : List Vec3) (defs : List Definition) (t : PartialMesh) → d ≡ 2 → partial_mesh d ps defs ≡ Ok t
     → (f : ℕ) → f < length t.faces → length (face_at t.faces f).vertices ≡ 2
 unfolding face_at
 two-vertices d ps defs t two e f b = all-at (λ f. length f.vertices ≡ 2) t.faces f no_face b (all_two d ps defs t two e)
 
 -- of definitions within the limits of the case file
-pub limited-faces : (d : ℕ) (ps : List Vec3) (defs : List Definition) (t : PartialMesh) (none : PartialCell) → All Limited defs → partial_mesh d ps defs ≡ fine t
+pub limited-faces : (d : ℕ) (ps : List Vec3) (defs : List Definition) (t : PartialMesh) (none : PartialCell) → All Limited defs → partial_mesh d ps defs ≡ Ok t
     → (i : ℕ) → i < length t.cells → Limited (get_or t.cells i none).definition
 limited-faces d ps defs t none few e i b =
     let n = cells-counted d ps defs t e in
@@ -248,7 +250,7 @@ limited-faces d ps defs t none few e i b =
     rw w (all-at Limited defs i none.definition (omega arith) few)
 
 -- "per face a count (at most 8)"
-pub eight-vertices : (d : ℕ) (ps : List Vec3) (defs : List Definition) (t : PartialMesh) → All Limited defs → partial_mesh d ps defs ≡ fine t
+pub eight-vertices : (d : ℕ) (ps : List Vec3) (defs : List Definition) (t : PartialMesh) → All Limited defs → partial_mesh d ps defs ≡ Ok t
     → (f : ℕ) → length (face_at t.faces f).vertices ≤ 8
 unfolding face_at
 eight-vertices d ps defs t few e f =

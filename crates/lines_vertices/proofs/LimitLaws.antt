@@ -7,13 +7,13 @@ use lib.ListN.{length, take, drop, length-map, length-take}
 use Rattle.arith.specs.Lists.{Side, sides}
 use Rattle.arith.proofs.All.{All}
 use Rattle.arith.proofs.ListLaws.{length-sides}
-use Rattle.reading.specs.Result.{fine}
 use Rattle.reading.proofs.ResultLaws.{bound}
 use Rattle.case_definitions.specs.Faces.{Definition, solid, tetrahedron, hexahedron, prism, pyramid, ends, picked, faces_of}
 use Rattle.case_definitions.specs.Definitions.{Taken, face_lists, definition, definitions}
 use Rattle.case_definitions.proofs.WalkLaws.{face-first, faces-read}
 use Rattle.case_definitions.proofs.RecordLaws.{IsSolid, is-tetrahedron, is-hexahedron, is-prism, is-pyramid, RecordCase, a-polygon, a-solid, a-polyhedron, record-case}
 use Rattle.lines_vertices.proofs.Shapes.{Limited}
+use Rattle.std.specs.Prelude.{Ok}
 
 -- a side has two numbers
 sides-short : (ss : List (Side ℕ)) → All (λ l. length l ≤ 8) (map ends ss)
@@ -30,14 +30,14 @@ solid-limited kind places n l is-prism = record { faces = omega arith; numbers =
 solid-limited kind places n l is-pyramid = record { faces = omega arith; numbers = (omega arith, (omega arith, (omega arith, (omega arith, (omega arith, tt))))) }
 
 -- a polyhedron's lists
-lists-short : (ws : List ℕ) (n p : ℕ) (w : Taken (List (List ℕ))) → face_lists n (drop p ws) ≡ fine w → All (λ l. length l ≤ 8) w.read
+lists-short : (ws : List ℕ) (n p : ℕ) (w : Taken (List (List ℕ))) → face_lists n (drop p ws) ≡ Ok w → All (λ l. length l ≤ 8) w.read
 unfolding face_lists
 lists-short ws zero p w e = let m : record { read = []; left = drop p ws } ≡ w = cc in rw (← m) tt
 lists-short ws (suc n) p w e =
     let f = face-first ws n p w e in
     rw (← f.same) (omega (arith, f.first.few, length-take f.count (drop (p + 1) ws)), lists-short ws n (p + 1 + f.count) f.rest f.more)
 
-limited : (ws : List ℕ) (w : Taken Definition) → definition ws ≡ fine w → Limited w.read
+limited : (ws : List ℕ) (w : Taken Definition) → definition ws ≡ Ok w → Limited w.read
 unfolding faces_of
 limited ws w e = by (record-case ws 0 w e)
   where
@@ -50,7 +50,7 @@ limited ws w e = by (record-case ws 0 w e)
         rw m (record { faces = omega (arith, (faces-read ws n (0 + 2) f r l).all); numbers = lists-short ws n (0 + 2) f l })
 
 -- the definitions of a case
-pub all-limited : (n : ℕ) (ws : List ℕ) (defs : List Definition) → definitions n ws ≡ fine defs → All Limited defs
+pub all-limited : (n : ℕ) (ws : List ℕ) (defs : List Definition) → definitions n ws ≡ Ok defs → All Limited defs
 unfolding definitions
 all-limited zero [] defs e = let w : [] ≡ defs = cc in rw (← w) tt
 all-limited zero (x ∷ ws) defs e = absurd (let z : ◌≡◌ {A = ℕ} 0 1 = cc in omega arith)

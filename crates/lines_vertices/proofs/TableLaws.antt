@@ -8,11 +8,9 @@ use mathlib.Core.List.{List, [], ◌∷◌, ◌++◌, reverse}
 use lib.ListN.{length, get_or, set, length-append, length-set, length-reverse, get_or-append}
 use lib.Seq.{get_or-set_same, get_or-set_other, get_or-append_seam}
 use Rattle.arith.specs.Lists.{first_from, sorted}
-use Rattle.arith.specs.declared.Found.{Found}
-use Rattle.arith.specs.declared.Found.TheVariants.{At, Nothing}
 use Rattle.arith.specs.declared.Vec3.{Vec3}
 use Rattle.arith.proofs.All.{All, all_append, all_set}
-use Rattle.reading.specs.Result.{Result, refused, fine}
+use Rattle.reading.specs.Result.{Refusable}
 use Rattle.reading.proofs.ResultLaws.{bound}
 use Rattle.mesh_area.specs.Tables.{Face, face_at, no_face}
 use Rattle.mesh_geometry.specs.Faces.{enough, face_area_vector, Oriented, face_with, measured, inward, turned_if, oriented_face}
@@ -22,11 +20,15 @@ use Rattle.mesh_geometry.specs.declared.FaceGeometry.{FaceGeometry}
 use Rattle.mesh_faces.specs.Table.{has_key, face_with_key, new_face, with_neighbour, joining, settled, use_face, NumberedFace, numbered_face, add_face}
 use Rattle.mesh_faces.proofs.AnswerLaws.{first_below}
 use Rattle.lines_vertices.proofs.Shapes.{key_in, Turned, Later, Placing}
+use Rattle.std.specs.Prelude.{Some, None, Ok, Err}
+use Rattle.std.specs.declared.option.Option.{Option}
+use Rattle.refusal.specs.declared.Refusal.{Refusal}
+use Rattle.refusal.specs.declared.Refusal.TheVariants.{DegenerateFace}
 
 -- ---- the vertices of a face that is turned outward
 
 -- a choice that was not refused
-chosen : {A : Type 0} (t : Bool) (r : Result A) (n : ℕ) (a : A) → cond t r (refused n) ≡ fine a → t ≡ true
+chosen : {A : Type 0} (t : Bool) (r : Refusable A) (n : Refusal) (a : A) → cond t r (Err n) ≡ Ok a → t ≡ true
 chosen true r n a e = refl
 chosen false r n a e = absurd (let z : ◌≡◌ {A = ℕ} 0 1 = cc in omega arith)
 
@@ -35,19 +37,19 @@ record Measures (d : ℕ) (l : List ℕ) (o : Oriented) : Type 0 where
   same : o.vertices ≡ l
   many : enough d l ≡ true
 
-measures : (d : ℕ) (ps : List Vec3) (l : List ℕ) (o : Oriented) → measured d ps l ≡ fine o → Measures d l o
+measures : (d : ℕ) (ps : List Vec3) (l : List ℕ) (o : Oriented) → measured d ps l ≡ Ok o → Measures d l o
 unfolding measured face_area_vector face_with
 measures d ps l o e =
     let b = bound _ _ _ e in
     let w : face_with ps l b.value ≡ o = cc b.then in
-    record { same = ap (λ (f : Oriented). f.vertices) (sym w); many = chosen (enough d l) _ 13 _ b.had }
+    record { same = ap (λ (f : Oriented). f.vertices) (sym w); many = chosen (enough d l) _ DegenerateFace _ b.had }
 
-pub turned : (d : ℕ) (ps : List Vec3) (reference : Vec3) (l : List ℕ) (o : Oriented) → oriented_face d ps reference l ≡ fine o → Turned d l o.vertices
+pub turned : (d : ℕ) (ps : List Vec3) (reference : Vec3) (l : List ℕ) (o : Oriented) → oriented_face d ps reference l ≡ Ok o → Turned d l o.vertices
 unfolding oriented_face turned_if
 turned d ps reference l o e =
     let b = bound _ _ _ e in by (measures d ps l b.value b.had) (inward reference b.value) b.then
   where
-    by : {f : Oriented} → Measures d l f → (t : Bool) → turned_if t d ps f ≡ fine o → Turned d l o.vertices
+    by : {f : Oriented} → Measures d l f → (t : Bool) → turned_if t d ps f ≡ Ok o → Turned d l o.vertices
     by {f} m true q =
         let n = measures d ps (reverse f.vertices) o q in
         let r : o.vertices ≡ reverse l = n.same ∙ ap reverse m.same in
@@ -68,12 +70,12 @@ record Passes {A : Type 0} (p : A → Bool) (k : ℕ) (l : List A) (i : ℕ) (d 
   low : k ≤ i
   passes : p (get_or l (i - k) d) ≡ true
 
-first_passes : {A : Type 0} (p : A → Bool) (k : ℕ) (l : List A) (i : ℕ) (d : A) → first_from p k l ≡ At i → Passes p k l i d
+first_passes : {A : Type 0} (p : A → Bool) (k : ℕ) (l : List A) (i : ℕ) (d : A) → first_from p k l ≡ Some i → Passes p k l i d
 unfolding first_from
 first_passes p k [] i d e = absurd (let z : ◌≡◌ {A = ℕ} 0 1 = cc in omega arith)
 first_passes p k (a ∷ l) i d e = by (p a) refl (first_passes p (suc k) l i d) e
   where
-    by : (t : Bool) → p a ≡ t → (first_from p (suc k) l ≡ At i → Passes p (suc k) l i d) → elim t [ true ↦ At k | false ↦ first_from p (suc k) l ] ≡ At i
+    by : (t : Bool) → p a ≡ t → (first_from p (suc k) l ≡ Some i → Passes p (suc k) l i d) → elim t [ true ↦ Some k | false ↦ first_from p (suc k) l ] ≡ Some i
         → Passes p k (a ∷ l) i d
     by true q r e =
         let w : k ≡ i = cc in
@@ -133,7 +135,7 @@ record Finds (key : List ℕ) (fs : List Face) (i : ℕ) : Type 0 where
   below : i < length fs
   same : key_in fs i ≡ key
 
-finds : (key : List ℕ) (fs : List Face) (i : ℕ) → face_with_key key fs ≡ At i → Finds key fs i
+finds : (key : List ℕ) (fs : List Face) (i : ℕ) → face_with_key key fs ≡ Some i → Finds key fs i
 unfolding face_with_key has_key key_in face_at
 finds key fs i e =
     let b = first_below (has_key key) 0 fs i e in
@@ -145,45 +147,45 @@ abbrev pub AllFaces : (List ℕ → Type 0) → List Face → Type 0
 AllFaces P fs = All (λ f. P f.vertices) fs
 
 module _ (cell : ℕ) (v : List ℕ) (m : FaceGeometry) (fs : List Face) (p : NumberedFace) where
-  Places : Result NumberedFace → Type 0
-  Places r = r ≡ fine p → Placing fs p.faces v p.number
+  Places : Refusable NumberedFace → Type 0
+  Places r = r ≡ Ok p → Placing fs p.faces v p.number
 
-  joins : (n : Found) (i : ℕ) → Finds (sorted v) fs i → Places (numbered_face (joining n cell fs i).answer (joining n cell fs i).faces)
+  joins : (n : Option ℕ) (i : ℕ) → Finds (sorted v) fs i → Places (numbered_face (joining n cell fs i).answer (joining n cell fs i).faces)
   unfolding joining numbered_face Places
-  joins Nothing i f e =
+  joins None i f e =
       let w : record { faces = set fs i (with_neighbour cell (face_at fs i)); number = i } ≡ p = cc in
       rw (← w) (placing-joined cell fs i v f.below f.same)
-  joins (At n) i f e = absurd (let z : ◌≡◌ {A = ℕ} 0 1 = cc in omega arith)
+  joins (Some n) i f e = absurd (let z : ◌≡◌ {A = ℕ} 0 1 = cc in omega arith)
 
-  settles : (r : Found) → face_with_key (sorted v) fs ≡ r → Places (numbered_face (settled r cell v m fs).answer (settled r cell v m fs).faces)
+  settles : (r : Option ℕ) → face_with_key (sorted v) fs ≡ r → Places (numbered_face (settled r cell v m fs).answer (settled r cell v m fs).faces)
   unfolding settled numbered_face Places new_face
-  settles Nothing q e =
+  settles None q e =
       let w : record { faces = fs ++ new_face cell v m ∷ []; number = length fs } ≡ p = cc in
       rw (← w) (placing-new fs (new_face cell v m))
-  settles (At i) q e = joins (face_at fs i).neighbour i (finds (sorted v) fs i q) e
+  settles (Some i) q e = joins (face_at fs i).neighbour i (finds (sorted v) fs i q) e
 
-  pub placing : add_face cell v m fs ≡ fine p → Placing fs p.faces v p.number
+  pub placing : add_face cell v m fs ≡ Ok p → Placing fs p.faces v p.number
   unfolding add_face use_face Places
   placing e = settles (face_with_key (sorted v) fs) refl e
 
   module _ (P : List ℕ → Type 0) (new : P v) (old : AllFaces P fs) where
-    Passing : Result NumberedFace → Type 0
-    Passing r = r ≡ fine p → AllFaces P p.faces
+    Passing : Refusable NumberedFace → Type 0
+    Passing r = r ≡ Ok p → AllFaces P p.faces
 
-    joins-all : (n : Found) (i : ℕ) → i < length fs → Passing (numbered_face (joining n cell fs i).answer (joining n cell fs i).faces)
+    joins-all : (n : Option ℕ) (i : ℕ) → i < length fs → Passing (numbered_face (joining n cell fs i).answer (joining n cell fs i).faces)
     unfolding joining numbered_face Passing with_neighbour face_at
-    joins-all Nothing i b e =
+    joins-all None i b e =
         let w : record { faces = set fs i (with_neighbour cell (face_at fs i)); number = i } ≡ p = cc in
         rw (← w) (all_set (λ f. P f.vertices) fs i (with_neighbour cell (face_at fs i)) (all-at (λ f. P f.vertices) fs i no_face b old) old)
-    joins-all (At n) i b e = absurd (let z : ◌≡◌ {A = ℕ} 0 1 = cc in omega arith)
+    joins-all (Some n) i b e = absurd (let z : ◌≡◌ {A = ℕ} 0 1 = cc in omega arith)
 
-    settles-all : (r : Found) → face_with_key (sorted v) fs ≡ r → Passing (numbered_face (settled r cell v m fs).answer (settled r cell v m fs).faces)
+    settles-all : (r : Option ℕ) → face_with_key (sorted v) fs ≡ r → Passing (numbered_face (settled r cell v m fs).answer (settled r cell v m fs).faces)
     unfolding settled numbered_face Passing new_face
-    settles-all Nothing q e =
+    settles-all None q e =
         let w : record { faces = fs ++ new_face cell v m ∷ []; number = length fs } ≡ p = cc in
         rw (← w) (all_append (λ f. P f.vertices) fs (new_face cell v m ∷ []) old (new, tt))
-    settles-all (At i) q e = joins-all (face_at fs i).neighbour i (finds (sorted v) fs i q).below e
+    settles-all (Some i) q e = joins-all (face_at fs i).neighbour i (finds (sorted v) fs i q).below e
 
-    pub placing-all : add_face cell v m fs ≡ fine p → AllFaces P p.faces
+    pub placing-all : add_face cell v m fs ≡ Ok p → AllFaces P p.faces
     unfolding add_face use_face Passing
     placing-all e = settles-all (face_with_key (sorted v) fs) refl e

@@ -19,7 +19,6 @@ use Rattle.arith.proofs.All.{All}
 use Rattle.arith.proofs.ListLaws.{length-sides}
 use Rattle.arith.proofs.RecordLaws.{lt-or-ge}
 use Rattle.mesh_area.specs.Tables.{Cell, Mesh, point_at, face_at, no_face, no_cell, cell_at}
-use Rattle.reading.specs.Result.{fine}
 use Rattle.case_definitions.specs.Faces.{Definition, polygon, solid, polyhedron, ends, faces_of}
 use Rattle.mesh_points.specs.Collect.{wrong_kind}
 use Rattle.mesh_cells.specs.Cells.{PartialCell, PartialMesh, partial_mesh}
@@ -29,6 +28,7 @@ use Rattle.lines_field.specs.Ensures.{VertexLimit}
 use Rattle.lines_vertices.proofs.Shapes.{key_in, Naming, Named, Over}
 use Rattle.lines_vertices.proofs.TableLaws.{all-at, AllFaces}
 use Rattle.lines_vertices.proofs.CellLaws.{cells-named, all_two}
+use Rattle.std.specs.Prelude.{Ok}
 
 -- ---- a list that grows only by what is new
 
@@ -272,7 +272,7 @@ unfolding cell_at
 past cells i b = get_or-eq_default cells no_cell b
 
 -- the vertices of one cell
-pub vertices-of-cell : (d : ℕ) (ps : List Vec3) (defs : List Definition) (t : PartialMesh) (m : Mesh) (c : Cell) (i : ℕ) (none : PartialCell) → d ≡ 2 → partial_mesh d ps defs ≡ fine t
+pub vertices-of-cell : (d : ℕ) (ps : List Vec3) (defs : List Definition) (t : PartialMesh) (m : Mesh) (c : Cell) (i : ℕ) (none : PartialCell) → d ≡ 2 → partial_mesh d ps defs ≡ Ok t
     → all_of (each3 finite) ps ≡ true → m.points ≡ ps → m.faces ≡ t.faces → i < length t.cells → c.faces ≡ (get_or t.cells i none).faces
     → length (cell_vertices m c) ≤ length (faces_of (get_or t.cells i none).definition)
 unfolding cell_vertices
@@ -290,7 +290,7 @@ unfolding cell_vertices fold
 no-vertices m = refl
 
 -- "0 has a count (at most 24)": so has its polygon
-pub few-polygon-vertices : (d : ℕ) (ps : List Vec3) (defs : List Definition) (t : PartialMesh) (m : Mesh) (none : PartialCell) → d ≡ 2 → partial_mesh d ps defs ≡ fine t
+pub few-polygon-vertices : (d : ℕ) (ps : List Vec3) (defs : List Definition) (t : PartialMesh) (m : Mesh) (none : PartialCell) → d ≡ 2 → partial_mesh d ps defs ≡ Ok t
     → all_of (each3 finite) ps ≡ true → ((i : ℕ) → i < length t.cells → length (faces_of (get_or t.cells i none).definition) ≤ 24) → Over ps t none m → VertexLimit m
 few-polygon-vertices d ps defs t m none two e whole few o = record { vertices = λ i. by i (lt-or-ge i (length t.cells)) }
   where

@@ -11,11 +11,11 @@ use Rattle.arith.specs.Bytes.{vec_at}
 use Rattle.arith.specs.Records.{tab}
 use Rattle.arith.specs.Vec.{origin}
 use Rattle.arith.specs.declared.Vec3.{Vec3}
-use Rattle.arith.specs.declared.Found.TheVariants.{At, Nothing}
 use Rattle.arith.proofs.RecordLaws.{length-tab, get_or-tab}
 use Rattle.mesh_area.specs.declared.Sizes.{Sizes}
 use Rattle.mesh_area.specs.Tables.{point_at, face_at, cell_at, no_face, no_cell}
 use Rattle.mesh_area.specs.Layout.{points_in, mesh_words, mesh_floats, words_end, floats_end, list_at, found, face_in, cell_in, faces_in, cells_in, mesh_in}
+use Rattle.std.specs.Prelude.{Some, None}
 
 -- ---- points
 
@@ -51,11 +51,11 @@ list_at-out words at n k h = sym (get_or-eq_default (list_at words at n) 0 (rw (
 
 -- ---- a number that stands one higher
 
-pub found_none : (n : ℕ) → n ≡ 0 → Nothing ≡ found n
+pub found_none : (n : ℕ) → n ≡ 0 → None ≡ found n
 unfolding found
 found_none n e = rw (eq-eqb n 0 e)
 
-pub found-one : (n : ℕ) → (n ≡ 0 → ⊥) → At (n - 1) ≡ found n
+pub found-one : (n : ℕ) → (n ≡ 0 → ⊥) → Some (n - 1) ≡ found n
 unfolding found
 found-one n e = rw (ne_eqb n 0 e)
 

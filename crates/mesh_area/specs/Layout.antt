@@ -9,17 +9,16 @@
 -- `LentWords`, `LentFloats`: the area is long enough.
 -- `list_at`, `vec_from`, `found`: numbers, a point, a number or none, where they stand.
 -- `face_in`, `cell_in`: one record. `faces_in`, `cells_in`, `mesh_in`: the whole mesh.
-use Rattle.std.specs.Prelude.{ℕ, ◌+◌, ◌-◌, ◌*◌, ◌≤◌, cond, List, eqb, length, get_or, take, Float}
+use Rattle.std.specs.Prelude.{ℕ, ◌+◌, ◌-◌, ◌*◌, ◌≤◌, cond, List, eqb, length, get_or, take, Float, Some, None}
 use Rattle.std.specs.Float.{nan}
 use Rattle.arith.specs.Limits.{most_cells, most_words}
 use Rattle.arith.specs.Bytes.{vec_at}
 use Rattle.arith.specs.Records.{tab}
 use Rattle.arith.specs.Vec.{vec}
 use Rattle.arith.specs.declared.Vec3.{Vec3}
-use Rattle.arith.specs.declared.Found.{Found}
-use Rattle.arith.specs.declared.Found.TheVariants.{At, Nothing}
 use Rattle.mesh_area.specs.declared.Sizes.{Sizes}
 use Rattle.mesh_area.specs.Tables.{Face, Cell, Mesh}
+use Rattle.std.specs.declared.option.Option.{Option}
 
 -- ---- points: "points (3 floats each)", in the case bytes
 
@@ -120,8 +119,8 @@ unfoldable pub vec_from : List Float → ℕ → Vec3
 vec_from floats at = vec (get_or floats at nan) (get_or floats (at + 1) nan) (get_or floats (at + 2) nan)
 
 -- a number that stands one higher, or none
-unfoldable pub found : ℕ → Found
-found n = cond (eqb n 0) Nothing (At (n - 1))
+unfoldable pub found : ℕ → Option ℕ
+found n = cond (eqb n 0) None (Some (n - 1))
 
 -- face f: its count, up to eight numbers, owner and neighbour in twelve words, its measures in
 -- twelve floats

@@ -1,18 +1,17 @@
 -- What a mesh is: points, faces and cells, with mesh.rs's fields.
 -- `Face`, `Cell`, `Mesh`: what each has.
 -- `point_at`: a point by number. `no_face`, `face_at`: a face by number, and what stands past the last one. `no_cell`, `cell_at`: the same of a cell.
-use Rattle.std.specs.Prelude.{ℕ, List, [], get_or, Float}
+use Rattle.std.specs.Prelude.{ℕ, List, [], get_or, Float, None}
 use Rattle.arith.specs.F64.{0·0}
 use Rattle.arith.specs.Vec.{origin}
 use Rattle.arith.specs.declared.Vec3.{Vec3}
-use Rattle.arith.specs.declared.Found.{Found}
-use Rattle.arith.specs.declared.Found.TheVariants.{Nothing}
+use Rattle.std.specs.declared.option.Option.{Option}
 
 -- "A face has the first cell as owner, the second as neighbour."
 pub record Face : Type 0 where
   pub vertices : List ℕ
   pub owner : ℕ
-  pub neighbour : Found
+  pub neighbour : Option ℕ
   pub centre : Vec3
   pub area : Float
   pub normal : Vec3
@@ -38,7 +37,7 @@ point_at ps i = get_or ps i origin
 -- what stands for a face that is not there
 abbrev pub no_face : Face
 no_face =
-    record { vertices = []; owner = 0; neighbour = Nothing; centre = origin; area = 0·0; normal = origin; area_vector = origin }
+    record { vertices = []; owner = 0; neighbour = None; centre = origin; area = 0·0; normal = origin; area_vector = origin }
 
 -- a face by number
 unfoldable pub face_at : List Face → ℕ → Face

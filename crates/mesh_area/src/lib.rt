@@ -9,7 +9,7 @@ ghost use Rattle.mesh_area.specs.Tables.{point_at, face_at, cell_at};
 ghost use Rattle.mesh_area.specs.Layout as Layout;
 ghost use Rattle.mesh_area.specs.Layout.{points_in, faces_in, cells_in, vec_from, mesh_words, mesh_floats, LentWords, LentFloats};
 
-use arith::{Found, Vec3};
+use arith::Vec3;
 
 // The words of a face's record, by their offset: its vertex count, its vertices, its owner, its
 // neighbour + 1 or 0.
@@ -159,19 +159,15 @@ pub fn owner_of(words: &[u32], s: Sizes, f: usize) -> usize
 }
 
 // The cell on the other side of face f.
-pub fn neighbour_of(words: &[u32], s: Sizes, f: usize) -> Found
+pub fn neighbour_of(words: &[u32], s: Sizes, f: usize) -> Option<usize>
     requires { LentWords s words.now }
     ensures { (floats : List Float) → result ≡ (face_at (faces_in s words.now floats) f).neighbour }
 {
     if f < s.faces {
         let n = face_word(words, s, f, NEIGHBOUR_WORD);
-        if n == 0 {
-            Found::Nothing
-        } else {
-            Found::At(n - 1)
-        }
+        if n == 0 { None } else { Some(n - 1) }
     } else {
-        Found::Nothing
+        None
     }
 }
 

@@ -6,15 +6,13 @@ use mathlib.Core.List.{List, [], ◌∷◌, ◌++◌}
 use lib.ListN.{length}
 use lib.Ieee.{Float}
 use Rattle.arith.specs.declared.Vec3.{Vec3}
-use Rattle.reading.specs.Result.{Result, refused, fine, ◌>>=◌}
+use Rattle.reading.specs.Result.{Refusable, ◌>>=◌}
 use Rattle.mesh_area.specs.declared.Sizes.{Sizes}
 use Rattle.mesh_area.specs.Layout.{faces_in}
 use Rattle.mesh_area.proofs.LayoutLaws.{length-faces_in}
 use Rattle.mesh_geometry.specs.Faces.{oriented_face}
 use Rattle.mesh_geometry.specs.Ensures.{face_of, OrientedFaceExit}
 use Rattle.mesh_geometry.specs.declared.FaceGeometry.{FaceGeometry}
-use Rattle.mesh_geometry.specs.declared.TurnedFace.{TurnedFace}
-use Rattle.mesh_geometry.specs.declared.TurnedFace.TheVariants as Turned
 use Rattle.mesh_faces.specs.Table.{NumberedFace, numbered_face, add_face}
 use Rattle.mesh_faces.specs.Ensures.{with_faces, faces_after, UseFaceEntry, UseFaceExit}
 use Rattle.mesh_faces.specs.declared.Added.{Added}
@@ -24,28 +22,30 @@ use Rattle.mesh_cell_parts.specs.Ensures as Ensures
 use Rattle.mesh_cell_parts.specs.Parts.{measured_from, CellFaces, add_face_of}
 use Rattle.mesh_cell_parts.specs.Ensures.{PlaceFaceExit}
 use Rattle.mesh_cell_parts.specs.declared.NewCell.{NewCell}
-use Rattle.mesh_cell_parts.specs.declared.FacePlaced.TheVariants as FacePlaced
+use Rattle.std.specs.Prelude.{Some, None, Ok, Err}
+use Rattle.std.specs.declared.option.Option.{Option}
+use Rattle.refusal.specs.declared.Refusal.TheVariants.{DegenerateFace, ThirdUser}
 
-module _ (d : ℕ) (ps : List Vec3) (cell : NewCell) (s : Sizes) (words : List ℕ) (floats : List Float) (vertices vertices' : List ℕ) (r : TurnedFace)
+module _ (d : ℕ) (ps : List Vec3) (cell : NewCell) (s : Sizes) (words : List ℕ) (floats : List Float) (vertices vertices' : List ℕ) (r : Option FaceGeometry)
     (t : OrientedFaceExit d ps cell.reference vertices vertices' r) where
-  pub place-degenerate : r ≡ Turned.Degenerate → PlaceFaceExit d ps cell s words words floats floats vertices (FacePlaced.Refused 13)
+  pub place-degenerate : r ≡ None → PlaceFaceExit d ps cell s words words floats floats vertices (Err DegenerateFace)
   unfolding add_face_of face_of ◌>>=◌
   place-degenerate e =
-      let o : oriented_face d ps cell.reference vertices ≡ refused 13 = sym t.face ∙ ap (face_of vertices') e in
-      Ensures.PlaceFaceExit.refusing 13 (λ g eg. rw o)
+      let o : oriented_face d ps cell.reference vertices ≡ Err DegenerateFace = sym t.face ∙ ap (face_of vertices') e in
+      Ensures.PlaceFaceExit.refusing DegenerateFace (λ g eg. rw o)
 
-  module _ (g : FaceGeometry) (e : r ≡ Turned.Face g) (words' : List ℕ) (floats' : List Float) (a : Added) (u : UseFaceExit s words words' floats floats' vertices' g cell.number a) where
-    abbrev own : CellFaces → NumberedFace → Result CellFaces
-    own w p = fine (record { faces = p.faces; numbers = w.numbers ++ p.number ∷ [] })
+  module _ (g : FaceGeometry) (e : r ≡ Some g) (words' : List ℕ) (floats' : List Float) (a : Added) (u : UseFaceExit s words words' floats floats' vertices' g cell.number a) where
+    abbrev own : CellFaces → NumberedFace → Refusable CellFaces
+    own w p = Ok (record { faces = p.faces; numbers = w.numbers ++ p.number ∷ [] })
 
     whole : (w : CellFaces) → w.faces ≡ faces_in s words floats
         → add_face_of d ps cell.number cell.reference w vertices ≡ (numbered_face a (faces_in (with_faces s (faces_after a s.faces)) words' floats') >>= own w)
     unfolding add_face_of face_of measured_from add_face ◌>>=◌
     whole w ew =
-        let o : oriented_face d ps cell.reference vertices ≡ face_of vertices' (Turned.Face g) = sym t.face ∙ ap (face_of vertices') e in
+        let o : oriented_face d ps cell.reference vertices ≡ face_of vertices' (Some g) = sym t.face ∙ ap (face_of vertices') e in
         rw (o, ew, ← u.answer, ← u.faces)
 
-    pub place-new : (f : ℕ) → a ≡ New f → PlaceFaceExit d ps cell s words words' floats floats' vertices (FacePlaced.Face f (s.faces + 1))
+    pub place-new : (f : ℕ) → a ≡ New f → PlaceFaceExit d ps cell s words words' floats floats' vertices (Ok (f, (s.faces + 1)))
     unfolding numbered_face ◌>>=◌
     place-new f ea =
         let n = new-number cell.number (faces_in s words floats) f vertices' g (sym ea ∙ u.answer) in
@@ -58,7 +58,7 @@ module _ (d : ℕ) (ps : List Vec3) (cell : NewCell) (s : Sizes) (words : List �
           floats-kept = u.floats-kept;
         })
 
-    pub place-second : (f : ℕ) → a ≡ Second f → PlaceFaceExit d ps cell s words words' floats floats' vertices (FacePlaced.Face f s.faces)
+    pub place-second : (f : ℕ) → a ≡ Second f → PlaceFaceExit d ps cell s words words' floats floats' vertices (Ok (f, s.faces))
     unfolding numbered_face ◌>>=◌
     place-second f ea =
         let n = second-number cell.number (faces_in s words floats) f vertices' g (sym ea ∙ u.answer) in
@@ -71,9 +71,9 @@ module _ (d : ℕ) (ps : List Vec3) (cell : NewCell) (s : Sizes) (words : List �
           floats-kept = u.floats-kept;
         })
 
-    pub place-third : a ≡ Third → PlaceFaceExit d ps cell s words words' floats floats' vertices (FacePlaced.Refused 14)
+    pub place-third : a ≡ Third → PlaceFaceExit d ps cell s words words' floats floats' vertices (Err ThirdUser)
     unfolding numbered_face ◌>>=◌
-    place-third ea = Ensures.PlaceFaceExit.refusing 14 (λ w ew. rw ea at (whole w ew))
+    place-third ea = Ensures.PlaceFaceExit.refusing ThirdUser (λ w ew. rw ea at (whole w ew))
 
 -- what the table asks of a face that is turned
 pub usable : (s : Sizes) (words : List ℕ) (floats : List Float) (vertices vertices' : List ℕ) (cell : ℕ) → UseFaceEntry s words floats vertices cell

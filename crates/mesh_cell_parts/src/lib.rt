@@ -11,14 +11,7 @@ use arith::Vec3;
 use case_definitions::Head;
 use mesh_area::Sizes;
 use mesh_faces::Added;
-use mesh_geometry::TurnedFace;
-
-// A face's number and the number of faces in the table, or the refusal.
-#[derive(Clone, Copy)]
-pub enum FacePlaced {
-    Face(usize, usize),
-    Refused(u64),
-}
+use refusal::Refusal;
 
 // A cell that is added: its number, the average of its points, its record, and where the list of
 // its faces' numbers starts.
@@ -40,7 +33,7 @@ pub fn place_face(
     s: Sizes,
     cell: NewCell,
     vertices: &mut [u32],
-) -> FacePlaced
+) -> Result<(usize, usize), Refusal>
     requires { UseFaceEntry s words.old floats.old vertices.old cell.number × (points ≤ most_points)
         × (24 * points ≤ length case.now) }
     ensures { PlaceFaceExit dimension (points_in case.now points) cell s words.old
@@ -48,14 +41,14 @@ pub fn place_face(
 {
     let reference = cell.reference;
     let turned = mesh_geometry::oriented_face(dimension, case, points, vertices, reference);
-    let TurnedFace::Face(g) = turned else {
-        return FacePlaced::Refused(13);
+    let Some(g) = turned else {
+        return Err(Refusal::DegenerateFace);
     };
     let added = mesh_faces::use_face(words, floats, s, cell.number, vertices, g);
     match added {
-        Added::New(f) => FacePlaced::Face(f, s.faces + 1),
-        Added::Second(f) => FacePlaced::Face(f, s.faces),
-        Added::Third => FacePlaced::Refused(14),
+        Added::New(f) => Ok((f, s.faces + 1)),
+        Added::Second(f) => Ok((f, s.faces)),
+        Added::Third => Err(Refusal::ThirdUser),
     }
 }
 

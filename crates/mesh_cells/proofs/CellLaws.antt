@@ -15,14 +15,13 @@ use Rattle.arith.specs.Records.{tab, puts}
 use Rattle.arith.specs.declared.Vec3.{Vec3}
 use Rattle.arith.proofs.ListLaws.{foldl-next}
 use Rattle.arith.proofs.RecordLaws.{length-tab, tab-next, tab-same, length-puts, take-puts, get_or-puts-out, get_or-puts-at}
-use Rattle.reading.specs.Result.{refused, fine, ◌>>=◌, refuse, steps}
-use Rattle.reading.proofs.ResultLaws.{steps_next, steps-refused}
+use Rattle.reading.specs.Result.{◌>>=◌, refuse, steps, Refusable}
+use Rattle.reading.proofs.ResultLaws.{steps_next, steps-refused, ok-pair}
 use Rattle.case_definitions.specs.Faces.{Definition, polygon, faces_of, face_count, add_face_count, faces_counted}
 use Rattle.case_definitions.specs.Definitions.{definition, definitions}
 use Rattle.case_definitions.specs.Ensures.{read_of, definition_at, head_of, step_at}
 use Rattle.case_definitions.specs.declared.Head.{Head}
 use Rattle.case_definitions.specs.declared.Cursor.{Cursor}
-use Rattle.case_definitions.specs.declared.Step.TheVariants.{Record, Wrong}
 use Rattle.case_definitions.proofs.RecordLaws.{steps-to}
 use Rattle.case_faces.proofs.FaceLaws.{headed}
 use Rattle.case_definitions.proofs.Walking.{length-definitions, never-wrong, CellRead, cell-read, head-faces}
@@ -32,8 +31,7 @@ use Rattle.mesh_face_table.specs.Chains.{Chained}
 use Rattle.mesh_face_table.proofs.RecordParts.{read_count}
 use Rattle.mesh_faces.specs.Ensures.{with_faces}
 use Rattle.mesh_faces.proofs.AreaLaws.{chained-kept, faces-kept}
-use Rattle.mesh_points.specs.Collect.{wrong_kind, missing, checked, reference_case}
-use Rattle.mesh_points.specs.declared.Reference.{Reference}
+use Rattle.mesh_points.specs.Collect.{wrong_kind, missing, checked}
 use Rattle.mesh_cell_parts.specs.Parts.{add_face_of}
 use Rattle.mesh_cell_parts.specs.Ensures.{PutCellExit}
 use Rattle.mesh_cell_parts.specs.declared.NewCell.{NewCell}
@@ -41,11 +39,10 @@ use Rattle.mesh_cells.specs.Cells.{PartialCell, PartialMesh, add_cell, partial_m
 use Rattle.mesh_cells.specs.Ensures as Ensures
 use Rattle.mesh_cells.specs.Partial.{cell_word, partial_cell_in, partial_cells_in}
 use Rattle.mesh_cells.specs.Ensures.{FaceLists, AddCellsExit, cell_faces_in, add_faces, ListGrowth, AddFacesEntry, AddFacesExit, FillCellEntry, StoredCell, FillCellExit, NewCellExit, CellsSoFar, read, defined_in, AddCellsEntry, AddCellEntry, AddCellExit}
-use Rattle.mesh_cells.specs.declared.CellsAdded.{CellsAdded}
 use Rattle.mesh_cells.specs.declared.Progress.{Progress}
-use Rattle.mesh_cells.specs.declared.CellFound.{CellFound}
-use Rattle.mesh_cells.specs.declared.CellAdded.{CellAdded}
 use Rattle.mesh_cells.proofs.FaceLaws.{kept_at, lent-sized, lent-floats-sized}
+use Rattle.std.specs.Prelude.{Ok, Err}
+use Rattle.refusal.specs.declared.Refusal.{Refusal}
 
 -- ---- `fill_cell`
 
@@ -134,7 +131,7 @@ module _ (ws : List ℕ) (s : Sizes) (words : List ℕ) (floats : List Float) (c
               (rw (float-before (12 * s.slots + 4 * j) (omega arith), float-before (12 * s.slots + 4 * j + 1) (omega arith), float-before (12 * s.slots + 4 * j + 2) (omega arith)));
         }
 
-  pub cell-filled : (d : ℕ) (ps : List Vec3) (words' : List ℕ) (floats' : List Float) (r : CellsAdded) → at ≡ cell.head.at → f ≡ cell.first → k ≡ cell.head.faces
+  pub cell-filled : (d : ℕ) (ps : List Vec3) (words' : List ℕ) (floats' : List Float) (r : Refusable ℕ) → at ≡ cell.head.at → f ≡ cell.first → k ≡ cell.head.faces
       → AddFacesExit d ps ws cell s words₁ words' floats₁ floats' r → FillCellExit d ps ws cell s words words' floats floats' r
   cell-filled d ps words' floats' r ea ef ek (Ensures.AddFacesExit.added n e l) =
       let same = faces-kept s words words₁ rd.lent-words long-words rd.chained front-words floats floats₁ front-floats in
@@ -231,34 +228,32 @@ counted-least n (d ∷ l) = let w = counted-least (n + face_count d) l in omega 
 -- refusals 11 and 12, then the faces
 cell-checked : (d : ℕ) (ps : List Vec3) (t : PartialMesh) (def : Definition) → add_cell d ps t def
     ≡ (checked d ps def >>= λ v. steps (add_face_of d ps (length t.cells) v) (record { faces = t.faces; numbers = [] }) (faces_of def) >>= λ g.
-    fine (record { faces = g.faces; cells = t.cells ++ record { definition = def; faces = g.numbers; reference = v } ∷ [] }))
+    Ok (record { faces = g.faces; cells = t.cells ++ record { definition = def; faces = g.numbers; reference = v } ∷ [] }))
 unfolding add_cell checked refuse ◌>>=◌
 cell-checked d ps t def = by (wrong_kind d def) (missing ps def) refl refl
   where
     by : (a b : Bool) → wrong_kind d def ≡ a → missing ps def ≡ b → add_cell d ps t def
         ≡ (checked d ps def >>= λ v. steps (add_face_of d ps (length t.cells) v) (record { faces = t.faces; numbers = [] }) (faces_of def) >>= λ g.
-        fine (record { faces = g.faces; cells = t.cells ++ record { definition = def; faces = g.numbers; reference = v } ∷ [] }))
+        Ok (record { faces = g.faces; cells = t.cells ++ record { definition = def; faces = g.numbers; reference = v } ∷ [] }))
     by true b ea eb = rw ea
     by false true ea eb = rw (ea, eb)
     by false false ea eb = rw (ea, eb)
 
 -- the definitions are those that were read
-pub defined : (case : List ℕ) (points : ℕ) (ws words : List ℕ) (floats : List Float) (s : Sizes) → AddCellsEntry case points ws words floats s → definitions s.cells ws ≡ fine (defined_in s ws)
+pub defined : (case : List ℕ) (points : ℕ) (ws words : List ℕ) (floats : List Float) (s : Sizes) → AddCellsEntry case points ws words floats s → definitions s.cells ws ≡ Ok (defined_in s ws)
 unfolding read
-defined case points ws words floats s a = a.right ∙ ap fine (sym (ap read a.right))
+defined case points ws words floats s a = a.right ∙ ap Ok (sym (ap read a.right))
 
 module _ (d : ℕ) (ps : List Vec3) (ws : List ℕ) (i : ℕ) (p : Progress) where
-  pub found-wrong : (k : ℕ) → Wrong k ≡ step_at ws p.at → NewCellExit d ps ws i p (CellFound.Refused k)
+  pub found-wrong : (k : Refusal) → Err k ≡ step_at ws p.at → NewCellExit d ps ws i p (Err k)
   found-wrong k e = Ensures.NewCellExit.wrong k e
 
-  module _ (h : Head) (c : Cursor) (e : Record h c ≡ step_at ws p.at) (r : Reference) (er : reference_case r ≡ checked d ps (definition_at ws h.at)) where
-    pub found-refused : (k : ℕ) → r ≡ Reference.Refused k → NewCellExit d ps ws i p (CellFound.Refused k)
-    unfolding reference_case
-    found-refused k q = Ensures.NewCellExit.refusing h c k e (sym er ∙ ap reference_case q)
+  module _ (h : Head) (c : Cursor) (e : Ok (h, c) ≡ step_at ws p.at) (r : Refusable Vec3) (er : r ≡ checked d ps (definition_at ws h.at)) where
+    pub found-refused : (k : Refusal) → r ≡ Err k → NewCellExit d ps ws i p (Err k)
+    found-refused k q = Ensures.NewCellExit.refusing h c k e (sym er ∙ q)
 
-    pub found-cell : (v : Vec3) → r ≡ Reference.Point v → NewCellExit d ps ws i p (CellFound.Cell (record { number = i; reference = v; head = h; first = p.first }) c)
-    unfolding reference_case
-    found-cell v q = Ensures.NewCellExit.cell h c v e (sym er ∙ ap reference_case q)
+    pub found-cell : (v : Vec3) → r ≡ Ok v → NewCellExit d ps ws i p (Ok ((record { number = i; reference = v; head = h; first = p.first }), c))
+    found-cell v q = Ensures.NewCellExit.cell h c v e (sym er ∙ q)
 
 module _ (d : ℕ) (ps : List Vec3) (case : List ℕ) (points : ℕ) (ws words : List ℕ) (floats : List Float) (s : Sizes) (i : ℕ) (p : Progress)
     (t : AddCellEntry d ps case points ws words floats s i p) where
@@ -271,10 +266,10 @@ module _ (d : ℕ) (ps : List Vec3) (case : List ℕ) (points : ℕ) (ws words :
   there : i < length (defined_in s ws)
   there = omega (arith, many, t.cell)
 
-  never : (k : ℕ) → Wrong k ≡ step_at ws p.at → ⊥
+  never : (k : Refusal) → Err k ≡ step_at ws p.at → ⊥
   never k e = never-wrong ws s.cells i p.at (defined_in s ws) t.cell many t.filled.left k e
 
-  module _ (h : Head) (c : Cursor) (e : Record h c ≡ step_at ws p.at) where
+  module _ (h : Head) (c : Cursor) (e : Ok (h, c) ≡ step_at ws p.at) where
     abbrev def : Definition
     def = get_or (defined_in s ws) i (polygon [])
 
@@ -307,14 +302,14 @@ module _ (d : ℕ) (ps : List Vec3) (case : List ℕ) (points : ℕ) (ws words :
     unfolding partial_cells_in
     so-many = length-tab (partial_cell_in ws s words floats) i
 
-    refusing : (k : ℕ) → add_cell d ps partial (get_or (defined_in s ws) i (polygon [])) ≡ refused k → partial_mesh d ps (defined_in s ws) ≡ refused k
+    refusing : (k : Refusal) → add_cell d ps partial (get_or (defined_in s ws) i (polygon [])) ≡ Err k → partial_mesh d ps (defined_in s ws) ≡ Err k
     refusing k q = sym t.filled.rest ∙ steps-refused (defined_in s ws) i (polygon []) there (add_cell d ps) partial k q
 
-    not-checked : (k : ℕ) → checked d ps (definition_at ws h.at) ≡ refused k → partial_mesh d ps (defined_in s ws) ≡ refused k
+    not-checked : (k : Refusal) → checked d ps (definition_at ws h.at) ≡ Err k → partial_mesh d ps (defined_in s ws) ≡ Err k
     unfolding ◌>>=◌
     not-checked k x = refusing k (rw (same-def, cell-checked, x))
 
-    module _ (v : Vec3) (x : checked d ps (definition_at ws h.at) ≡ fine v) where
+    module _ (v : Vec3) (x : checked d ps (definition_at ws h.at) ≡ Ok v) where
       abbrev new : NewCell
       new = record { number = i; reference = v; head = h; first = p.first }
 
@@ -335,18 +330,18 @@ module _ (d : ℕ) (ps : List Vec3) (case : List ℕ) (points : ℕ) (ws words :
 
       with-faces : add_cell d ps partial (get_or (defined_in s ws) i (polygon []))
           ≡ (add_faces d ps ws new (faces_in (with_faces s p.faces) words floats) >>= λ g.
-          fine (record { faces = g.faces; cells = partial_cells_in ws s words floats i ++ record { definition = definition_at ws h.at; faces = g.numbers; reference = v } ∷ [] }))
+          Ok (record { faces = g.faces; cells = partial_cells_in ws s words floats i ++ record { definition = definition_at ws h.at; faces = g.numbers; reference = v } ∷ [] }))
       unfolding ◌>>=◌
       with-faces = rw (same-def, cell-checked, x, so-many)
 
       module _ (words' : List ℕ) (floats' : List Float) where
-        not-filled : (a : CellsAdded) (k : ℕ) → FillCellExit d ps ws new (with_faces s p.faces) words words' floats floats' a → a ≡ CellsAdded.Refused k
-            → AddCellExit d ps ws s words' floats' i (CellAdded.Refused k)
+        not-filled : (a : Refusable ℕ) (k : Refusal) → FillCellExit d ps ws new (with_faces s p.faces) words words' floats floats' a → a ≡ Err k
+            → AddCellExit d ps ws s words' floats' i (Err k)
         unfolding ◌>>=◌
         not-filled a k (Ensures.FillCellExit.filled n q st) ea = absurd (let z : ◌≡◌ {A = ℕ} 0 1 = cc in omega arith)
         not-filled a k (Ensures.FillCellExit.refusing j q) ea = let z : j ≡ k = cc in Ensures.AddCellExit.refusing k (refusing k (with-faces ∙ rw (q, z)))
 
-        filled_next : (n : ℕ) → add_faces d ps ws new (faces_in (with_faces s p.faces) words floats) ≡ fine (cell_faces_in (with_faces s n) words' floats' p.first h.faces)
+        filled_next : (n : ℕ) → add_faces d ps ws new (faces_in (with_faces s p.faces) words floats) ≡ Ok (cell_faces_in (with_faces s n) words' floats' p.first h.faces)
             → StoredCell (with_faces s p.faces) words words' floats floats' new n
             → CellsSoFar d ps ws (defined_in s ws) s words' floats' (i + 1) (record { at = c.at; first = p.first + h.faces; faces = n })
         unfolding ◌>>=◌
@@ -365,39 +360,39 @@ module _ (d : ℕ) (ps : List Vec3) (case : List ℕ) (points : ℕ) (ws words :
                   ∙ t.filled.rest);
             }
 
-        added : (a : CellsAdded) (n : ℕ) → FillCellExit d ps ws new (with_faces s p.faces) words words' floats floats' a → a ≡ CellsAdded.Faces n
-            → AddCellExit d ps ws s words' floats' i (CellAdded.Next (record { at = c.at; first = p.first + h.faces; faces = n }))
+        added : (a : Refusable ℕ) (n : ℕ) → FillCellExit d ps ws new (with_faces s p.faces) words words' floats floats' a → a ≡ Ok n
+            → AddCellExit d ps ws s words' floats' i (Ok (record { at = c.at; first = p.first + h.faces; faces = n }))
         added a n (Ensures.FillCellExit.refusing j q) ea = absurd (let z : ◌≡◌ {A = ℕ} 0 1 = cc in omega arith)
         added a n (Ensures.FillCellExit.filled m q st) ea = let z : m ≡ n = cc in Ensures.AddCellExit.next _ (filled_next n (rw z at q) (rw z at st))
 
-  pub cell-refused : (r : CellFound) (k : ℕ) (words' : List ℕ) (floats' : List Float) → NewCellExit d ps ws i p r → r ≡ CellFound.Refused k → AddCellExit d ps ws s words' floats' i (CellAdded.Refused k)
+  pub cell-refused : (r : Refusable (NewCell × Cursor)) (k : Refusal) (words' : List ℕ) (floats' : List Float) → NewCellExit d ps ws i p r → r ≡ Err k → AddCellExit d ps ws s words' floats' i (Err k)
   cell-refused r k words' floats' (Ensures.NewCellExit.cell h c v e x) q = absurd (let z : ◌≡◌ {A = ℕ} 0 1 = cc in omega arith)
   cell-refused r k words' floats' (Ensures.NewCellExit.refusing h c j e x) q = let z : j ≡ k = cc in Ensures.AddCellExit.refusing k (rw z at (not-checked h c e j x))
   cell-refused r k words' floats' (Ensures.NewCellExit.wrong j e) q = absurd (never j e)
 
-  pub cell-ready : (r : CellFound) (y : NewCell) (c : Cursor) → NewCellExit d ps ws i p r → r ≡ CellFound.Cell y c → FillCellEntry ws (with_faces s p.faces) words floats y
+  pub cell-ready : (r : Refusable (NewCell × Cursor)) (y : NewCell) (c : Cursor) → NewCellExit d ps ws i p r → r ≡ Ok (y, c) → FillCellEntry ws (with_faces s p.faces) words floats y
   cell-ready r y c (Ensures.NewCellExit.refusing h c' j e x) q = absurd (let z : ◌≡◌ {A = ℕ} 0 1 = cc in omega arith)
   cell-ready r y c (Ensures.NewCellExit.wrong j e) q = absurd (never j e)
   cell-ready r y c (Ensures.NewCellExit.cell h c' v e x) q =
-      let z : record { number = i; reference = v; head = h; first = p.first } ≡ y = cc in
+      let z : record { number = i; reference = v; head = h; first = p.first } ≡ y = (ok-pair q).0 in
       rw z at (ready h c' e v x)
 
-  pub cell-not-filled : (r : CellFound) (y : NewCell) (c : Cursor) (words' : List ℕ) (floats' : List Float) (a : CellsAdded) (k : ℕ) → NewCellExit d ps ws i p r → r ≡ CellFound.Cell y c
-      → FillCellExit d ps ws y (with_faces s p.faces) words words' floats floats' a → a ≡ CellsAdded.Refused k → AddCellExit d ps ws s words' floats' i (CellAdded.Refused k)
+  pub cell-not-filled : (r : Refusable (NewCell × Cursor)) (y : NewCell) (c : Cursor) (words' : List ℕ) (floats' : List Float) (a : Refusable ℕ) (k : Refusal) → NewCellExit d ps ws i p r → r ≡ Ok (y, c)
+      → FillCellExit d ps ws y (with_faces s p.faces) words words' floats floats' a → a ≡ Err k → AddCellExit d ps ws s words' floats' i (Err k)
   cell-not-filled r y c words' floats' a k (Ensures.NewCellExit.refusing h c' j e x) q f ea = absurd (let z : ◌≡◌ {A = ℕ} 0 1 = cc in omega arith)
   cell-not-filled r y c words' floats' a k (Ensures.NewCellExit.wrong j e) q f ea = absurd (never j e)
   cell-not-filled r y c words' floats' a k (Ensures.NewCellExit.cell h c' v e x) q f ea =
-      let z : record { number = i; reference = v; head = h; first = p.first } ≡ y = cc in
+      let z : record { number = i; reference = v; head = h; first = p.first } ≡ y = (ok-pair q).0 in
       not-filled h c' e v x words' floats' a k (rw (← z) at f) ea
 
-  pub cell-next : (r : CellFound) (y : NewCell) (c : Cursor) (words' : List ℕ) (floats' : List Float) (a : CellsAdded) (n : ℕ) → NewCellExit d ps ws i p r → r ≡ CellFound.Cell y c
-      → FillCellExit d ps ws y (with_faces s p.faces) words words' floats floats' a → a ≡ CellsAdded.Faces n
-      → AddCellExit d ps ws s words' floats' i (CellAdded.Next (record { at = c.at; first = y.first + y.head.faces; faces = n }))
+  pub cell-next : (r : Refusable (NewCell × Cursor)) (y : NewCell) (c : Cursor) (words' : List ℕ) (floats' : List Float) (a : Refusable ℕ) (n : ℕ) → NewCellExit d ps ws i p r → r ≡ Ok (y, c)
+      → FillCellExit d ps ws y (with_faces s p.faces) words words' floats floats' a → a ≡ Ok n
+      → AddCellExit d ps ws s words' floats' i (Ok (record { at = c.at; first = y.first + y.head.faces; faces = n }))
   cell-next r y c words' floats' a n (Ensures.NewCellExit.refusing h c' j e x) q f ea = absurd (let z : ◌≡◌ {A = ℕ} 0 1 = cc in omega arith)
   cell-next r y c words' floats' a n (Ensures.NewCellExit.wrong j e) q f ea = absurd (never j e)
   cell-next r y c words' floats' a n (Ensures.NewCellExit.cell h c' v e x) q f ea =
-      let z : record { number = i; reference = v; head = h; first = p.first } ≡ y = cc in
-      let zc : c' ≡ c = cc in
+      let z : record { number = i; reference = v; head = h; first = p.first } ≡ y = (ok-pair q).0 in
+      let zc : c' ≡ c = (ok-pair q).1 in
       rw (← zc, ← z) (added h c' e v x words' floats' a n (rw (← z) at f) ea)
 
 -- ---- `fill_cells`
@@ -419,11 +414,11 @@ addable-kept case points ws words₀ words floats₀ floats s a lw lf =
     }
 
 module _ (d : ℕ) (ps : List Vec3) (ws : List ℕ) (s : Sizes) (words : List ℕ) (floats : List Float) (i : ℕ) where
-  pub added-refused : (r : CellAdded) (k : ℕ) → AddCellExit d ps ws s words floats i r → r ≡ CellAdded.Refused k → partial_mesh d ps (defined_in s ws) ≡ refused k
+  pub added-refused : (r : Refusable Progress) (k : Refusal) → AddCellExit d ps ws s words floats i r → r ≡ Err k → partial_mesh d ps (defined_in s ws) ≡ Err k
   added-refused r k (Ensures.AddCellExit.next q g) e = absurd (let z : ◌≡◌ {A = ℕ} 0 1 = cc in omega arith)
   added-refused r k (Ensures.AddCellExit.refusing j g) e = let z : j ≡ k = cc in rw z at g
 
-  pub added_next : (r : CellAdded) (q : Progress) → AddCellExit d ps ws s words floats i r → r ≡ CellAdded.Next q → CellsSoFar d ps ws (defined_in s ws) s words floats (i + 1) q
+  pub added_next : (r : Refusable Progress) (q : Progress) → AddCellExit d ps ws s words floats i r → r ≡ Ok q → CellsSoFar d ps ws (defined_in s ws) s words floats (i + 1) q
   added_next r q (Ensures.AddCellExit.refusing j g) e = absurd (let z : ◌≡◌ {A = ℕ} 0 1 = cc in omega arith)
   added_next r q (Ensures.AddCellExit.next x g) e = let z : x ≡ q = cc in rw z at g
 
@@ -449,12 +444,12 @@ module _ (d : ℕ) (ps : List Vec3) (case : List ℕ) (points : ℕ) (ws words�
         rest = refl;
       }
 
-  module _ (defs : List Definition) (e : definitions s.cells ws ≡ fine defs) where
+  module _ (defs : List Definition) (e : definitions s.cells ws ≡ Ok defs) where
     same : defined_in s ws ≡ defs
     unfolding read
     same = ap read e
 
-    pub drafts-refused : (words : List ℕ) (floats : List Float) (k : ℕ) → partial_mesh d ps (defined_in s ws) ≡ refused k → AddCellsExit d ps ws defs s words floats (CellsAdded.Refused k)
+    pub drafts-refused : (words : List ℕ) (floats : List Float) (k : Refusal) → partial_mesh d ps (defined_in s ws) ≡ Err k → AddCellsExit d ps ws defs s words floats (Err k)
     drafts-refused words floats k q = Ensures.AddCellsExit.refusing (rw same at q)
 
     module _ (words : List ℕ) (floats : List Float) (i : ℕ) (p : Progress) (lw : length words ≡ length words₀) (g : CellsSoFar d ps ws (defined_in s ws) s words floats i p)
@@ -477,10 +472,10 @@ module _ (d : ℕ) (ps : List Vec3) (case : List ℕ) (points : ℕ) (ws words�
           let e : get_or (mesh_words (with_faces s p.faces) words) (12 * f + 0) 0 ≡ get_or words (12 * f + 0) 0 = get_or-take (16 * s.slots + 8 * s.cells) words (12 * f + 0) 0 (omega arith) in
           rw (← e, read_count (mesh_words (with_faces s p.faces) words) f) (g.chained.short f b)
 
-      pub drafts-done : AddCellsExit d ps ws defs s words floats (CellsAdded.Faces p.faces)
+      pub drafts-done : AddCellsExit d ps ws defs s words floats (Ok p.faces)
       unfolding steps
       drafts-done =
-          let w : fine (record { faces = faces_in (with_faces s p.faces) words floats; cells = partial_cells_in ws s words floats i }) ≡ partial_mesh d ps (defined_in s ws) = rw (none_left, steps) at g.rest in
+          let w : Ok (record { faces = faces_in (with_faces s p.faces) words floats; cells = partial_cells_in ws s words floats i }) ≡ partial_mesh d ps (defined_in s ws) = rw (none_left, steps) at g.rest in
           Ensures.AddCellsExit.added (rw (same, all-cells) at (sym w))
           (record {
             table = refl;

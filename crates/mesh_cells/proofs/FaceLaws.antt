@@ -9,8 +9,8 @@ use lib.Ieee.{Float}
 use Rattle.arith.specs.Records.{tab}
 use Rattle.arith.specs.declared.Vec3.{Vec3}
 use Rattle.arith.proofs.RecordLaws.{tab-next, tab-same}
-use Rattle.reading.specs.Result.{fine, steps}
-use Rattle.reading.proofs.ResultLaws.{steps_next, steps-refused}
+use Rattle.reading.specs.Result.{steps, Refusable}
+use Rattle.reading.proofs.ResultLaws.{steps_next, steps-refused, ok-pair}
 use Rattle.case_definitions.specs.Faces.{faces_of}
 use Rattle.case_definitions.specs.Ensures.{definition_at, face_at}
 use Rattle.case_faces.specs.Ensures.{AtFace, CopyFaceExit}
@@ -26,11 +26,10 @@ use Rattle.mesh_cell_parts.specs.Ensures as Parts
 use Rattle.mesh_cell_parts.specs.Parts.{add_face_of}
 use Rattle.mesh_cell_parts.specs.Ensures.{TableGrowth, PlaceFaceExit}
 use Rattle.mesh_cell_parts.specs.declared.NewCell.{NewCell}
-use Rattle.mesh_cell_parts.specs.declared.FacePlaced.{FacePlaced}
 use Rattle.mesh_cells.specs.Ensures as Ensures
 use Rattle.mesh_cells.specs.Ensures.{cell_faces_in, AddFaceEntry, ListGrowth, AddFaceExit, AddFacesEntry, add_faces, AddFacesExit}
-use Rattle.mesh_cells.specs.declared.FaceAdded.{FaceAdded}
-use Rattle.mesh_cells.specs.declared.CellsAdded.TheVariants as CellsAdded
+use Rattle.std.specs.Prelude.{Ok, Err}
+use Rattle.refusal.specs.declared.Refusal.{Refusal}
 
 -- ---- `add_face`
 
@@ -62,15 +61,15 @@ module _ (ws : List ℕ) (s : Sizes) (words : List ℕ) (floats : List Float) (c
       }
 
   module _ (d : ℕ) (ps : List Vec3) (words₁ : List ℕ) (floats' : List Float) where
-    pub face-refused : (r : FacePlaced) (k : ℕ) → PlaceFaceExit d ps cell s words words₁ floats floats' (take count vs) r → r ≡ FacePlaced.Refused k
-        → AddFaceExit d ps ws cell s words words₁ floats floats' c (FaceAdded.Refused k)
+    pub face-refused : (r : Refusable (ℕ × ℕ)) (k : Refusal) → PlaceFaceExit d ps cell s words words₁ floats floats' (take count vs) r → r ≡ Err k
+        → AddFaceExit d ps ws cell s words words₁ floats floats' c (Err k)
     face-refused r k (Parts.PlaceFaceExit.placed j m e g) q = absurd (let z : ◌≡◌ {A = ℕ} 0 1 = cc in omega arith)
     face-refused r k (Parts.PlaceFaceExit.refusing j e) q =
         let z : j ≡ k = cc in
         Ensures.AddFaceExit.refusing k (rw (← z, ← f.front) (e (cell_faces_in s words floats cell.first c.face) refl))
 
     module _ (i n x : ℕ) (ex : x ≡ i) (e : (own : List ℕ) → add_face_of d ps cell.number cell.reference (record { faces = faces_in s words floats; numbers = own }) (take count vs)
-        ≡ fine (record { faces = faces_in (with_faces s n) words₁ floats'; numbers = own ++ i ∷ [] })) (g : TableGrowth s words words₁ floats floats' i n)
+        ≡ Ok (record { faces = faces_in (with_faces s n) words₁ floats'; numbers = own ++ i ∷ [] })) (g : TableGrowth s words words₁ floats floats' i n)
         (long : length words₁ ≡ length words) (long-floats : length floats' ≡ length floats) where
       many : n ≤ s.slots
       many = omega (arith, g.more, rd.behind, rd.face, rd.room)
@@ -96,7 +95,7 @@ module _ (ws : List ℕ) (s : Sizes) (words : List ℕ) (floats : List Float) (c
       front : take (13 * s.slots) (set words₁ (13 * s.slots + cell.first + c.face) x) ≡ take (13 * s.slots) words₁
       front = take-set-le (13 * s.slots) words₁ (13 * s.slots + cell.first + c.face) x (omega arith)
 
-      pub face-next : AddFaceExit d ps ws cell s words (set words₁ (13 * s.slots + cell.first + c.face) x) floats floats' c (FaceAdded.Next next n)
+      pub face-next : AddFaceExit d ps ws cell s words (set words₁ (13 * s.slots + cell.first + c.face) x) floats floats' c (Ok (next, n))
       face-next =
           let lent = lent-sized s words words₁ n rd.lent-words long many in
           let same = faces-kept (with_faces s n) words₁ (set words₁ (13 * s.slots + cell.first + c.face) x) lent (length-set words₁ _ x) g.chained front floats' floats' refl in
@@ -111,20 +110,20 @@ module _ (ws : List ℕ) (s : Sizes) (words : List ℕ) (floats : List Float) (c
             long-floats = long-floats;
           })
 
-    pub face-added : (r : FacePlaced) (i n x : ℕ) → PlaceFaceExit d ps cell s words words₁ floats floats' (take count vs) r → r ≡ FacePlaced.Face i n → x ≡ i
+    pub face-added : (r : Refusable (ℕ × ℕ)) (i n x : ℕ) → PlaceFaceExit d ps cell s words words₁ floats floats' (take count vs) r → r ≡ Ok (i, n) → x ≡ i
         → length words₁ ≡ length words → length floats' ≡ length floats
-        → AddFaceExit d ps ws cell s words (set words₁ (13 * s.slots + cell.first + c.face) x) floats floats' c (FaceAdded.Next next n)
+        → AddFaceExit d ps ws cell s words (set words₁ (13 * s.slots + cell.first + c.face) x) floats floats' c (Ok (next, n))
     face-added r i n x (Parts.PlaceFaceExit.placed j m e g) q ex lw lf =
-        let a : j ≡ i = cc in
-        let b : m ≡ n = cc in
+        let a : j ≡ i = (ok-pair q).0 in
+        let b : m ≡ n = (ok-pair q).1 in
         face-next i n x ex (rw (a, b) at e) (rw (a, b) at g) lw lf
     face-added r i n x (Parts.PlaceFaceExit.refusing j e) q ex lw lf = absurd (let z : ◌≡◌ {A = ℕ} 0 1 = cc in omega arith)
 
 -- the number of a face is a word
-pub face-number : (d : ℕ) (ps : List Vec3) (cell : NewCell) (s : Sizes) (words words₁ : List ℕ) (floats floats' : List Float) (vertices : List ℕ) (r : FacePlaced) (i n : ℕ)
-    → PlaceFaceExit d ps cell s words words₁ floats floats' vertices r → r ≡ FacePlaced.Face i n → s.faces < s.slots → s.slots ≤ 1048576 → i < 4294967296
+pub face-number : (d : ℕ) (ps : List Vec3) (cell : NewCell) (s : Sizes) (words words₁ : List ℕ) (floats floats' : List Float) (vertices : List ℕ) (r : Refusable (ℕ × ℕ)) (i n : ℕ)
+    → PlaceFaceExit d ps cell s words words₁ floats floats' vertices r → r ≡ Ok (i, n) → s.faces < s.slots → s.slots ≤ 1048576 → i < 4294967296
 face-number d ps cell s words words₁ floats floats' vertices r i n (Parts.PlaceFaceExit.placed j m e g) q few slots =
-    let a : j ≡ i = cc in omega (arith, g.number, g.more)
+    let a : j ≡ i = (ok-pair q).0 in omega (arith, g.number, g.more)
 face-number d ps cell s words words₁ floats floats' vertices r i n (Parts.PlaceFaceExit.refusing j e) q few slots = absurd (let z : ◌≡◌ {A = ℕ} 0 1 = cc in omega arith)
 
 -- ---- `add_faces`
@@ -173,32 +172,32 @@ module _ (d : ℕ) (ps : List Vec3) (ws : List ℕ) (cell : NewCell) (s : Sizes)
           cells-few = rd.cells-few;
         }
 
-    module _ (more : c.face < cell.head.faces) (words' : List ℕ) (floats' : List Float) (r : FaceAdded)
+    module _ (more : c.face < cell.head.faces) (words' : List ℕ) (floats' : List Float) (r : Refusable (FaceCursor × ℕ))
         (a : AddFaceExit d ps ws cell (with_faces s n) words words' floats floats' c r) where
       there : c.face < length (faces_of (definition_at ws cell.head.at))
       there = omega (arith, (head-faces ws cell.head rd.headed).all)
 
-      pub going-refused : (k : ℕ) → r ≡ FaceAdded.Refused k → AddFacesExit d ps ws cell s words₀ words' floats₀ floats' (CellsAdded.Refused k)
+      pub going-refused : (k : Refusal) → r ≡ Err k → AddFacesExit d ps ws cell s words₀ words' floats₀ floats' (Err k)
       unfolding face_at
       going-refused k q = by r a q
         where
-          by : (r : FaceAdded) → AddFaceExit d ps ws cell (with_faces s n) words words' floats floats' c r → r ≡ FaceAdded.Refused k
-              → AddFacesExit d ps ws cell s words₀ words' floats₀ floats' (CellsAdded.Refused k)
+          by : (r : Refusable (FaceCursor × ℕ)) → AddFaceExit d ps ws cell (with_faces s n) words words' floats floats' c r → r ≡ Err k
+              → AddFacesExit d ps ws cell s words₀ words' floats₀ floats' (Err k)
           by r (Ensures.AddFaceExit.next q' m' e f p l) q = absurd (let z : ◌≡◌ {A = ℕ} 0 1 = cc in omega arith)
           by r (Ensures.AddFaceExit.refusing j e) q =
               let z : j ≡ k = cc in
               Ensures.AddFacesExit.refusing k (sym g.rest ∙ steps-refused (faces_of (definition_at ws cell.head.at)) c.face [] there (add_face_of d ps cell.number cell.reference) _ k (rw z at e))
 
-      pub going_next : (q : FaceCursor) (m : ℕ) → r ≡ FaceAdded.Next q m → Going d ps ws cell s words₀ words' floats₀ floats' m q
+      pub going_next : (q : FaceCursor) (m : ℕ) → r ≡ Ok (q, m) → Going d ps ws cell s words₀ words' floats₀ floats' m q
       unfolding face_at
       going_next q m er = by r a er
         where
-          by : (r : FaceAdded) → AddFaceExit d ps ws cell (with_faces s n) words words' floats floats' c r → r ≡ FaceAdded.Next q m
+          by : (r : Refusable (FaceCursor × ℕ)) → AddFaceExit d ps ws cell (with_faces s n) words words' floats floats' c r → r ≡ Ok (q, m)
               → Going d ps ws cell s words₀ words' floats₀ floats' m q
           by r (Ensures.AddFaceExit.refusing j e) er = absurd (let z : ◌≡◌ {A = ℕ} 0 1 = cc in omega arith)
           by r (Ensures.AddFaceExit.next q' m' e f p l) er =
-              let zq : q' ≡ q = cc in
-              let zm : m' ≡ m = cc in
+              let zq : q' ≡ q = (ok-pair er).0 in
+              let zm : m' ≡ m = (ok-pair er).1 in
               let f' : q.face ≡ c.face + 1 = rw zq at f in
               let l' : ListGrowth (with_faces s n) words words' floats floats' (cell.first + c.face) 1 m = rw zm at l in
               record {
@@ -218,14 +217,14 @@ module _ (d : ℕ) (ps : List Vec3) (ws : List ℕ) (cell : NewCell) (s : Sizes)
                     rw f' (sym (steps_next (faces_of (definition_at ws cell.head.at)) c.face [] there (add_face_of d ps cell.number cell.reference) _ _ (rw zm at e)) ∙ g.rest);
               }
 
-      pub going_face : (q : FaceCursor) (m : ℕ) → r ≡ FaceAdded.Next q m → q.face ≡ c.face + 1
+      pub going_face : (q : FaceCursor) (m : ℕ) → r ≡ Ok (q, m) → q.face ≡ c.face + 1
       going_face q m er = by r a er
         where
-          by : (r : FaceAdded) → AddFaceExit d ps ws cell (with_faces s n) words words' floats floats' c r → r ≡ FaceAdded.Next q m → q.face ≡ c.face + 1
+          by : (r : Refusable (FaceCursor × ℕ)) → AddFaceExit d ps ws cell (with_faces s n) words words' floats floats' c r → r ≡ Ok (q, m) → q.face ≡ c.face + 1
           by r (Ensures.AddFaceExit.refusing j e) er = absurd (let z : ◌≡◌ {A = ℕ} 0 1 = cc in omega arith)
-          by r (Ensures.AddFaceExit.next q' m' e f p l) er = let zq : q' ≡ q = cc in rw zq at f
+          by r (Ensures.AddFaceExit.next q' m' e f p l) er = let zq : q' ≡ q = (ok-pair er).0 in rw zq at f
 
-    pub going_done : cell.head.faces ≤ c.face → AddFacesExit d ps ws cell s words₀ words floats₀ floats (CellsAdded.Faces n)
+    pub going_done : cell.head.faces ≤ c.face → AddFacesExit d ps ws cell s words₀ words floats₀ floats (Ok n)
     unfolding steps
     going_done end =
         let z : c.face ≡ cell.head.faces = omega (arith, g.face) in

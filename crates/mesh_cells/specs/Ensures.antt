@@ -4,22 +4,19 @@
 -- `add_faces`: `AddFacesEntry`, `add_faces`, `AddFacesExit`. `fill_cell`: `FillCellEntry`, `StoredCell`, `FillCellExit`. `new_cell`: `NewCellExit`.
 -- `CellsSoFar`: the first cells, in the area. `read`, `defined_in`: the definitions of all cells.
 -- `fill_cells` and `add_cells`: `AddCellsEntry`. `add_cell`: `AddCellEntry`, `AddCellExit`.
-use Rattle.std.specs.Prelude.{ℕ, ◌+◌, ◌*◌, ◌≤◌, ◌<◌, ◌-◌, ◌≡◌, List, [], length, get_or, drop, Float}
+use Rattle.std.specs.Prelude.{ℕ, ◌+◌, ◌*◌, ◌≤◌, ◌<◌, ◌-◌, ◌≡◌, List, [], length, get_or, drop, Float, Ok, Err}
 use Rattle.arith.specs.Limits.{most_points, most_cells, most_words}
 use Rattle.arith.specs.declared.Vec3.{Vec3}
-use Rattle.reading.specs.Result.{Result, refused, fine, steps}
+use Rattle.reading.specs.Result.{Refusable, steps}
 use Rattle.case_definitions.specs.Faces.{Definition, faces_of, add_face_count, faces_counted}
 use Rattle.case_definitions.specs.Ensures.{definition_at, face_at, step_at, HeadAt}
 use Rattle.mesh_area.specs.declared.Sizes.{Sizes}
 use Rattle.mesh_area.specs.Layout.{list_at, vec_from, faces_in, LentWords, LentFloats}
 use Rattle.mesh_faces.specs.Ensures.{with_faces}
 use Rattle.mesh_cells.specs.Cells.{PartialMesh, partial_mesh, add_cell}
-use Rattle.mesh_cells.specs.declared.CellsAdded.{CellsAdded}
-use Rattle.mesh_cells.specs.declared.CellsAdded.TheVariants.{Faces, Refused}
 use Rattle.arith.specs.Lists.{fold}
 use Rattle.case_faces.specs.Ensures.{AtFace}
 use Rattle.case_definitions.specs.declared.Cursor.{Cursor}
-use Rattle.case_definitions.specs.declared.Step.TheVariants.{Record, Wrong}
 use Rattle.case_definitions.specs.declared.Head.{Head}
 use Rattle.case_faces.specs.declared.FaceCursor.{FaceCursor}
 use Rattle.mesh_area.specs.Tables.{Face}
@@ -28,11 +25,9 @@ use Rattle.mesh_points.specs.Collect.{checked}
 use Rattle.mesh_cell_parts.specs.Parts.{CellFaces, add_face_of}
 use Rattle.mesh_cell_parts.specs.declared.NewCell.{NewCell}
 use Rattle.mesh_cells.specs.Partial.{cell_word, partial_cells_in, partial_cell_in}
-use Rattle.mesh_cells.specs.declared.FaceAdded.{FaceAdded}
 use Rattle.mesh_cells.specs.declared.Progress.{Progress}
-use Rattle.mesh_cells.specs.declared.CellFound.{CellFound}
-use Rattle.mesh_cells.specs.declared.CellAdded.{CellAdded}
 use Rattle.case_definitions.specs.Definitions as Words
+use Rattle.refusal.specs.declared.Refusal.{Refusal}
 
 -- the lists of the first n cells follow each other, each as long as its definition has faces, up to `end`; no neighbours are listed yet
 pub record FaceLists (ws : List ℕ) (s : Sizes) (words : List ℕ) (n end : ℕ) : Type 0 where
@@ -53,9 +48,9 @@ pub record PartialMeshHeld (ws : List ℕ) (s : Sizes) (words : List ℕ) (float
   pub lists : FaceLists ws s words s.cells s.slots
 
 -- what `add_cells` answers: the number of faces in the table, or the first refusal of 11 to 14
-pub data AddCellsExit (d : ℕ) (ps : List Vec3) (ws : List ℕ) (defs : List Definition) (s : Sizes) (words : List ℕ) (floats : List Float) : CellsAdded → Type 0 where
-  added : {n : ℕ} {t : PartialMesh} → partial_mesh d ps defs ≡ fine t → PartialMeshHeld ws s words floats n t → AddCellsExit d ps ws defs s words floats (Faces n)
-  refusing : {k : ℕ} → partial_mesh d ps defs ≡ refused k → AddCellsExit d ps ws defs s words floats (Refused k)
+pub data AddCellsExit (d : ℕ) (ps : List Vec3) (ws : List ℕ) (defs : List Definition) (s : Sizes) (words : List ℕ) (floats : List Float) : Refusable ℕ → Type 0 where
+  added : {n : ℕ} {t : PartialMesh} → partial_mesh d ps defs ≡ Ok t → PartialMeshHeld ws s words floats n t → AddCellsExit d ps ws defs s words floats (Ok n)
+  refusing : {k : Refusal} → partial_mesh d ps defs ≡ Err k → AddCellsExit d ps ws defs s words floats (Err k)
 
 -- ---- one face
 
@@ -87,17 +82,17 @@ pub record ListGrowth (s : Sizes) (words words' : List ℕ) (floats floats' : Li
   pub long-floats : length floats' ≡ length floats
 
 -- face k of a cell
-abbrev pub add_face_at : ℕ → List Vec3 → List ℕ → NewCell → CellFaces → ℕ → Result CellFaces
+abbrev pub add_face_at : ℕ → List Vec3 → List ℕ → NewCell → CellFaces → ℕ → Refusable CellFaces
 add_face_at d ps ws cell g k = add_face_of d ps cell.number cell.reference g (face_at ws cell.head.at k)
 
 -- `add_face`: the next face and the number of faces, or refusal 13 or 14
-pub data AddFaceExit (d : ℕ) (ps : List Vec3) (ws : List ℕ) (cell : NewCell) (s : Sizes) (words words' : List ℕ) (floats floats' : List Float) (c : FaceCursor) : FaceAdded → Type 0 where
+pub data AddFaceExit (d : ℕ) (ps : List Vec3) (ws : List ℕ) (cell : NewCell) (s : Sizes) (words words' : List ℕ) (floats floats' : List Float) (c : FaceCursor) : Refusable (FaceCursor × ℕ) → Type 0 where
   next : (q : FaceCursor) (n : ℕ) → add_face_at d ps ws cell (cell_faces_in s words floats cell.first c.face) c.face
-      ≡ fine (cell_faces_in (with_faces s n) words' floats' cell.first (c.face + 1))
+      ≡ Ok (cell_faces_in (with_faces s n) words' floats' cell.first (c.face + 1))
       → q.face ≡ c.face + 1 → AtFace ws cell.head q → ListGrowth s words words' floats floats' (cell.first + c.face) 1 n
-      → AddFaceExit d ps ws cell s words words' floats floats' c (FaceAdded.Next q n)
-  refusing : (k : ℕ) → add_face_at d ps ws cell (cell_faces_in s words floats cell.first c.face) c.face ≡ refused k
-      → AddFaceExit d ps ws cell s words words' floats floats' c (FaceAdded.Refused k)
+      → AddFaceExit d ps ws cell s words words' floats floats' c (Ok (q, n))
+  refusing : (k : Refusal) → add_face_at d ps ws cell (cell_faces_in s words floats cell.first c.face) c.face ≡ Err k
+      → AddFaceExit d ps ws cell s words words' floats floats' c (Err k)
 
 -- the faces of the cell come next
 pub record AddFacesEntry (ws : List ℕ) (s : Sizes) (words : List ℕ) (floats : List Float) (cell : NewCell) : Type 0 where
@@ -110,15 +105,15 @@ pub record AddFacesEntry (ws : List ℕ) (s : Sizes) (words : List ℕ) (floats 
   pub cells-few : cell.number < most_cells
 
 -- all faces of a cell
-abbrev pub add_faces : ℕ → List Vec3 → List ℕ → NewCell → List Face → Result CellFaces
+abbrev pub add_faces : ℕ → List Vec3 → List ℕ → NewCell → List Face → Refusable CellFaces
 add_faces d ps ws cell fs = steps (add_face_of d ps cell.number cell.reference) (record { faces = fs; numbers = [] }) (faces_of (definition_at ws cell.head.at))
 
 -- `add_faces`: the number of faces, or the first refusal of 13 and 14
-pub data AddFacesExit (d : ℕ) (ps : List Vec3) (ws : List ℕ) (cell : NewCell) (s : Sizes) (words words' : List ℕ) (floats floats' : List Float) : CellsAdded → Type 0 where
-  added : (n : ℕ) → add_faces d ps ws cell (faces_in s words floats) ≡ fine (cell_faces_in (with_faces s n) words' floats' cell.first cell.head.faces)
+pub data AddFacesExit (d : ℕ) (ps : List Vec3) (ws : List ℕ) (cell : NewCell) (s : Sizes) (words words' : List ℕ) (floats floats' : List Float) : Refusable ℕ → Type 0 where
+  added : (n : ℕ) → add_faces d ps ws cell (faces_in s words floats) ≡ Ok (cell_faces_in (with_faces s n) words' floats' cell.first cell.head.faces)
       → ListGrowth s words words' floats floats' cell.first cell.head.faces n
-      → AddFacesExit d ps ws cell s words words' floats floats' (CellsAdded.Faces n)
-  refusing : (k : ℕ) → add_faces d ps ws cell (faces_in s words floats) ≡ refused k → AddFacesExit d ps ws cell s words words' floats floats' (CellsAdded.Refused k)
+      → AddFacesExit d ps ws cell s words words' floats floats' (Ok n)
+  refusing : (k : Refusal) → add_faces d ps ws cell (faces_in s words floats) ≡ Err k → AddFacesExit d ps ws cell s words words' floats floats' (Err k)
 
 -- ---- one cell
 
@@ -147,18 +142,18 @@ pub record StoredCell (s : Sizes) (words words' : List ℕ) (floats floats' : Li
   pub floats-kept : (j : ℕ) → j < cell.number → vec_from floats' (12 * s.slots + 4 * j) ≡ vec_from floats (12 * s.slots + 4 * j)
 
 -- `fill_cell`: the number of faces, or the first refusal of 13 and 14
-pub data FillCellExit (d : ℕ) (ps : List Vec3) (ws : List ℕ) (cell : NewCell) (s : Sizes) (words words' : List ℕ) (floats floats' : List Float) : CellsAdded → Type 0 where
-  filled : (n : ℕ) → add_faces d ps ws cell (faces_in s words floats) ≡ fine (cell_faces_in (with_faces s n) words' floats' cell.first cell.head.faces)
-      → StoredCell s words words' floats floats' cell n → FillCellExit d ps ws cell s words words' floats floats' (CellsAdded.Faces n)
-  refusing : (k : ℕ) → add_faces d ps ws cell (faces_in s words floats) ≡ refused k → FillCellExit d ps ws cell s words words' floats floats' (CellsAdded.Refused k)
+pub data FillCellExit (d : ℕ) (ps : List Vec3) (ws : List ℕ) (cell : NewCell) (s : Sizes) (words words' : List ℕ) (floats floats' : List Float) : Refusable ℕ → Type 0 where
+  filled : (n : ℕ) → add_faces d ps ws cell (faces_in s words floats) ≡ Ok (cell_faces_in (with_faces s n) words' floats' cell.first cell.head.faces)
+      → StoredCell s words words' floats floats' cell n → FillCellExit d ps ws cell s words words' floats floats' (Ok n)
+  refusing : (k : Refusal) → add_faces d ps ws cell (faces_in s words floats) ≡ Err k → FillCellExit d ps ws cell s words words' floats floats' (Err k)
 
 -- `new_cell`: cell i with the average of its points, or refusal 11 or 12; 3 where the definitions are wrong
-pub data NewCellExit (d : ℕ) (ps : List Vec3) (ws : List ℕ) (i : ℕ) (p : Progress) : CellFound → Type 0 where
-  cell : (h : Head) (next : Cursor) (v : Vec3) → Record h next ≡ step_at ws p.at → checked d ps (definition_at ws h.at) ≡ fine v
-      → NewCellExit d ps ws i p (CellFound.Cell (record { number = i; reference = v; head = h; first = p.first }) next)
-  refusing : (h : Head) (next : Cursor) (k : ℕ) → Record h next ≡ step_at ws p.at → checked d ps (definition_at ws h.at) ≡ refused k
-      → NewCellExit d ps ws i p (CellFound.Refused k)
-  wrong : (k : ℕ) → Wrong k ≡ step_at ws p.at → NewCellExit d ps ws i p (CellFound.Refused k)
+pub data NewCellExit (d : ℕ) (ps : List Vec3) (ws : List ℕ) (i : ℕ) (p : Progress) : Refusable (NewCell × Cursor) → Type 0 where
+  cell : (h : Head) (next : Cursor) (v : Vec3) → Ok (h, next) ≡ step_at ws p.at → checked d ps (definition_at ws h.at) ≡ Ok v
+      → NewCellExit d ps ws i p (Ok ((record { number = i; reference = v; head = h; first = p.first }), next))
+  refusing : (h : Head) (next : Cursor) (k : Refusal) → Ok (h, next) ≡ step_at ws p.at → checked d ps (definition_at ws h.at) ≡ Err k
+      → NewCellExit d ps ws i p (Err k)
+  wrong : (k : Refusal) → Err k ≡ step_at ws p.at → NewCellExit d ps ws i p (Err k)
 
 -- ---- all cells
 
@@ -167,14 +162,14 @@ pub record CellsSoFar (d : ℕ) (ps : List Vec3) (ws : List ℕ) (defs : List De
   pub chained : Chained (with_faces s p.faces) words
   pub behind : p.faces ≤ p.first
   pub counted : fold add_face_count p.first (drop i defs) ≡ s.slots
-  pub left : Words.definitions (s.cells - i) (drop p.at ws) ≡ fine (drop i defs)
+  pub left : Words.definitions (s.cells - i) (drop p.at ws) ≡ Ok (drop i defs)
   pub lists : FaceLists ws s words i p.first
   pub rest : steps (add_cell d ps) (record { faces = faces_in (with_faces s p.faces) words floats; cells = partial_cells_in ws s words floats i }) (drop i defs) ≡ partial_mesh d ps defs
 
 -- the definitions that were read, or none
-unfoldable pub read : Result (List Definition) → List Definition
-read (refused r) = []
-read (fine defs) = defs
+unfoldable pub read : Refusable (List Definition) → List Definition
+read (Err r) = []
+read (Ok defs) = defs
 
 -- the definitions of all cells, in the words
 abbrev pub defined_in : Sizes → List ℕ → List Definition
@@ -189,7 +184,7 @@ pub record AddCellsEntry (case : List ℕ) (points : ℕ) (ws words : List ℕ) 
   pub points-there : 24 * points ≤ length case
   pub words-few : length ws ≤ most_words
   pub defs : List Definition
-  pub right : Words.definitions s.cells ws ≡ fine defs
+  pub right : Words.definitions s.cells ws ≡ Ok defs
   pub slots : s.slots ≡ faces_counted defs
 
 -- what one cell more needs
@@ -199,6 +194,6 @@ pub record AddCellEntry (d : ℕ) (ps : List Vec3) (case : List ℕ) (points : �
   pub filled : CellsSoFar d ps ws (defined_in s ws) s words floats i p
 
 -- `add_cell`: one cell more, or the first refusal of all
-pub data AddCellExit (d : ℕ) (ps : List Vec3) (ws : List ℕ) (s : Sizes) (words : List ℕ) (floats : List Float) (i : ℕ) : CellAdded → Type 0 where
-  next : (q : Progress) → CellsSoFar d ps ws (defined_in s ws) s words floats (i + 1) q → AddCellExit d ps ws s words floats i (CellAdded.Next q)
-  refusing : (k : ℕ) → partial_mesh d ps (defined_in s ws) ≡ refused k → AddCellExit d ps ws s words floats i (CellAdded.Refused k)
+pub data AddCellExit (d : ℕ) (ps : List Vec3) (ws : List ℕ) (s : Sizes) (words : List ℕ) (floats : List Float) (i : ℕ) : Refusable Progress → Type 0 where
+  next : (q : Progress) → CellsSoFar d ps ws (defined_in s ws) s words floats (i + 1) q → AddCellExit d ps ws s words floats i (Ok q)
+  refusing : (k : Refusal) → partial_mesh d ps (defined_in s ws) ≡ Err k → AddCellExit d ps ws s words floats i (Err k)

@@ -3,7 +3,6 @@
 
 ghost use Rattle.std.specs.Prelude.{◌≡◌, List, ◌+◌, ◌*◌, ◌≤◌, ◌<◌, length};
 ghost use Rattle.arith.specs.Limits.{most_points};
-ghost use Rattle.reading.specs.Result.{fine};
 ghost use Rattle.case_file.specs.Trailer.{words_in};
 ghost use Rattle.case_definitions.specs.Faces.{Definition};
 ghost use Rattle.case_definitions.specs.Definitions.{definitions};
@@ -13,25 +12,11 @@ ghost use Rattle.mesh_faces.specs.Ensures.{with_faces};
 ghost use Rattle.mesh_cells.specs.Ensures.{AddCellsExit, AddFaceEntry, AddFaceExit, AddFacesEntry, AddFacesExit, FillCellEntry, FillCellExit, NewCellExit, AddCellsEntry, AddCellEntry, AddCellExit};
 
 use arith::number::narrow;
-use case_definitions::{Cursor, Head, Step, walker};
+use case_definitions::{Cursor, Head, walker};
 use case_faces::FaceCursor;
 use mesh_area::Sizes;
-use mesh_cell_parts::{FacePlaced, NewCell};
-use mesh_points::Reference;
-
-// The number of faces in the table, or the refusal.
-#[derive(Clone, Copy)]
-pub enum CellsAdded {
-    Faces(usize),
-    Refused(u64),
-}
-
-// The next face of the record and the number of faces in the table, or the refusal.
-#[derive(Clone, Copy)]
-enum FaceAdded {
-    Next(FaceCursor, usize),
-    Refused(u64),
-}
+use mesh_cell_parts::NewCell;
+use refusal::Refusal;
 
 // Where the next record starts, where the next cell's lists start, and the number of faces in
 // the table.
@@ -40,19 +25,6 @@ struct Progress {
     pub at: usize,
     pub first: usize,
     pub faces: usize,
-}
-
-#[derive(Clone, Copy)]
-enum CellAdded {
-    Next(Progress),
-    Refused(u64),
-}
-
-// The cell and where the next record starts, or the refusal.
-#[derive(Clone, Copy)]
-enum CellFound {
-    Cell(NewCell, Cursor),
-    Refused(u64),
 }
 
 // ---- the faces of a cell
@@ -68,7 +40,7 @@ fn add_face(
     s: Sizes,
     cell: NewCell,
     c: FaceCursor,
-) -> FaceAdded
+) -> Result<(FaceCursor, usize), Refusal>
     requires { AddFaceEntry (words_in ws.now) s words.old floats.old cell c × (points ≤ most_points)
         × (24 * points ≤ length case.now) }
     ensures { AddFaceExit dimension (points_in case.now points) (words_in ws.now) cell s
@@ -78,7 +50,7 @@ fn add_face(
     let h = cell.head;
     let copied = case_faces::copy_face(ws, h, c, &mut vertices);
     let count = copied.count;
-    let placed = mesh_cell_parts::place_face(
+    let (f, n) = mesh_cell_parts::place_face(
         case,
         points,
         dimension,
@@ -87,16 +59,11 @@ fn add_face(
         s,
         cell,
         &mut vertices[..count],
-    );
-    match placed {
-        FacePlaced::Refused(k) => FaceAdded::Refused(k),
-        FacePlaced::Face(f, n) => {
-            let at = 13 * s.slots + cell.first + c.face;
-            words[at] = narrow(f);
-            let next = copied.next;
-            FaceAdded::Next(next, n)
-        }
-    }
+    )?;
+    let at = 13 * s.slots + cell.first + c.face;
+    words[at] = narrow(f);
+    let next = copied.next;
+    Ok((next, n))
 }
 
 // All faces of the cell.
@@ -109,7 +76,7 @@ fn add_faces(
     floats: &mut [f64],
     s: Sizes,
     cell: NewCell,
-) -> CellsAdded
+) -> Result<usize, Refusal>
     requires { AddFacesEntry (words_in ws.now) s words.old floats.old cell × (points ≤ most_points)
         × (24 * points ≤ length case.now) }
     ensures { AddFacesExit dimension (points_in case.now points) (words_in ws.now) cell s
@@ -124,16 +91,11 @@ fn add_faces(
             faces: n,
             cells: s.cells,
         };
-        let added = add_face(case, points, dimension, ws, words, floats, t, cell, c);
-        match added {
-            FaceAdded::Refused(k) => return CellsAdded::Refused(k),
-            FaceAdded::Next(next, m) => {
-                n = m;
-                c = next;
-            }
-        }
+        let (next, m) = add_face(case, points, dimension, ws, words, floats, t, cell, c)?;
+        n = m;
+        c = next;
     }
-    CellsAdded::Faces(n)
+    Ok(n)
 }
 
 // ---- the cells
@@ -148,7 +110,7 @@ fn fill_cell(
     floats: &mut [f64],
     s: Sizes,
     cell: NewCell,
-) -> CellsAdded
+) -> Result<usize, Refusal>
     requires { FillCellEntry (words_in ws.now) s words.old floats.old cell × (points ≤ most_points)
         × (24 * points ≤ length case.now) }
     ensures { FillCellExit dimension (points_in case.now points) (words_in ws.now) cell s
@@ -177,34 +139,20 @@ fn new_cell(
     ws: &[u8],
     i: usize,
     p: Progress,
-) -> CellFound
+) -> Result<(NewCell, Cursor), Refusal>
     requires { (points ≤ most_points) × (24 * points ≤ length case.now) }
     ensures { NewCellExit dimension (points_in case.now points) (words_in ws.now) i p result }
 {
-    let at = p.at;
-    let step = walker::record_at(ws, Cursor { at });
-    match step {
-        // This does not come where the definitions are right (`AddCellsEntry`).
-        Step::Wrong(k) => CellFound::Refused(k),
-        Step::Record(head, next) => {
-            let found = mesh_points::reference_of(dimension, case, points, ws, head);
-            match found {
-                Reference::Refused(k) => CellFound::Refused(k),
-                Reference::Point(reference) => {
-                    let first = p.first;
-                    CellFound::Cell(
-                        NewCell {
-                            number: i,
-                            reference,
-                            head,
-                            first,
-                        },
-                        next,
-                    )
-                }
-            }
-        }
-    }
+    // The walker refuses nothing where the definitions are right (`AddCellsEntry`).
+    let (head, next) = walker::record_at(ws, Cursor { at: p.at })?;
+    let reference = mesh_points::reference_of(dimension, case, points, ws, head)?;
+    let cell = NewCell {
+        number: i,
+        reference,
+        head,
+        first: p.first,
+    };
+    Ok((cell, next))
 }
 
 // One cell more: the record at the cursor.
@@ -218,32 +166,24 @@ fn add_cell(
     s: Sizes,
     i: usize,
     p: Progress,
-) -> CellAdded
+) -> Result<Progress, Refusal>
     requires { AddCellEntry dimension (points_in case.now points) case.now points (words_in ws.now) words.old
         floats.old s i p }
     ensures { AddCellExit dimension (points_in case.now points) (words_in ws.now) s
         words.new floats.new i result }
 {
-    let found = new_cell(case, points, dimension, ws, i, p);
-    match found {
-        CellFound::Refused(k) => CellAdded::Refused(k),
-        CellFound::Cell(cell, next) => {
-            let t = Sizes {
-                slots: s.slots,
-                faces: p.faces,
-                cells: s.cells,
-            };
-            let filled = fill_cell(case, points, dimension, ws, words, floats, t, cell);
-            match filled {
-                CellsAdded::Refused(k) => CellAdded::Refused(k),
-                CellsAdded::Faces(n) => CellAdded::Next(Progress {
-                    at: next.at,
-                    first: cell.first + cell.head.faces,
-                    faces: n,
-                }),
-            }
-        }
-    }
+    let (cell, next) = new_cell(case, points, dimension, ws, i, p)?;
+    let t = Sizes {
+        slots: s.slots,
+        faces: p.faces,
+        cells: s.cells,
+    };
+    let faces = fill_cell(case, points, dimension, ws, words, floats, t, cell)?;
+    Ok(Progress {
+        at: next.at,
+        first: cell.first + cell.head.faces,
+        faces,
+    })
 }
 
 // All cells, into an empty table.
@@ -255,10 +195,10 @@ fn fill_cells(
     words: &mut [u32],
     floats: &mut [f64],
     s: Sizes,
-) -> CellsAdded
+) -> Result<usize, Refusal>
     requires { AddCellsEntry case.now points (words_in ws.now) words.old floats.old s
         × Chained (with_faces s 0) words.old }
-    ensures { (defs : List Definition) → definitions s.cells (words_in ws.now) ≡ fine defs
+    ensures { (defs : List Definition) → definitions s.cells (words_in ws.now) ≡ Ok defs
         → AddCellsExit dimension (points_in case.now points) (words_in ws.now) defs s
         words.new floats.new result }
 {
@@ -268,13 +208,9 @@ fn fill_cells(
         faces: 0,
     };
     for i in 0..s.cells {
-        let added = add_cell(case, points, dimension, ws, words, floats, s, i, p);
-        match added {
-            CellAdded::Refused(k) => return CellsAdded::Refused(k),
-            CellAdded::Next(q) => p = q,
-        }
+        p = add_cell(case, points, dimension, ws, words, floats, s, i, p)?;
     }
-    CellsAdded::Faces(p.faces)
+    Ok(p.faces)
 }
 
 // The first pass over the definitions `ws`: all cells, each with its faces.
@@ -286,9 +222,9 @@ pub fn add_cells(
     words: &mut [u32],
     floats: &mut [f64],
     s: Sizes,
-) -> CellsAdded
+) -> Result<usize, Refusal>
     requires { AddCellsEntry case.now points (words_in ws.now) words.old floats.old s }
-    ensures { (defs : List Definition) → definitions s.cells (words_in ws.now) ≡ fine defs
+    ensures { (defs : List Definition) → definitions s.cells (words_in ws.now) ≡ Ok defs
         → AddCellsExit dimension (points_in case.now points) (words_in ws.now) defs s
         words.new floats.new result }
 {

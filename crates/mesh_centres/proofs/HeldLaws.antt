@@ -8,7 +8,6 @@ use lib.ListN.{get_or, take}
 use lib.Seq.{get_or-take}
 use Rattle.arith.specs.declared.Vec3.{Vec3}
 use Rattle.arith.proofs.RecordLaws.{tab-same, same-below}
-use Rattle.reading.specs.Result.{fine}
 use Rattle.case_definitions.specs.Faces.{Definition}
 use Rattle.case_definitions.specs.Definitions.{definitions}
 use Rattle.mesh_area.specs.declared.Sizes.{Sizes}
@@ -19,10 +18,11 @@ use Rattle.mesh_cells.specs.Ensures.{PartialMeshHeld}
 use Rattle.mesh_centres.specs.Finish.{definitions_of}
 use Rattle.mesh_centres.specs.Ensures.{FinishCellsEntry}
 use Rattle.mesh_centres.proofs.PartialLaws.{drafts-defined}
+use Rattle.std.specs.Prelude.{Ok}
 
 module _ (d : ℕ) (ps : List Vec3) (ws words : List ℕ) (floats : List Float) (s : Sizes) (n : ℕ) (t : PartialMesh) (held : PartialMeshHeld ws s words floats n t) where
   -- what `add_cells` leaves is what `finish_cells` needs
-  pub held-finishable : (case : List ℕ) (points : ℕ) (defs : List Definition) → partial_mesh d ps defs ≡ fine t → definitions s.cells ws ≡ fine defs
+  pub held-finishable : (case : List ℕ) (points : ℕ) (defs : List Definition) → partial_mesh d ps defs ≡ Ok t → definitions s.cells ws ≡ Ok defs
       → LentWords s words → LentFloats s floats → PointBytes case points → FinishCellsEntry case points ws words floats s
   held-finishable case points defs made right lent-words lent-floats points-there =
       record {

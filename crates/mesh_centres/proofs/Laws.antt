@@ -11,54 +11,52 @@ use Rattle.arith.specs.Records.{tab, puts}
 use Rattle.arith.specs.declared.Vec3.{Vec3}
 use Rattle.arith.proofs.ListLaws.{left_at}
 use Rattle.arith.proofs.RecordLaws.{left-suc, length-tab, get_or-tab, tab-next, take-puts}
-use Rattle.reading.specs.Result.{Result, refused, fine, ◌>>=◌, map_all}
+use Rattle.reading.specs.Result.{Refusable, ◌>>=◌, map_all}
 use Rattle.reading.proofs.ResultLaws.{bound, map_all-next, map_all-refused}
 use Rattle.case_definitions.specs.Faces.{Definition, faces_of}
 use Rattle.case_definitions.specs.Definitions.{Taken, definition, definitions}
 use Rattle.case_definitions.specs.Ensures.{read_of, definition_at, HeadAt, head_of, step_at}
 use Rattle.case_definitions.specs.declared.Cursor.{Cursor}
 use Rattle.case_definitions.specs.declared.Head.{Head}
-use Rattle.case_definitions.specs.declared.Step.{Step}
-use Rattle.case_definitions.specs.declared.Step.TheVariants.{Record, Wrong}
 use Rattle.case_definitions.proofs.RecordLaws.{StepsTo, steps-to, steps-wrong}
 use Rattle.mesh_area.specs.declared.Sizes.{Sizes}
 use Rattle.mesh_area.specs.Tables.{Cell}
 use Rattle.mesh_area.specs.Layout.{vec_from, cells_in, LentFloats}
 use Rattle.mesh_volumes.specs.declared.CellGeometry.{CellGeometry}
-use Rattle.mesh_volumes.specs.declared.CellMeasure.{CellMeasure}
-use Rattle.mesh_volumes.specs.declared.CellMeasure.TheVariants as Measure
 use Rattle.mesh_volumes.specs.Geometry.{cell_geometry, cell_of}
 use Rattle.mesh_measure.specs.Ensures.{faces_at}
 use Rattle.mesh_cells.specs.Cells.{PartialCell}
 use Rattle.mesh_cells.specs.Partial.{partial_cell_in, partial_cells_in}
-use Rattle.mesh_centres.specs.declared.Finished.{Finished}
-use Rattle.mesh_centres.specs.declared.CellFinished.{CellFinished}
 use Rattle.mesh_centres.specs.Finish.{finished, finished_as, definitions_of}
 use Rattle.mesh_centres.specs.Ensures.{FinishCellsEntry, FinishCellsExit, cell_from, floats_of, geometry_at, FinishRecordExit, stored, FinishCellEntry, FinishCellExit, next}
 use Rattle.mesh_centres.proofs.Going.{first_cells, Going}
 use Rattle.mesh_centres.specs.Ensures as Ensures
 use Rattle.mesh_centres.proofs.CellLaws.{later-kept, cells-kept, cell-finished}
+use Rattle.std.specs.Prelude.{Some, None, Ok, Err}
+use Rattle.std.specs.declared.option.Option.{Option}
+use Rattle.refusal.specs.declared.Refusal.TheVariants.{NoVolume}
+use Rattle.refusal.specs.declared.Refusal.{Refusal}
 
 -- ---- the record of one cell
 
-module _ (d : ℕ) (ps : List Vec3) (ws : List ℕ) (s : Sizes) (floats : List Float) (i : ℕ) (h : Head) (r : CellMeasure) (reference : Vec3) (at : ℕ)
+module _ (d : ℕ) (ps : List Vec3) (ws : List ℕ) (s : Sizes) (floats : List Float) (i : ℕ) (h : Head) (r : Option CellGeometry) (reference : Vec3) (at : ℕ)
     (place : at ≡ cell_from s i) (averaged : reference ≡ vec_from floats at) (measured : cell_of r ≡ cell_geometry d ps reference (faces_at ws h)) where
   same-geometry : cell_of r ≡ geometry_at d ps ws s floats i h.at
   unfolding geometry_at faces_at
   same-geometry = rw (← place, ← averaged) measured
 
-  pub record-zero : r ≡ Measure.ZeroVolume → FinishRecordExit d ps ws s floats floats i h.at Finished.ZeroVolume
+  pub record-zero : r ≡ None → FinishRecordExit d ps ws s floats floats i h.at (Err NoVolume)
   unfolding cell_of
   record-zero e = Ensures.zero (sym same-geometry ∙ ap cell_of e) refl
 
-  pub record-stored : (g : CellGeometry) (floats' : List Float) → r ≡ Measure.Cell g → floats' ≡ puts floats at (floats_of g)
-      → FinishRecordExit d ps ws s floats floats' i h.at Finished.Done
+  pub record-stored : (g : CellGeometry) (floats' : List Float) → r ≡ Some g → floats' ≡ puts floats at (floats_of g)
+      → FinishRecordExit d ps ws s floats floats' i h.at (Ok tt)
   unfolding cell_of
   record-stored g floats' e put = stored g (sym same-geometry ∙ ap cell_of e) (rw place at put)
 
 -- ---- one cell, at its cursor
 
-module _ (ws : List ℕ) (c : Cursor) (t : Step) (met : t ≡ step_at ws c.at) (h : Head) (q : Cursor) (e : t ≡ Record h q) where
+module _ (ws : List ℕ) (c : Cursor) (t : Refusable (Head × Cursor)) (met : t ≡ step_at ws c.at) (h : Head) (q : Cursor) (e : t ≡ Ok (h, q)) where
   to : StepsTo ws c.at h q.at
   to = steps-to ws c.at h q (sym e ∙ met)
 
@@ -71,20 +69,20 @@ module _ (ws : List ℕ) (c : Cursor) (t : Step) (met : t ≡ step_at ws c.at) (
 
   -- what the record's answer says of the cell
   module _ (d : ℕ) (ps : List Vec3) (s : Sizes) (floats floats' : List Float) (i : ℕ) where
-    pub cell-zero : {r : Finished} → FinishRecordExit d ps ws s floats floats' i h.at r → r ≡ Finished.ZeroVolume
-        → FinishCellExit d ps ws s floats floats' i c.at CellFinished.ZeroVolume
-    cell-zero (Ensures.zero m k) g = Ensures.zero (rw head_at at m) k
-    cell-zero (stored a m k) g = absurd (let z : ◌≡◌ {A = ℕ} 0 1 = cc in omega arith)
+    pub cell-zero : {r : Refusable (Unit {0})} (x : Refusal) → FinishRecordExit d ps ws s floats floats' i h.at r → r ≡ Err x
+        → FinishCellExit d ps ws s floats floats' i c.at (Err x)
+    cell-zero x (Ensures.zero m k) g = let w : NoVolume ≡ x = cc in rw (← w) (Ensures.zero (rw head_at at m) k)
+    cell-zero x (stored a m k) g = absurd (let z : ◌≡◌ {A = ℕ} 0 1 = cc in omega arith)
 
-    pub cell-next : {r : Finished} → FinishRecordExit d ps ws s floats floats' i h.at r → r ≡ Finished.Done
-        → FinishCellExit d ps ws s floats floats' i c.at (CellFinished.Next q)
+    pub cell-next : {r : Refusable (Unit {0})} → FinishRecordExit d ps ws s floats floats' i h.at r → r ≡ (Ok tt)
+        → FinishCellExit d ps ws s floats floats' i c.at (Ok q)
     unfolding definition_at read_of
     cell-next (Ensures.zero m k) g = absurd (let z : ◌≡◌ {A = ℕ} 0 1 = cc in omega arith)
     cell-next (stored a m k) g = next q a (rw head_at at m) k (rw (to.read, read_of))
 
 -- a right record is there
-pub cell-wrong : (d : ℕ) (ps : List Vec3) (ws : List ℕ) (s : Sizes) (floats : List Float) (i : ℕ) (c : Cursor) (t : Step) (w : Taken Definition) (k : ℕ)
-    → t ≡ step_at ws c.at → definition (drop c.at ws) ≡ fine w → t ≡ Wrong k → FinishCellExit d ps ws s floats floats i c.at CellFinished.ZeroVolume
+pub cell-wrong : (d : ℕ) (ps : List Vec3) (ws : List ℕ) (s : Sizes) (floats : List Float) (i : ℕ) (c : Cursor) (t : Refusable (Head × Cursor)) (w : Taken Definition) (k : Refusal)
+    → t ≡ step_at ws c.at → definition (drop c.at ws) ≡ Ok w → t ≡ Err k → FinishCellExit d ps ws s floats floats i c.at (Err k)
 cell-wrong d ps ws s floats i c t w k met right e =
     let n = steps-wrong ws c.at k (sym e ∙ met) in absurd (let z : ◌≡◌ {A = ℕ} 0 1 = cc in omega arith)
 
@@ -94,11 +92,11 @@ pub ruleset one_Cell = (record-zero, record-stored, cell-wrong, cell-headed, cel
 
 record Here (ws : List ℕ) (defs : List Definition) (n i at : ℕ) (x : Definition) : Type 0 where
   taken : Taken Definition
-  right : definition (drop at ws) ≡ fine taken
+  right : definition (drop at ws) ≡ Ok taken
   read : taken.read ≡ get_or defs i x
-  rest : definitions (n - (i + 1)) taken.left ≡ fine (drop (i + 1) defs)
+  rest : definitions (n - (i + 1)) taken.left ≡ Ok (drop (i + 1) defs)
 
-here : (ws : List ℕ) (defs : List Definition) (n i at : ℕ) (x : Definition) → i < n → i < length defs → definitions (n - i) (drop at ws) ≡ fine (drop i defs) → Here ws defs n i at x
+here : (ws : List ℕ) (defs : List Definition) (n i at : ℕ) (x : Definition) → i < n → i < length defs → definitions (n - i) (drop at ws) ≡ Ok (drop i defs) → Here ws defs n i at x
 unfolding definitions
 here ws defs n i at x h m e =
     let e₁ = rw (left-suc n i h, left_at defs i x m) at e in
@@ -106,7 +104,7 @@ here ws defs n i at x h m e =
     let b₂ = bound _ _ _ b₁.then in
     let w : b₁.value.read ∷ b₂.value ≡ get_or defs i x ∷ drop (i + 1) defs = cc b₂.then in
     let v : b₂.value ≡ drop (i + 1) defs = cc in
-    record { taken = b₁.value; right = b₁.had; read = cc; rest = b₂.had ∙ ap fine v }
+    record { taken = b₁.value; right = b₁.had; read = cc; rest = b₂.had ∙ ap Ok v }
 
 -- ---- all cells
 
@@ -122,15 +120,15 @@ module _ (d : ℕ) (case : List ℕ) (points : ℕ) (ps : List Vec3) (ws words :
   unfolding first_cells tab ◌>>=◌
   go-start =
       record {
-        left = rw sub-zero (able.right ∙ ap fine (sym able.defined));
+        left = rw sub-zero (able.right ∙ ap Ok (sym able.defined));
         rest = by (map_all (finished d ps) cells);
         later = λ j h. refl;
         faces = refl;
       }
     where
-      by : (r : Result (List Cell)) → (r >>= λ bs. fine ([] ++ bs)) ≡ r
-      by (refused n) = refl
-      by (fine bs) = refl
+      by : (r : Refusable (List Cell)) → (r >>= λ bs. Ok ([] ++ bs)) ≡ r
+      by (Err n) = refl
+      by (Ok bs) = refl
 
   module _ (floats : List Float) (i : ℕ) (c : Cursor) (go : Going d ps ws s words floats₀ floats i c.at) (more : i < s.cells) (long : length floats ≡ length floats₀) where
     draft : PartialCell
@@ -169,11 +167,11 @@ module _ (d : ℕ) (case : List ℕ) (points : ℕ) (ps : List Vec3) (ws words :
     cell_at : CellGeometry → Cell
     cell_at g = record { faces = draft.faces; neighbours = []; centre = g.centre; volume = g.volume }
 
-    finished-here : (g : CellGeometry) → geometry_at d ps ws s floats i c.at ≡ fine g → finished d ps (get_or cells i draft) ≡ fine (cell_at g)
+    finished-here : (g : CellGeometry) → geometry_at d ps ws s floats i c.at ≡ Ok g → finished d ps (get_or cells i draft) ≡ Ok (cell_at g)
     unfolding finished ◌>>=◌ cell_at
     finished-here g m = rw (draft-at, sym geometry-of ∙ m, ◌>>=◌)
 
-    refused-here : geometry_at d ps ws s floats i c.at ≡ refused 15 → finished d ps (get_or cells i draft) ≡ refused 15
+    refused-here : geometry_at d ps ws s floats i c.at ≡ Err NoVolume → finished d ps (get_or cells i draft) ≡ Err NoVolume
     unfolding finished ◌>>=◌
     refused-here m = rw (draft-at, sym geometry-of ∙ m, ◌>>=◌)
 
@@ -200,7 +198,7 @@ module _ (d : ℕ) (case : List ℕ) (points : ℕ) (ps : List Vec3) (ws words :
           ∙ take-take (12 * s.slots) (cell_from s i) floats (omega arith)
 
     module _ (floats' : List Float) where
-      pub go-next : {r : CellFinished} (q : Cursor) → FinishCellExit d ps ws s floats floats' i c.at r → r ≡ CellFinished.Next q
+      pub go-next : {r : Refusable Cursor} (q : Cursor) → FinishCellExit d ps ws s floats floats' i c.at r → r ≡ Ok q
           → Going d ps ws s words floats₀ floats' (i + 1) q.at
       go-next q (Ensures.zero m k) e = absurd (let z : ◌≡◌ {A = ℕ} 0 1 = cc in omega arith)
       go-next q (next p g m put right) e =
@@ -211,34 +209,35 @@ module _ (d : ℕ) (case : List ℕ) (points : ℕ) (ps : List Vec3) (ws words :
           rw put
           (record {
             left = sym (ap (definitions (s.cells - (i + 1))) l) ∙ h.rest;
-            rest = ap (λ k. map_all (finished d ps) (drop (i + 1) cells) >>= λ bs. fine (k ++ bs)) (one_more g)
+            rest = ap (λ k. map_all (finished d ps) (drop (i + 1) cells) >>= λ bs. Ok (k ++ bs)) (one_more g)
                 ∙ sym (map_all-next cells i draft inside (finished d ps) (first_cells s words floats i) (cell_at g) (finished-here g m))
                 ∙ go.rest;
             later = λ j b. later-kept s floats i g more room j b ∙ go.later j (omega arith);
             faces = faces-kept g ∙ go.faces;
           })
 
-      pub go-stop : {r : CellFinished} → FinishCellExit d ps ws s floats floats' i c.at r → r ≡ CellFinished.ZeroVolume
-          → FinishCellsExit d ps ws s words floats₀ floats' Finished.ZeroVolume
+      pub go-stop : {r : Refusable Cursor} {x : Refusal} → FinishCellExit d ps ws s floats floats' i c.at r → r ≡ Err x
+          → FinishCellsExit d ps ws s words floats₀ floats' (Err x)
       unfolding finished_as
-      go-stop (next p g m put right) e = absurd (let z : ◌≡◌ {A = ℕ} 0 1 = cc in omega arith)
-      go-stop (Ensures.zero m k) e =
-          rw k
+      go-stop {x = x} (next p g m put right) e = absurd (let z : ◌≡◌ {A = ℕ} 0 1 = cc in omega arith)
+      go-stop {x = x} (Ensures.zero m k) e =
+          let w : NoVolume ≡ x = cc in
+          rw (k, ← w)
           (record {
-            cells = sym go.rest ∙ map_all-refused cells i draft inside (finished d ps) (first_cells s words floats i) 15 (refused-here m);
+            cells = sym go.rest ∙ map_all-refused cells i draft inside (finished d ps) (first_cells s words floats i) NoVolume (refused-here m);
             faces = go.faces;
             long = long;
             later = λ j b. go.later j (omega arith);
           })
 
   pub go-done : (floats : List Float) (i : ℕ) (c : Cursor) → Going d ps ws s words floats₀ floats i c.at → i ≤ s.cells → s.cells ≤ i → length floats ≡ length floats₀
-      → FinishCellsExit d ps ws s words floats₀ floats Finished.Done
+      → FinishCellsExit d ps ws s words floats₀ floats (Ok tt)
   unfolding finished_as cells_in first_cells map_all ◌>>=◌
   go-done floats i c go le ge long =
       let e : i ≡ s.cells = omega arith in
       let none : drop i cells ≡ [] = drop_of_length-le cells {i = i} (rw length-cells ge) in
       record {
-        cells = sym go.rest ∙ rw none (ap fine (append-nil _ ∙ ap (tab _) e));
+        cells = sym go.rest ∙ rw none (ap Ok (append-nil _ ∙ ap (tab _) e));
         faces = go.faces;
         long = long;
         later = λ j b. go.later j (omega arith);

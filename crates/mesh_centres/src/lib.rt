@@ -8,23 +8,10 @@ ghost use Rattle.mesh_area.specs.Layout.{points_in, vec_from};
 ghost use Rattle.mesh_centres.specs.Ensures.{FinishCellsEntry, FinishCellsExit, floats_of, FinishRecordEntry, FinishRecordExit, FinishCellEntry, FinishCellExit};
 
 use arith::Vec3;
-use case_definitions::{Cursor, Head, Step, walker};
+use case_definitions::{Cursor, Head, walker};
 use mesh_area::Sizes;
-use mesh_volumes::{CellGeometry, CellMeasure};
-
-// The cells are finished, or one of them has no volume.
-#[derive(Clone, Copy)]
-pub enum Finished {
-    Done,
-    ZeroVolume,
-}
-
-// Where the next record starts, or that the cell has no volume.
-#[derive(Clone, Copy)]
-enum CellFinished {
-    Next(Cursor),
-    ZeroVolume,
-}
+use mesh_volumes::CellGeometry;
+use refusal::Refusal;
 
 // The average of a cell, at its place.
 fn reference_at(floats: &[f64], at: usize) -> Vec3
@@ -55,7 +42,7 @@ fn finish_record(
     s: Sizes,
     i: usize,
     h: Head,
-) -> Finished
+) -> Result<(), Refusal>
     requires { FinishRecordEntry case.now points (words_in ws.now) floats.old s i h }
     ensures { FinishRecordExit dimension (points_in case.now points) (words_in ws.now) s
         floats.old floats.new i h.at result }
@@ -63,13 +50,11 @@ fn finish_record(
     let base = 12 * s.slots;
     let at = base + 4 * i;
     let reference = reference_at(floats, at);
-    match mesh_measure::cell_geometry(dimension, case, points, ws, h, reference) {
-        CellMeasure::ZeroVolume => Finished::ZeroVolume,
-        CellMeasure::Cell(g) => {
-            put_geometry(floats, at, g);
-            Finished::Done
-        }
-    }
+    let Some(g) = mesh_measure::cell_geometry(dimension, case, points, ws, h, reference) else {
+        return Err(Refusal::NoVolume);
+    };
+    put_geometry(floats, at, g);
+    Ok(())
 }
 
 // Cell i, whose definition is the record at c.
@@ -82,22 +67,16 @@ fn finish_cell(
     s: Sizes,
     i: usize,
     c: Cursor,
-) -> CellFinished
+) -> Result<Cursor, Refusal>
     requires { FinishCellEntry case.now points (words_in ws.now) floats.old s i c }
     ensures { FinishCellExit dimension (points_in case.now points) (words_in ws.now) s
         floats.old floats.new i c.at result }
 {
-    match walker::record_at(ws, c) {
-        // This cannot come: a right record is at c, since all of them were walked over before the
-        // first pass (`FinishCellEntry`). A bad one would have been refused there, with 3.
-        Step::Wrong(_) => CellFinished::ZeroVolume,
-        Step::Record(h, next) => {
-            match finish_record(case, points, dimension, ws, floats, s, i, h) {
-                Finished::ZeroVolume => CellFinished::ZeroVolume,
-                Finished::Done => CellFinished::Next(next),
-            }
-        }
-    }
+    // The walker refuses nothing here: a right record is at c, since all of them were walked over
+    // before the first pass (`FinishCellEntry`).
+    let (h, next) = walker::record_at(ws, c)?;
+    finish_record(case, points, dimension, ws, floats, s, i, h)?;
+    Ok(next)
 }
 
 // All cells, up to the first that has no volume.
@@ -109,18 +88,14 @@ pub fn finish_cells(
     words: &[u32],
     floats: &mut [f64],
     s: Sizes,
-) -> Finished
+) -> Result<(), Refusal>
     requires { FinishCellsEntry case.now points (words_in ws.now) words.now floats.old s }
     ensures { FinishCellsExit dimension (points_in case.now points) (words_in ws.now) s
         words.now floats.old floats.new result }
 {
     let mut c = Cursor { at: 0 };
     for i in 0..s.cells {
-        let CellFinished::Next(next) = finish_cell(case, points, dimension, ws, floats, s, i, c)
-        else {
-            return Finished::ZeroVolume;
-        };
-        c = next;
+        c = finish_cell(case, points, dimension, ws, floats, s, i, c)?;
     }
-    Finished::Done
+    Ok(())
 }

@@ -11,8 +11,6 @@ use lib.Dec.{eqb}
 use lib.Ieee.{Float}
 use lib.ListN.{length, get_or-eq_default}
 use Rattle.arith.specs.Lists.{any_of, fold, add_new}
-use Rattle.arith.specs.declared.Found.{Found}
-use Rattle.arith.specs.declared.Found.TheVariants.{At, Nothing}
 use Rattle.arith.proofs.RecordLaws.{get_or-tab, length-tab, lt-or-ge}
 use Rattle.mesh_area.specs.Tables.{Face, Cell, face_at, cell_at, no_face, no_cell}
 use Rattle.mesh_area.specs.declared.Sizes.{Sizes}
@@ -24,6 +22,8 @@ use Rattle.mesh_connection.specs.Connection.{sides_are, joins, share, connected,
 use Rattle.mesh_connection.specs.Ensures.{EnsureConnectedExit}
 use Rattle.mesh_connection.proofs.Counting.{clash, true-or, true-and, or_left, or_right, same_test}
 use Rattle.mesh_connection.proofs.Rounds.{any_at, any_some, connected-same}
+use Rattle.std.specs.Prelude.{Some, None}
+use Rattle.std.specs.declared.option.Option.{Option}
 
 -- ---- members of a list
 
@@ -97,20 +97,20 @@ add-only j n l h = by (any_of (eqb n) l) h
 pub record Faced (fs : List Face) (i j : ℕ) (faces : List ℕ) : Type 0 where
   pub face : ℕ
   pub of : In face faces
-  pub far : beyond i (face_at fs face) ≡ At j
+  pub far : beyond i (face_at fs face) ≡ Some j
 
 module _ (fs : List Face) (i j : ℕ) where
-  found-keeps : (l : List ℕ) (x : Found) → In j l → In j (add_found l x)
+  found-keeps : (l : List ℕ) (x : Option ℕ) → In j l → In j (add_found l x)
   unfolding add_found
-  found-keeps l Nothing h = h
-  found-keeps l (At n) h = add-keeps j n l h
+  found-keeps l None h = h
+  found-keeps l (Some n) h = add-keeps j n l h
 
-  found-only : (l : List ℕ) (x : Found) → In j (add_found l x) → In j l ⊎ (x ≡ At j)
+  found-only : (l : List ℕ) (x : Option ℕ) → In j (add_found l x) → In j l ⊎ (x ≡ Some j)
   unfolding add_found
-  found-only l Nothing h = inl h
-  found-only l (At n) h = by (add-only j n l h)
+  found-only l None h = inl h
+  found-only l (Some n) h = by (add-only j n l h)
     where
-      by : In j l ⊎ (j ≡ n) → In j l ⊎ (At n ≡ At j)
+      by : In j l ⊎ (j ≡ n) → In j l ⊎ (Some n ≡ Some j)
       by (inl q) = inl q
       by (inr e) = inr (rw e)
 
@@ -126,7 +126,7 @@ module _ (fs : List Face) (i j : ℕ) where
     where
       by : (h.face ≡ f) ⊎ In h.face faces → (Faced fs i j faces → In j (fold (add_neighbour fs i) (add_found l (beyond i (face_at fs f))) faces))
           → In j (fold (add_neighbour fs i) (add_found l (beyond i (face_at fs f))) faces)
-      by (inl e) r = let q : beyond i (face_at fs f) ≡ At j = rw e at h.far in fold-keeps _ faces (rw (q, add_found) (add-has j l))
+      by (inl e) r = let q : beyond i (face_at fs f) ≡ Some j = rw e at h.far in fold-keeps _ faces (rw (q, add_found) (add-has j l))
       by (inr n) r = r (record { face = h.face; of = n; far = h.far })
 
   fold-only : (l faces : List ℕ) → In j (fold (add_neighbour fs i) l faces) → In j l ⊎ Faced fs i j faces
@@ -134,7 +134,7 @@ module _ (fs : List Face) (i j : ℕ) where
   fold-only l [] h = inl h
   fold-only l (f ∷ faces) h = by (fold-only (add_found l (beyond i (face_at fs f))) faces h)
     where
-      first : In j l ⊎ (beyond i (face_at fs f) ≡ At j) → In j l ⊎ Faced fs i j (f ∷ faces)
+      first : In j l ⊎ (beyond i (face_at fs f) ≡ Some j) → In j l ⊎ Faced fs i j (f ∷ faces)
       first (inl q) = inl q
       first (inr e) = inr (record { face = f; of = in_head f faces; far = e })
 
@@ -144,21 +144,21 @@ module _ (fs : List Face) (i j : ℕ) where
 
 -- ---- a face's two cells
 
-pub record Sided (i j owner : ℕ) (x : Found) : Type 0 where
+pub record Sided (i j owner : ℕ) (x : Option ℕ) : Type 0 where
   pub other : ℕ
-  pub is : x ≡ At other
+  pub is : x ≡ Some other
   pub ways : ((owner ≡ i) × (other ≡ j)) ⊎ ((owner ≡ j) × (other ≡ i))
 
-sides-out : (i j owner : ℕ) (x : Found) → sides_are i j owner x ≡ true → Sided i j owner x
+sides-out : (i j owner : ℕ) (x : Option ℕ) → sides_are i j owner x ≡ true → Sided i j owner x
 unfolding sides_are
-sides-out i j owner Nothing e = absurd (clash e)
-sides-out i j owner (At n) e = record { other = n; is = refl; ways = by (true-or _ _ e) }
+sides-out i j owner None e = absurd (clash e)
+sides-out i j owner (Some n) e = record { other = n; is = refl; ways = by (true-or _ _ e) }
   where
     by : (eqb owner i && eqb n j ≡ true) ⊎ (eqb owner j && eqb n i ≡ true) → ((owner ≡ i) × (n ≡ j)) ⊎ ((owner ≡ j) × (n ≡ i))
     by (inl q) = let t = true-and _ _ q in inl (eqb-true _ _ t.0, eqb-true _ _ t.1)
     by (inr q) = let t = true-and _ _ q in inr (eqb-true _ _ t.0, eqb-true _ _ t.1)
 
-sides-in : (i j owner : ℕ) (x : Found) → Sided i j owner x → sides_are i j owner x ≡ true
+sides-in : (i j owner : ℕ) (x : Option ℕ) → Sided i j owner x → sides_are i j owner x ≡ true
 unfolding sides_are
 sides-in i j owner x d = rw (d.is, sides_are) (by d.ways)
   where
@@ -167,44 +167,44 @@ sides-in i j owner x d = rw (d.is, sides_are) (by d.ways)
     by (inr w) = or_right (eqb owner i && eqb d.other j) (eqb owner j && eqb d.other i) (rw (eq-eqb owner j w.0, eq-eqb d.other i w.1))
 
 -- seen from i the other one is j
-far-in : (i j owner : ℕ) (x : Found) → Sided i j owner x → other_cell i owner x ≡ At j
+far-in : (i j owner : ℕ) (x : Option ℕ) → Sided i j owner x → other_cell i owner x ≡ Some j
 unfolding other_cell
 far-in i j owner x d = rw (d.is, other_cell) (by (ℕ_discrete owner i) d.ways)
   where
-    by : Dec (owner ≡ i) → ((owner ≡ i) × (d.other ≡ j)) ⊎ ((owner ≡ j) × (d.other ≡ i)) → At (cond (eqb owner i) d.other owner) ≡ At j
-    by (yes o) (inl w) = rw (eq-eqb owner i o) (ap At w.1)
-    by (yes o) (inr w) = rw (eq-eqb owner i o) (ap At (w.1 ∙ sym o ∙ w.0))
+    by : Dec (owner ≡ i) → ((owner ≡ i) × (d.other ≡ j)) ⊎ ((owner ≡ j) × (d.other ≡ i)) → Some (cond (eqb owner i) d.other owner) ≡ Some j
+    by (yes o) (inl w) = rw (eq-eqb owner i o) (ap Some w.1)
+    by (yes o) (inr w) = rw (eq-eqb owner i o) (ap Some (w.1 ∙ sym o ∙ w.0))
     by (no ne) (inl w) = absurd (ne w.0)
-    by (no ne) (inr w) = rw (ne_eqb owner i ne) (ap At w.0)
+    by (no ne) (inr w) = rw (ne_eqb owner i ne) (ap Some w.0)
 
-far-out : (i j owner : ℕ) (x : Found) → other_cell i owner x ≡ At j → ((n : ℕ) → x ≡ At n → (owner ≡ i) ⊎ (n ≡ i)) → Sided i j owner x
+far-out : (i j owner : ℕ) (x : Option ℕ) → other_cell i owner x ≡ Some j → ((n : ℕ) → x ≡ Some n → (owner ≡ i) ⊎ (n ≡ i)) → Sided i j owner x
 unfolding other_cell
-far-out i j owner Nothing e side = let z : ◌≡◌ {A = ℕ} 0 1 = cc in absurd (omega arith)
-far-out i j owner (At n) e side = record { other = n; is = refl; ways = by (ℕ_discrete owner i) (side n refl) }
+far-out i j owner None e side = let z : ◌≡◌ {A = ℕ} 0 1 = cc in absurd (omega arith)
+far-out i j owner (Some n) e side = record { other = n; is = refl; ways = by (ℕ_discrete owner i) (side n refl) }
   where
     by : Dec (owner ≡ i) → (owner ≡ i) ⊎ (n ≡ i) → ((owner ≡ i) × (n ≡ j)) ⊎ ((owner ≡ j) × (n ≡ i))
-    by (yes o) s = inl (o, (let q : At n ≡ At j = rw (eq-eqb owner i o) at e in cc))
+    by (yes o) s = inl (o, (let q : Some n ≡ Some j = rw (eq-eqb owner i o) at e in cc))
     by (no ne) (inl o) = absurd (ne o)
-    by (no ne) (inr q) = inr ((let z : At owner ≡ At j = rw (ne_eqb owner i ne) at e in cc), q)
+    by (no ne) (inr q) = inr ((let z : Some owner ≡ Some j = rw (ne_eqb owner i ne) at e in cc), q)
 
 -- ---- faces and cells that agree
 
 pub record Agree (fs : List Face) (cs : List Cell) : Type 0 where
   -- a shared face of a cell has it on one side
-  pub sides : (i f n : ℕ) → i < length cs → In f (cell_at cs i).faces → (face_at fs f).neighbour ≡ At n → ((face_at fs f).owner ≡ i) ⊎ (n ≡ i)
+  pub sides : (i f n : ℕ) → i < length cs → In f (cell_at cs i).faces → (face_at fs f).neighbour ≡ Some n → ((face_at fs f).owner ≡ i) ⊎ (n ≡ i)
   -- a shared face is a face of both its cells
-  pub owned : (f n : ℕ) → f < length fs → (face_at fs f).neighbour ≡ At n → In f (cell_at cs (face_at fs f).owner).faces
-  pub met : (f n : ℕ) → f < length fs → (face_at fs f).neighbour ≡ At n → In f (cell_at cs n).faces
+  pub owned : (f n : ℕ) → f < length fs → (face_at fs f).neighbour ≡ Some n → In f (cell_at cs (face_at fs f).owner).faces
+  pub met : (f n : ℕ) → f < length fs → (face_at fs f).neighbour ≡ Some n → In f (cell_at cs n).faces
 
 -- a face that another cell lies beyond is one of the table
-face-low : (fs : List Face) (f n : ℕ) → (face_at fs f).neighbour ≡ At n → f < length fs
+face-low : (fs : List Face) (f n : ℕ) → (face_at fs f).neighbour ≡ Some n → f < length fs
 unfolding face_at
 face-low fs f n e = by (lt-or-ge f (length fs))
   where
     by : (f < length fs) ⊎ (length fs ≤ f) → f < length fs
     by (inl l) = l
     by (inr g) =
-        let q : Nothing ≡ At n = rw (get_or-eq_default fs no_face g) at e in
+        let q : None ≡ Some n = rw (get_or-eq_default fs no_face g) at e in
         let z : ◌≡◌ {A = ℕ} 0 1 = cc in absurd (omega arith)
 
 module _ (fs : List Face) (cs : List Cell) (agree : Agree fs cs) (i j : ℕ) (h : i < length cs) where
@@ -223,7 +223,7 @@ module _ (fs : List Face) (cs : List Cell) (agree : Agree fs cs) (i j : ℕ) (h 
       let s = sides-out i j g.owner g.neighbour p.here in
       record { face = p.at; of = by p.at p.low s.other s.is s.ways; far = far-in i j g.owner g.neighbour s }
     where
-      by : (f : ℕ) → f < length fs → (n : ℕ) → (face_at fs f).neighbour ≡ At n → (((face_at fs f).owner ≡ i) × (n ≡ j)) ⊎ (((face_at fs f).owner ≡ j) × (n ≡ i)) → In f (cell_at cs i).faces
+      by : (f : ℕ) → f < length fs → (n : ℕ) → (face_at fs f).neighbour ≡ Some n → (((face_at fs f).owner ≡ i) × (n ≡ j)) ⊎ (((face_at fs f).owner ≡ j) × (n ≡ i)) → In f (cell_at cs i).faces
       by f l n en (inl w) = rw w.0 at (agree.owned f n l en)
       by f l n en (inr w) = rw w.1 at (agree.met f n l en)
 

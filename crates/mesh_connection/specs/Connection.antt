@@ -3,12 +3,11 @@
 -- `one_round`, `rounds`, `connected_by`: reached by rounds.
 -- `sides_are`, `joins`, `share`, `connected`: over shared faces.
 -- `are_neighbours`, `connected_cells`: over the cells' neighbours.
-use Rattle.std.specs.Prelude.{ℕ, zero, suc, Bool, true, false, ◌&&◌, ◌||◌, List, eqb, length, get_or}
+use Rattle.std.specs.Prelude.{ℕ, zero, suc, Bool, true, false, ◌&&◌, ◌||◌, List, eqb, length, get_or, Some, None}
 use Rattle.arith.specs.Lists.{any_of}
 use Rattle.arith.specs.Records.{tab}
-use Rattle.arith.specs.declared.Found.{Found}
-use Rattle.arith.specs.declared.Found.TheVariants.{At, Nothing}
 use Rattle.mesh_area.specs.Tables.{Face, Cell, cell_at}
+use Rattle.std.specs.declared.option.Option.{Option}
 
 -- ---- reached by rounds, where `touch i j` says that one gets from cell i to cell j
 
@@ -38,9 +37,9 @@ connected_by touch n = every_below (λ j. get_or (rounds touch n n) j false) n
 -- ---- over shared faces
 
 -- a face has two cells, and they are i and j
-unfoldable pub sides_are : ℕ → ℕ → ℕ → Found → Bool
-sides_are i j owner Nothing = false
-sides_are i j owner (At n) = (eqb owner i && eqb n j) || (eqb owner j && eqb n i)
+unfoldable pub sides_are : ℕ → ℕ → ℕ → Option ℕ → Bool
+sides_are i j owner None = false
+sides_are i j owner (Some n) = (eqb owner i && eqb n j) || (eqb owner j && eqb n i)
 
 -- the same of a face
 unfoldable pub joins : ℕ → ℕ → Face → Bool

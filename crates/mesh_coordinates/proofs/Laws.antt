@@ -20,7 +20,9 @@ use Rattle.case_definitions.specs.Faces.{Definition}
 use Rattle.mesh_area.specs.Tables.{point_at}
 use Rattle.mesh_area.specs.Layout.{points_in}
 use Rattle.mesh_area.proofs.LayoutLaws.{length-points}
-use Rattle.mesh_coordinates.specs.Coordinates.{acceptable, accepted_as}
+use Rattle.std.specs.Prelude.{Ok, Err}
+use Rattle.refusal.specs.declared.Refusal.TheVariants.{NoCells, CoordinateNotFinite, CoordinateTooLarge}
+use Rattle.mesh_coordinates.specs.Coordinates.{acceptable}
 
 -- ---- points: every one passes, by what `all` tells of their numbers
 
@@ -64,20 +66,20 @@ all-points case n p r told = and_is (all_of p) p refl step (points_in case n) or
 -- ---- 8, 9 and 10
 
 module _ (ps : List Vec3) (defs : List Definition) where
-  pub accept-8 : length defs ≡ 0 → accepted_as 8 ≡ acceptable ps defs
-  unfolding accepted_as acceptable refuse ◌>>=◌
+  pub accept-8 : length defs ≡ 0 → Err NoCells ≡ acceptable ps defs
+  unfolding acceptable refuse ◌>>=◌
   accept-8 e = rw (eq-eqb (length defs) 0 e, refuse, ◌>>=◌)
 
   module _ (some : length defs ≡ 0 → ⊥) where
-    pub accept-9 : all_of (each3 finite) ps ≡ false → accepted_as 9 ≡ acceptable ps defs
-    unfolding accepted_as acceptable refuse ◌>>=◌
+    pub accept-9 : all_of (each3 finite) ps ≡ false → Err CoordinateNotFinite ≡ acceptable ps defs
+    unfolding acceptable refuse ◌>>=◌
     accept-9 e = rw (ne_eqb (length defs) 0 some, e, refuse, ◌>>=◌)
 
     module _ (fin : all_of (each3 finite) ps ≡ true) where
-      pub accept-10 : all_of (each3 within) ps ≡ false → accepted_as 10 ≡ acceptable ps defs
-      unfolding accepted_as acceptable refuse ◌>>=◌
+      pub accept-10 : all_of (each3 within) ps ≡ false → Err CoordinateTooLarge ≡ acceptable ps defs
+      unfolding acceptable refuse ◌>>=◌
       accept-10 e = rw (ne_eqb (length defs) 0 some, fin, e, refuse, ◌>>=◌)
 
-      pub accept-all : all_of (each3 within) ps ≡ true → accepted_as 0 ≡ acceptable ps defs
-      unfolding accepted_as acceptable refuse ◌>>=◌
+      pub accept-all : all_of (each3 within) ps ≡ true → Ok tt ≡ acceptable ps defs
+      unfolding acceptable refuse ◌>>=◌
       accept-all e = rw (ne_eqb (length defs) 0 some, fin, e, refuse, ◌>>=◌)

@@ -7,9 +7,10 @@ ghost use Rattle.arith.specs.Lists.{all_of};
 ghost use Rattle.arith.specs.Vec.{each3};
 ghost use Rattle.case_definitions.specs.Faces.{Definition};
 ghost use Rattle.mesh_area.specs.Layout.{points_in};
-ghost use Rattle.mesh_coordinates.specs.Coordinates.{PointBytes, acceptable, accepted_as};
+ghost use Rattle.mesh_coordinates.specs.Coordinates.{PointBytes, acceptable};
 
 use case_file::Counts;
+use refusal::Refusal;
 
 // Every coordinate is finite.
 fn all_finite(case: &[u8], points: usize) -> bool
@@ -27,20 +28,20 @@ fn all_within(case: &[u8], points: usize) -> bool
     (0..points).all(|i| mesh_area::point_at(case, points, i).is_within())
 }
 
-// Refusal 8, 9 or 10, or 0.
-pub fn unacceptable(case: &[u8], n: Counts) -> u64
+// Refusals 8, 9 and 10.
+pub fn accept(case: &[u8], n: Counts) -> Result<(), Refusal>
     requires { PointBytes case.now n.points }
-    ensures { (defs : List Definition) → length defs ≡ n.cells → accepted_as result ≡ acceptable
+    ensures { (defs : List Definition) → length defs ≡ n.cells → result ≡ acceptable
         (points_in case.now n.points) defs }
 {
     if n.cells == 0 {
-        return 8;
+        return Err(Refusal::NoCells);
     }
     if !all_finite(case, n.points) {
-        return 9;
+        return Err(Refusal::CoordinateNotFinite);
     }
     if !all_within(case, n.points) {
-        return 10;
+        return Err(Refusal::CoordinateTooLarge);
     }
-    0
+    Ok(())
 }

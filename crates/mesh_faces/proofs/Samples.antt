@@ -6,10 +6,11 @@ use Rattle.arith.specs.F64.{0·0}
 use Rattle.arith.specs.Vec.{origin}
 use Rattle.arith.specs.Lists.{fold, insert_before, sort, sorted, same, first_from}
 use Rattle.mesh_area.specs.Tables.{Face, face_at}
-use Rattle.reading.specs.Result.{refused}
 use Rattle.mesh_geometry.specs.declared.FaceGeometry.{FaceGeometry}
 use Rattle.mesh_faces.specs.Table.{has_key, face_with_key, new_face, with_neighbour, joining, settled, use_face, numbered_face, add_face}
 use Rattle.mesh_faces.specs.declared.Added.TheVariants.{New, Second}
+use Rattle.std.specs.Prelude.{Err}
+use Rattle.refusal.specs.declared.Refusal.TheVariants.{ThirdUser}
 
 computing : ℕ
 unfolding fold insert_before sort sorted same first_from face_at has_key face_with_key new_face with_neighbour joining settled use_face numbered_face add_face
@@ -40,6 +41,6 @@ adds : (use_face 7 (1 ∷ 2 ∷ 2 ∷ []) flat one).answer ≡ New 1
 unfolding computing one
 adds = refl
 
-refuses : add_face 9 (2 ∷ 3 ∷ 1 ∷ []) flat two ≡ refused 14
+refuses : add_face 9 (2 ∷ 3 ∷ 1 ∷ []) flat two ≡ Err ThirdUser
 unfolding computing two
 refuses = refl

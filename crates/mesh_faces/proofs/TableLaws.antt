@@ -15,7 +15,6 @@ use lib.Seq.{sets, get_or-set_same, get_or-set_other, get_or-drop, drop-set-add,
 use lib.Ieee.{Float}
 use Rattle.arith.specs.Lists.{first_from, same, sorted}
 use Rattle.arith.specs.Records.{chunk, tab}
-use Rattle.arith.specs.declared.Found.TheVariants.{At, Nothing}
 use Rattle.arith.proofs.RecordLaws.{tab-next, tab-same, get_or-tab, length-tab}
 use Rattle.mesh_area.specs.Tables.{Face, face_at, no_face}
 use Rattle.mesh_area.proofs.LayoutLaws.{found_none, found-one}
@@ -32,6 +31,7 @@ use Rattle.mesh_face_table.proofs.ChainLaws.{Linked, chains-same}
 use Rattle.mesh_faces.specs.Table.{has_key, face_with_key, new_face, with_neighbour, joining, settled, use_face}
 use Rattle.mesh_faces.specs.declared.Added.TheVariants.{New, Second, Third}
 use Rattle.mesh_faces.specs.Ensures.{AddEntry, words_after, floats_after, AddExit, SettleExit}
+use Rattle.std.specs.Prelude.{Some, None}
 
 -- ---- what a store leaves
 
@@ -219,18 +219,18 @@ module _ (w w' : List ℕ) (fl : List Float) (slots n i cell : ℕ) (st : FaceSt
 
 -- ---- the lookup
 
-first-none : (p : Face → Bool) (l : List Face) (k : ℕ) (d : Face) → ((j : ℕ) → j < length l → p (get_or l j d) ≡ false) → first_from p k l ≡ Nothing
+first-none : (p : Face → Bool) (l : List Face) (k : ℕ) (d : Face) → ((j : ℕ) → j < length l → p (get_or l j d) ≡ false) → first_from p k l ≡ None
 unfolding first_from
 first-none p [] k d h = refl
 first-none p (a ∷ l) k d h = rw (h 0 (omega arith), first_from) (first-none p l (suc k) d (λ j lt. h (suc j) (omega arith)))
 
-first_one : (p : Face → Bool) (l : List Face) (k i : ℕ) (d : Face) → i < length l → p (get_or l i d) ≡ true → ((j : ℕ) → j < i → p (get_or l j d) ≡ false) → first_from p k l ≡ At (k + i)
+first_one : (p : Face → Bool) (l : List Face) (k i : ℕ) (d : Face) → i < length l → p (get_or l i d) ≡ true → ((j : ℕ) → j < i → p (get_or l j d) ≡ false) → first_from p k l ≡ Some (k + i)
 unfolding first_from
 first_one p [] k i d lt t h = absurd (not-suc-le-zero lt)
-first_one p (a ∷ l) k zero d lt t h = rw (t, first_from) (ap At (sym (add-zero k)))
+first_one p (a ∷ l) k zero d lt t h = rw (t, first_from) (ap Some (sym (add-zero k)))
 first_one p (a ∷ l) k (suc i) d lt t h =
     let e : suc k + i ≡ k + suc i = omega arith in
-    rw (h 0 (omega arith), first_from) (first_one p l (suc k) i d (omega arith) t (λ j q. h (suc j) (omega arith)) ∙ ap At e)
+    rw (h 0 (omega arith), first_from) (first_one p l (suc k) i d (omega arith) t (λ j q. h (suc j) (omega arith)) ∙ ap Some e)
 
 length-table : (w : List ℕ) (fl : List Float) (n : ℕ) → length (table_in w fl n) ≡ n
 unfolding table_in
@@ -244,19 +244,19 @@ key-at : (w : List ℕ) (fl : List Float) (n : ℕ) (key : List ℕ) (i : ℕ) �
 unfolding has_key face_of face_at
 key-at w fl n key i l = ap (has_key key) (table_at w fl n i l)
 
-lookup-none : (w : List ℕ) (fl : List Float) (n : ℕ) (key : List ℕ) → last (key_at (face_words_in w) key) n ≡ 0 → face_with_key key (table_in w fl n) ≡ Nothing
+lookup-none : (w : List ℕ) (fl : List Float) (n : ℕ) (key : List ℕ) → last (key_at (face_words_in w) key) n ≡ 0 → face_with_key key (table_in w fl n) ≡ None
 unfolding face_with_key
 lookup-none w fl n key e =
     first-none (has_key key) (table_in w fl n) 0 no_face
     (λ j l. let lt = rw (length-table w fl n) at l in key-at w fl n key j lt ∙ last_none (key_at (face_words_in w) key) n e j lt)
 
 lookup-one : (w : List ℕ) (fl : List Float) (slots n : ℕ) (key : List ℕ) (i : ℕ) → Chains w slots n → last (key_at (face_words_in w) key) n ≡ suc i → i < n
-    → face_with_key key (table_in w fl n) ≡ At i
+    → face_with_key key (table_in w fl n) ≡ Some i
 unfolding face_with_key
 lookup-one w fl slots n key i ch e low =
     first_one (has_key key) (table_in w fl n) 0 i no_face (rw (length-table w fl n) low) (key-at w fl n key i low ∙ here)
     (λ j l. key-at w fl n key j (lower j l) ∙ other j l (key_at (face_words_in w) key j) refl)
-    ∙ ap At zero-first
+    ∙ ap Some zero-first
   where
     zero-first : 0 + i ≡ i
     zero-first = omega arith
@@ -282,7 +282,7 @@ pub is-new : (w w' : List ℕ) (fl fl' : List Float) (slots n : ℕ) (vertices :
 unfolding use_face settled
 is-new w w' fl fl' slots n vertices m cell at el ez low x =
     let z : last (key_at (face_words_in w) (sorted vertices)) n ≡ 0 = sym el ∙ ez in
-    let e : face_with_key (sorted vertices) (table_in w fl n) ≡ Nothing = lookup-none w fl n (sorted vertices) z in
+    let e : face_with_key (sorted vertices) (table_in w fl n) ≡ None = lookup-none w fl n (sorted vertices) z in
     record { answer = rw (e, length-table w fl n); faces = x.faces ∙ rw e; chains = x.chains z; words_left = x.words_left; floats-left = x.floats-left; low = low }
 
 module _ (w : List ℕ) (fl : List Float) (slots n : ℕ) (vertices : List ℕ) (m : FaceGeometry) (cell at : ℕ)
@@ -290,7 +290,7 @@ module _ (w : List ℕ) (fl : List Float) (slots n : ℕ) (vertices : List ℕ) 
   low-face : at - 1 < n
   low-face = omega arith
 
-  there : face_with_key (sorted vertices) (table_in w fl n) ≡ At (at - 1)
+  there : face_with_key (sorted vertices) (table_in w fl n) ≡ Some (at - 1)
   there =
       let e : at ≡ suc (at - 1) = omega arith in
       lookup-one w fl slots n (sorted vertices) (at - 1) rd.chains (sym el ∙ e) low-face
@@ -303,7 +303,7 @@ module _ (w : List ℕ) (fl : List Float) (slots n : ℕ) (vertices : List ℕ) 
   unfolding use_face settled joining face_of words_after floats_after
   is-second w' o eo z put long =
       let st = other-stored w w' (at - 1) (cell + 1) (let r = rd.chains.room in let s = rd.space in omega arith) long put in
-      let e : (face_at (table_in w fl n) (at - 1)).neighbour ≡ Nothing =
+      let e : (face_at (table_in w fl n) (at - 1)).neighbour ≡ None =
       ap (λ (f : Face). f.neighbour) face-there ∙ sym (found_none (face_words_in w (at - 1)).neighbour (sym eo ∙ z)) in
       record {
         answer = rw (there, e);
@@ -317,6 +317,6 @@ module _ (w : List ℕ) (fl : List Float) (slots n : ℕ) (vertices : List ℕ) 
   pub is-third : (o : ℕ) → o ≡ (face_words_in w (at - 1)).neighbour → (o ≡ 0 → ⊥) → SettleExit w w fl fl slots n vertices m cell Third
   unfolding use_face settled joining face_of words_after floats_after
   is-third o eo z =
-      let e : (face_at (table_in w fl n) (at - 1)).neighbour ≡ At ((face_words_in w (at - 1)).neighbour - 1) =
+      let e : (face_at (table_in w fl n) (at - 1)).neighbour ≡ Some ((face_words_in w (at - 1)).neighbour - 1) =
       ap (λ (f : Face). f.neighbour) face-there ∙ sym (found-one (face_words_in w (at - 1)).neighbour (λ q. z (eo ∙ q))) in
       record { answer = rw (there, e); faces = rw (there, e); chains = rd.chains; words_left = refl; floats-left = refl; low = let s = rd.space in omega arith }

@@ -8,7 +8,7 @@ use lib.ListN.{length, get_or, drop, length-map, drop_of_length-le}
 use Rattle.arith.specs.Lists.{fold, sides}
 use Rattle.arith.specs.declared.Vec3.{Vec3}
 use Rattle.arith.proofs.ListLaws.{foldl-next, length-sides}
-use Rattle.reading.specs.Result.{Result, refused, fine, ◌>>=◌, steps}
+use Rattle.reading.specs.Result.{Refusable, ◌>>=◌, steps}
 use Rattle.reading.proofs.ResultLaws.{steps_next, steps-refused}
 use Rattle.case_definitions.specs.Faces.{Definition, polygon, solid, polyhedron, faces_of, face_count}
 use Rattle.case_definitions.specs.Ensures.{definition_at, read_of, face_at, HeadAt, head_of}
@@ -18,9 +18,11 @@ use Rattle.case_definitions.proofs.RecordLaws.{steps-to}
 use Rattle.mesh_volumes.specs.declared.Weight.{Weight}
 use Rattle.mesh_volumes.specs.Geometry.{add_triangle, add_face_3d, no_weight, centre_2d, centre_3d, geometry_in, cell_geometry}
 use Rattle.mesh_measure.specs.declared.Weighed.{Weighed}
-use Rattle.mesh_measure.specs.declared.FaceWeight.{FaceWeight}
-use Rattle.mesh_measure.specs.declared.FaceWeight.TheVariants as Fan
 use Rattle.mesh_measure.specs.Ensures.{faces_at, NextFace, AddFaceExit, added, degenerate}
+use Rattle.std.specs.Prelude.{Some, None, Ok, Err}
+use Rattle.std.specs.declared.option.Option.{Option}
+use Rattle.refusal.specs.declared.Refusal.{Refusal}
+use Rattle.refusal.specs.declared.Refusal.TheVariants.{NoVolume}
 
 -- ---- faces of a record
 
@@ -46,11 +48,11 @@ module _ (ws : List ℕ) (h : Head) (g : HeadAt ws h) (k : ℕ) (more : k < h.fa
   sum-next f w = foldl-next (faces_at ws h) k [] in-range f w
 
   -- the same where a face may be refused
-  pub steps_on : {B : Type 0} (f : B → List ℕ → Result B) (w t : B) → f w (face_at ws h.at k) ≡ fine t → steps f w (drop k (faces_at ws h)) ≡ steps f t (drop (k + 1) (faces_at ws h))
+  pub steps_on : {B : Type 0} (f : B → List ℕ → Refusable B) (w t : B) → f w (face_at ws h.at k) ≡ Ok t → steps f w (drop k (faces_at ws h)) ≡ steps f t (drop (k + 1) (faces_at ws h))
   unfolding face_at faces_at
   steps_on f w t e = steps_next (faces_at ws h) k [] in-range f w t e
 
-  pub steps-stop : {B : Type 0} (f : B → List ℕ → Result B) (w : B) (n : ℕ) → f w (face_at ws h.at k) ≡ refused n → steps f w (drop k (faces_at ws h)) ≡ refused n
+  pub steps-stop : {B : Type 0} (f : B → List ℕ → Refusable B) (w : B) (n : Refusal) → f w (face_at ws h.at k) ≡ Err n → steps f w (drop k (faces_at ws h)) ≡ Err n
   unfolding face_at faces_at
   steps-stop f w n e = steps-refused (faces_at ws h) k [] in-range f w n e
 
@@ -66,15 +68,15 @@ first_two ps reference w l a b e g = rw (e, g)
 -- ---- what the answers in 3D stand for
 
 module _ {ps : List Vec3} {ws : List ℕ} {h : Head} {c : FaceCursor} {reference : Vec3} {w : Weight} where
-  pub fan-degenerate : {r : FaceWeight} → AddFaceExit ps ws h c reference w r → r ≡ Fan.Degenerate → add_face_3d ps reference w (face_at ws h.at c.face) ≡ refused 15
+  pub fan-degenerate : {r : Option Weighed} → AddFaceExit ps ws h c reference w r → r ≡ None → add_face_3d ps reference w (face_at ws h.at c.face) ≡ Err NoVolume
   fan-degenerate (degenerate e) g = e
   fan-degenerate (added e n) g = absurd (let z : ◌≡◌ {A = ℕ} 0 1 = cc in omega arith)
 
-  pub fan-sum : {r : FaceWeight} (t : Weighed) → AddFaceExit ps ws h c reference w r → r ≡ Fan.Added t → add_face_3d ps reference w (face_at ws h.at c.face) ≡ fine t.weight
-  fan-sum t (added {t = u} e n) g = let k : u ≡ t = cc in e ∙ ap (λ (x : Weighed). fine x.weight) k
+  pub fan-sum : {r : Option Weighed} (t : Weighed) → AddFaceExit ps ws h c reference w r → r ≡ Some t → add_face_3d ps reference w (face_at ws h.at c.face) ≡ Ok t.weight
+  fan-sum t (added {t = u} e n) g = let k : u ≡ t = cc in e ∙ ap (λ (x : Weighed). Ok x.weight) k
   fan-sum t (degenerate e) g = absurd (let z : ◌≡◌ {A = ℕ} 0 1 = cc in omega arith)
 
-  pub fan-next : {r : FaceWeight} (t : Weighed) → AddFaceExit ps ws h c reference w r → r ≡ Fan.Added t → NextFace ws h c t.next
+  pub fan-next : {r : Option Weighed} (t : Weighed) → AddFaceExit ps ws h c reference w r → r ≡ Some t → NextFace ws h c t.next
   fan-next t (added {t = u} e n) g = let k : u ≡ t = cc in subst (λ (x : Weighed). NextFace ws h c x.next) k n
   fan-next t (degenerate e) g = absurd (let z : ◌≡◌ {A = ℕ} 0 1 = cc in omega arith)
 
@@ -86,10 +88,10 @@ module _ (d : ℕ) (ps : List Vec3) (reference : Vec3) (faces : List (List ℕ))
   flat-cell e = rw (eq-eqb d 2 e, geometry_in)
 
   module _ (e : d ≡ 2 → ⊥) where
-    pub solid-cell : (w : Weight) → steps (add_face_3d ps reference) no_weight faces ≡ fine w → centre_3d w ≡ cell_geometry d ps reference faces
+    pub solid-cell : (w : Weight) → steps (add_face_3d ps reference) no_weight faces ≡ Ok w → centre_3d w ≡ cell_geometry d ps reference faces
     unfolding cell_geometry geometry_in ◌>>=◌
     solid-cell w g = rw (ne_eqb d 2 e, geometry_in, g, ◌>>=◌)
 
-    pub no_cell : steps (add_face_3d ps reference) no_weight faces ≡ refused 15 → refused 15 ≡ cell_geometry d ps reference faces
+    pub no_cell : steps (add_face_3d ps reference) no_weight faces ≡ Err NoVolume → Err NoVolume ≡ cell_geometry d ps reference faces
     unfolding cell_geometry geometry_in ◌>>=◌
     no_cell g = rw (ne_eqb d 2 e, geometry_in, g, ◌>>=◌)

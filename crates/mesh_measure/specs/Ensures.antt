@@ -2,9 +2,9 @@
 -- `faces_at`: the faces of a record.
 -- `FaceEntry`, `NextFace`: a face, and the next one.
 -- `add_edge`: `AddEdgeExit`. `add_face_3d`: `AddFaceExit`. `add_turned` and `add_faces_3d`: `weight_of`.
-use Rattle.std.specs.Prelude.{ℕ, ◌+◌, ◌<◌, ◌≡◌, List}
+use Rattle.std.specs.Prelude.{ℕ, ◌+◌, ◌<◌, ◌≡◌, List, Some, None, Ok, Err}
 use Rattle.arith.specs.declared.Vec3.{Vec3}
-use Rattle.reading.specs.Result.{Result, refused, fine}
+use Rattle.reading.specs.Result.{Refusable}
 use Rattle.case_definitions.specs.Faces.{faces_of}
 use Rattle.case_definitions.specs.Ensures.{definition_at, face_at}
 use Rattle.case_faces.specs.Ensures.{AtFace}
@@ -13,10 +13,8 @@ use Rattle.case_faces.specs.declared.FaceCursor.{FaceCursor}
 use Rattle.mesh_volumes.specs.declared.Weight.{Weight}
 use Rattle.mesh_volumes.specs.Geometry.{add_triangle, add_face_3d}
 use Rattle.mesh_measure.specs.declared.Weighed.{Weighed}
-use Rattle.mesh_measure.specs.declared.FaceWeight.{FaceWeight}
-use Rattle.mesh_measure.specs.declared.CellWeight.{CellWeight}
-use Rattle.mesh_measure.specs.declared.FaceWeight.TheVariants as Fan
-use Rattle.mesh_measure.specs.declared.CellWeight.TheVariants as Whole
+use Rattle.std.specs.declared.option.Option.{Option}
+use Rattle.refusal.specs.declared.Refusal.TheVariants.{NoVolume}
 
 -- the faces of the record h
 unfoldable pub faces_at : List ℕ → Head → List (List ℕ)
@@ -38,11 +36,11 @@ pub record AddEdgeExit (ps : List Vec3) (ws : List ℕ) (h : Head) (c : FaceCurs
   pub next : NextFace ws h c r.next
 
 -- what each answer in 3D stands for
-pub data AddFaceExit (ps : List Vec3) (ws : List ℕ) (h : Head) (c : FaceCursor) (reference : Vec3) (w : Weight) : FaceWeight → Type 0 where
-  added : {t : Weighed} → add_face_3d ps reference w (face_at ws h.at c.face) ≡ fine t.weight → NextFace ws h c t.next → AddFaceExit ps ws h c reference w (Fan.Added t)
-  degenerate : add_face_3d ps reference w (face_at ws h.at c.face) ≡ refused 15 → AddFaceExit ps ws h c reference w Fan.Degenerate
+pub data AddFaceExit (ps : List Vec3) (ws : List ℕ) (h : Head) (c : FaceCursor) (reference : Vec3) (w : Weight) : Option Weighed → Type 0 where
+  added : {t : Weighed} → add_face_3d ps reference w (face_at ws h.at c.face) ≡ Ok t.weight → NextFace ws h c t.next → AddFaceExit ps ws h c reference w (Some t)
+  degenerate : add_face_3d ps reference w (face_at ws h.at c.face) ≡ Err NoVolume → AddFaceExit ps ws h c reference w None
 
 -- 15 "zero volume"
-unfoldable pub weight_of : CellWeight → Result Weight
-weight_of (Whole.Sum w) = fine w
-weight_of Whole.Degenerate = refused 15
+unfoldable pub weight_of : Option Weight → Refusable Weight
+weight_of (Some w) = Ok w
+weight_of None = Err NoVolume

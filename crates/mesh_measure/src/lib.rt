@@ -14,28 +14,13 @@ ghost use Rattle.mesh_measure.specs.Ensures.{faces_at, FaceEntry, AddEdgeExit, A
 use arith::Vec3;
 use case_definitions::Head;
 use case_faces::FaceCursor;
-use mesh_geometry::TurnedFace;
-use mesh_volumes::{CellMeasure, Weight};
+use mesh_volumes::{CellGeometry, Weight};
 
 // A sum with a face more, and the next face.
 #[derive(Clone, Copy)]
 struct Weighed {
     pub weight: Weight,
     pub next: FaceCursor,
-}
-
-// The same in 3D, or that the face is degenerate.
-#[derive(Clone, Copy)]
-enum FaceWeight {
-    Added(Weighed),
-    Degenerate,
-}
-
-// The sum over all faces in 3D, or that one is degenerate.
-#[derive(Clone, Copy)]
-enum CellWeight {
-    Sum(Weight),
-    Degenerate,
 }
 
 // Number k of a face; 0 past its end.
@@ -94,18 +79,14 @@ fn add_turned(
     vertices: &mut [u32],
     reference: Vec3,
     weight: Weight,
-) -> CellWeight
+) -> Option<Weight>
     requires point_bytes { PointBytes case.now points }
     requires vertices_len_bound { length vertices.old ≤ 8 }
     ensures { weight_of result ≡ add_face_3d (points_in case.now points) reference weight
         vertices.old }
 {
-    match mesh_geometry::oriented_face(3, case, points, vertices, reference) {
-        TurnedFace::Degenerate => CellWeight::Degenerate,
-        TurnedFace::Face(_) => CellWeight::Sum(mesh_volumes::add_tetrahedra(
-            case, points, reference, weight, vertices,
-        )),
-    }
+    mesh_geometry::oriented_face(3, case, points, vertices, reference)?;
+    Some(mesh_volumes::add_tetrahedra(case, points, reference, weight, vertices))
 }
 
 // One face of a cell in 3D.
@@ -117,7 +98,7 @@ fn add_face_3d(
     c: FaceCursor,
     reference: Vec3,
     weight: Weight,
-) -> FaceWeight
+) -> Option<Weighed>
     requires point_bytes { PointBytes case.now points }
     requires face_entry { FaceEntry (words_in words.now) h c }
     ensures { AddFaceExit (points_in case.now points) (words_in words.now) h c reference
@@ -127,14 +108,18 @@ fn add_face_3d(
     let copied = case_faces::copy_face(words, h, c, &mut face);
     let count = copied.count;
     let next = copied.next;
-    match add_turned(case, points, &mut face[..count], reference, weight) {
-        CellWeight::Degenerate => FaceWeight::Degenerate,
-        CellWeight::Sum(sum) => FaceWeight::Added(Weighed { weight: sum, next }),
-    }
+    let sum = add_turned(case, points, &mut face[..count], reference, weight)?;
+    Some(Weighed { weight: sum, next })
 }
 
 // All faces of a cell in 3D.
-fn add_faces_3d(case: &[u8], points: usize, words: &[u8], h: Head, reference: Vec3) -> CellWeight
+fn add_faces_3d(
+    case: &[u8],
+    points: usize,
+    words: &[u8],
+    h: Head,
+    reference: Vec3,
+) -> Option<Weight>
     requires point_bytes { PointBytes case.now points }
     requires head_at { HeadAt (words_in words.now) h }
     ensures { weight_of result ≡ steps (add_face_3d (points_in case.now points) reference) no_weight
@@ -143,13 +128,11 @@ fn add_faces_3d(case: &[u8], points: usize, words: &[u8], h: Head, reference: Ve
     let mut sum = mesh_volumes::no_weight();
     let mut c = case_faces::first_face(h);
     for _ in 0..h.faces {
-        let FaceWeight::Added(t) = add_face_3d(case, points, words, h, c, reference, sum) else {
-            return CellWeight::Degenerate;
-        };
+        let t = add_face_3d(case, points, words, h, c, reference, sum)?;
         sum = t.weight;
         c = t.next;
     }
-    CellWeight::Sum(sum)
+    Some(sum)
 }
 
 // The centre and the area or volume of the cell of a record.
@@ -160,7 +143,7 @@ pub fn cell_geometry(
     words: &[u8],
     h: Head,
     reference: Vec3,
-) -> CellMeasure
+) -> Option<CellGeometry>
     requires point_bytes { PointBytes case.now points }
     requires head_at { HeadAt (words_in words.now) h }
     ensures { cell_of result ≡ cell_geometry dimension (points_in case.now points) reference
@@ -169,8 +152,6 @@ pub fn cell_geometry(
     if dimension == 2 {
         return mesh_volumes::centre_2d(reference, add_edges(case, points, words, h, reference));
     }
-    match add_faces_3d(case, points, words, h, reference) {
-        CellWeight::Sum(w) => mesh_volumes::centre_3d(w),
-        CellWeight::Degenerate => CellMeasure::ZeroVolume,
-    }
+    let w = add_faces_3d(case, points, words, h, reference)?;
+    mesh_volumes::centre_3d(w)
 }

@@ -14,13 +14,11 @@ use lib.Dec.{eqb}
 use lib.Ieee.{Float}
 use lib.ListN.{length, get_or, set, take, drop, length-drop}
 use lib.Seq.{get_or-set_same, get_or-set_other, get_or-take, get_or-drop}
-use Rattle.std.specs.Prelude.{◌||◌}
+use Rattle.std.specs.Prelude.{◌||◌, Some, None}
 use Rattle.std.specs.List.{list_any}
 use Rattle.std.proofs.lemmas.List.{same_lists, get_or_default, length-take}
 use Rattle.arith.specs.Lists.{any_of, fold, add_new}
 use Rattle.arith.specs.Records.{tab}
-use Rattle.arith.specs.declared.Found.{Found}
-use Rattle.arith.specs.declared.Found.TheVariants.{At, Nothing}
 use Rattle.arith.proofs.ListLaws.{foldl-next}
 use Rattle.arith.proofs.RecordLaws.{tab-same, tab-next, drop-end, lt-or-ge}
 use Rattle.mesh_area.specs.declared.Sizes.{Sizes}
@@ -29,6 +27,7 @@ use Rattle.mesh_area.specs.Layout.{list_at, found, face_in, cell_in, faces_in, c
 use Rattle.mesh_area.proofs.LayoutLaws.{face-in, face-out, cell-in, length-cells_in, length-list_at, list_at-in}
 use Rattle.mesh_neighbours.specs.Neighbours.{other_cell, beyond, add_found, add_neighbour, neighbours_of, linked_at, linked, first_in, count_in}
 use Rattle.mesh_neighbours.specs.Ensures.{CellLists, OutsideList, FillNeighboursExit, BeyondExit, AddNewExit, AddBeyondExit, neighbours_in, ListAtExit, FillCellExit}
+use Rattle.std.specs.declared.option.Option.{Option}
 
 -- ---- is it listed
 
@@ -94,15 +93,15 @@ mesh-word s w j h = get_or-take (words_end s) w j 0 h
 pub mesh-list : (s : Sizes) (w : List ℕ) (at n : ℕ) → at + n ≤ words_end s → list_at (mesh_words s w) at n ≡ list_at w at n
 mesh-list s w at n h = same-list w (mesh_words s w) at n (λ k l. mesh-word s w (at + k) (omega arith))
 
-found-small : (x n : ℕ) → x < 4294967296 → At n ≡ found x → n < 4294967296
+found-small : (x n : ℕ) → x < 4294967296 → Some n ≡ found x → n < 4294967296
 unfolding found
 found-small x n h e = by (eqb x 0) e
   where
-    by : (b : Bool) → At n ≡ cond b Nothing (At (x - 1)) → n < 4294967296
+    by : (b : Bool) → Some n ≡ cond b None (Some (x - 1)) → n < 4294967296
     by true e = let z : ◌≡◌ {A = ℕ} 0 1 = cc in absurd (omega arith)
     by false e = let z : n ≡ x - 1 = cc in omega arith
 
-neighbour-small : (s : Sizes) (w : List ℕ) (f n : ℕ) → LentWords s w → ((j : ℕ) → Fits w32 (get_or w j 0)) → At n ≡ (face_at (faces_in s w []) f).neighbour → n < 4294967296
+neighbour-small : (s : Sizes) (w : List ℕ) (f n : ℕ) → LentWords s w → ((j : ℕ) → Fits w32 (get_or w j 0)) → Some n ≡ (face_at (faces_in s w []) f).neighbour → n < 4294967296
 unfolding face_in
 neighbour-small s w f n lent fit e = by (lt-or-ge f s.faces)
   where
@@ -113,37 +112,35 @@ neighbour-small s w f n lent fit e = by (lt-or-ge f s.faces)
         found-small (get_or (mesh_words s w) (12 * f + 10) 0) n (rw (mesh-word s w (12 * f + 10) i) b) (e ∙ ap (λ (g : Face). g.neighbour) (face-in s w [] f h))
     by (inr h) = let g = e ∙ ap (λ (g : Face). g.neighbour) (face-out s w [] f h) in let z : ◌≡◌ {A = ℕ} 0 1 = cc in absurd (omega arith)
 
-module _ (s : Sizes) (w : List ℕ) (cell f : ℕ) (x : Found) (ex : (floats : List Float) → x ≡ (face_at (faces_in s w floats) f).neighbour) where
-  pub beyond-none : x ≡ Nothing → BeyondExit s w cell f Nothing
+module _ (s : Sizes) (w : List ℕ) (cell f : ℕ) (x : Option ℕ) (ex : (floats : List Float) → x ≡ (face_at (faces_in s w floats) f).neighbour) where
+  pub beyond-none : x ≡ None → BeyondExit s w cell f None
   unfolding beyond other_cell
   beyond-none e = record { found = λ floats. rw (← ex floats, e); small = λ d q. let z : ◌≡◌ {A = ℕ} 0 1 = cc in absurd (omega arith) }
 
-  module _ (n : ℕ) (e : x ≡ At n) (o : ℕ) (eo : (floats : List Float) → o ≡ (face_at (faces_in s w floats) f).owner) where
-    pub beyond-owner : LentWords s w → ((j : ℕ) → Fits w32 (get_or w j 0)) → o ≡ cell → BeyondExit s w cell f (At n)
+  module _ (n : ℕ) (e : x ≡ Some n) (o : ℕ) (eo : (floats : List Float) → o ≡ (face_at (faces_in s w floats) f).owner) where
+    pub beyond-owner : LentWords s w → ((j : ℕ) → Fits w32 (get_or w j 0)) → o ≡ cell → BeyondExit s w cell f (Some n)
     unfolding beyond other_cell
     beyond-owner lent fit q =
         let b = neighbour-small s w f n lent fit (sym e ∙ ex []) in
         record { found = λ floats. rw (← ex floats, e, ← eo floats, eq-eqb o cell q); small = λ d r. let z : n ≡ d = cc in omega arith }
 
-    pub beyond-other : o < 4294967296 → (o ≡ cell → ⊥) → BeyondExit s w cell f (At o)
+    pub beyond-other : o < 4294967296 → (o ≡ cell → ⊥) → BeyondExit s w cell f (Some o)
     unfolding beyond other_cell
     beyond-other b ne =
         record { found = λ floats. rw (← ex floats, e, ← eo floats, ne_eqb o cell ne); small = λ d r. let z : o ≡ d = cc in omega arith }
 
-pub ruleset looking = (beyond-none, beyond-owner, beyond-other)
-
 -- ---- a face's cell added
 
-module _ (s : Sizes) (w : List ℕ) (cell f at n : ℕ) (x : Found) (b : BeyondExit s w cell f x) where
-  pub crossed-none : x ≡ Nothing → AddBeyondExit s w w cell f at n n
+module _ (s : Sizes) (w : List ℕ) (cell f at n : ℕ) (x : Option ℕ) (b : BeyondExit s w cell f x) where
+  pub crossed-none : x ≡ None → AddBeyondExit s w w cell f at n n
   unfolding add_neighbour add_found
   crossed-none e = record { list = λ floats. rw (← b.found floats, e); more = omega arith; grows = omega arith; kept = λ j h. refl }
 
-  pub crossed-one : (w' : List ℕ) (d r : ℕ) → x ≡ At d → AddNewExit w w' at n d r → AddBeyondExit s w w' cell f at n r
+  pub crossed-one : (w' : List ℕ) (d r : ℕ) → x ≡ Some d → AddNewExit w w' at n d r → AddBeyondExit s w w' cell f at n r
   unfolding add_neighbour add_found
   crossed-one w' d r e a = record { list = λ floats. rw (← b.found floats, e) a.list; more = a.more; grows = a.grows; kept = a.kept }
 
-  pub crossed-small : (d : ℕ) → x ≡ At d → d < 4294967296
+  pub crossed-small : (d : ℕ) → x ≡ Some d → d < 4294967296
   crossed-small d e = b.small d e
 
 pub ruleset crossing = (crossed-none, crossed-one, crossed-small)

@@ -2,15 +2,14 @@
 -- `CellLists`: the cells' lists, as they must stand. `fill_neighbours`: `OutsideList`, `FillNeighboursExit`.
 -- `beyond`: `BeyondExit`. `add_new`: `AddNewExit`. `add_beyond`: `AddBeyondExit`.
 -- `list_at`: `neighbours_in`, `ListAtExit`. `fill_cell`: `FillCellExit`.
-use Rattle.std.specs.Prelude.{ℕ, ◌+◌, ◌*◌, ◌≤◌, ◌<◌, ◌≡◌, List, ◌≢◌, ◌⊎◌, eqb, Float, get_or}
+use Rattle.std.specs.Prelude.{ℕ, ◌+◌, ◌*◌, ◌≤◌, ◌<◌, ◌≡◌, List, ◌≢◌, ◌⊎◌, eqb, Float, get_or, Some}
 use Rattle.arith.specs.Limits.{2^32}
 use Rattle.arith.specs.Lists.{add_new}
-use Rattle.arith.specs.declared.Found.{Found}
-use Rattle.arith.specs.declared.Found.TheVariants.{At}
 use Rattle.mesh_area.specs.declared.Sizes.{Sizes}
 use Rattle.mesh_area.specs.Tables.{face_at, cell_at}
 use Rattle.mesh_area.specs.Layout.{faces_in, cells_in, list_at}
 use Rattle.mesh_neighbours.specs.Neighbours.{beyond, add_neighbour, neighbours_of, first_in, count_in, linked}
+use Rattle.std.specs.declared.option.Option.{Option}
 
 -- no face's vertices leave its record, and the cells' lists follow each other within their F words
 pub record CellLists (s : Sizes) (words : List ℕ) : Type 0 where
@@ -30,9 +29,9 @@ pub record FillNeighboursExit (s : Sizes) (words words' : List ℕ) : Type 0 whe
   pub rest : (j : ℕ) → ((i : ℕ) → i < s.cells → OutsideList s words words' i j) → get_or words' j 0 ≡ get_or words j 0
 
 -- the cell beyond face f, which fits a word
-pub record BeyondExit (s : Sizes) (w : List ℕ) (cell f : ℕ) (r : Found) : Type 0 where
+pub record BeyondExit (s : Sizes) (w : List ℕ) (cell f : ℕ) (r : Option ℕ) : Type 0 where
   pub found : (floats : List Float) → r ≡ beyond cell (face_at (faces_in s w floats) f)
-  pub small : (d : ℕ) → r ≡ At d → d < 2^32
+  pub small : (d : ℕ) → r ≡ Some d → d < 2^32
 
 -- the list of n words at a place, with d added unless it is there
 pub record AddNewExit (w w' : List ℕ) (at n d r : ℕ) : Type 0 where

@@ -3,29 +3,28 @@
 -- `add_found`, `add_neighbour`, `neighbours_of`: the neighbours of a cell.
 -- `linked_at`, `linked`: the cells with their neighbours.
 -- `first_in`, `count_in`: where a cell's lists start in the area, and how many faces it has.
-use Rattle.std.specs.Prelude.{ℕ, ◌+◌, ◌*◌, cond, List, [], eqb, length, get_or}
+use Rattle.std.specs.Prelude.{ℕ, ◌+◌, ◌*◌, cond, List, [], eqb, length, get_or, Some, None}
 use Rattle.arith.specs.Lists.{fold, add_new}
 use Rattle.arith.specs.Records.{tab}
-use Rattle.arith.specs.declared.Found.{Found}
-use Rattle.arith.specs.declared.Found.TheVariants.{At, Nothing}
 use Rattle.mesh_area.specs.declared.Sizes.{Sizes}
 use Rattle.mesh_area.specs.Tables.{Face, Cell, face_at, cell_at}
+use Rattle.std.specs.declared.option.Option.{Option}
 
 -- ---- the definition
 
 -- the other one of a face's two cells, where there are two
-unfoldable pub other_cell : ℕ → ℕ → Found → Found
-other_cell cell owner Nothing = Nothing
-other_cell cell owner (At n) = At (cond (eqb owner cell) n owner)
+unfoldable pub other_cell : ℕ → ℕ → Option ℕ → Option ℕ
+other_cell cell owner None = None
+other_cell cell owner (Some n) = Some (cond (eqb owner cell) n owner)
 
 -- the same of a face
-unfoldable pub beyond : ℕ → Face → Found
+unfoldable pub beyond : ℕ → Face → Option ℕ
 beyond cell f = other_cell cell f.owner f.neighbour
 
 -- first of each kept
-unfoldable pub add_found : List ℕ → Found → List ℕ
-add_found l Nothing = l
-add_found l (At n) = add_new eqb l n
+unfoldable pub add_found : List ℕ → Option ℕ → List ℕ
+add_found l None = l
+add_found l (Some n) = add_new eqb l n
 
 -- with the cell beyond face f
 unfoldable pub add_neighbour : List Face → ℕ → List ℕ → ℕ → List ℕ

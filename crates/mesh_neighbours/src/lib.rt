@@ -8,23 +8,20 @@ ghost use Rattle.mesh_area.specs.Layout.{list_at, LentWords};
 ghost use Rattle.mesh_neighbours.specs.Neighbours.{first_in};
 ghost use Rattle.mesh_neighbours.specs.Ensures.{CellLists, FillNeighboursExit, BeyondExit, AddNewExit, AddBeyondExit, ListAtExit, FillCellExit};
 
-use arith::Found;
 use arith::number::narrow;
 use mesh_area::Sizes;
 
 // The cell on the other side of face f, seen from one of its cells.
-fn beyond(words: &[u32], s: Sizes, cell: usize, f: usize) -> Found
+fn beyond(words: &[u32], s: Sizes, cell: usize, f: usize) -> Option<usize>
     requires { LentWords s words.now }
     ensures { BeyondExit s words.now cell f result }
 {
-    let Found::At(n) = mesh_area::neighbour_of(words, s, f) else {
-        return Found::Nothing;
-    };
+    let n = mesh_area::neighbour_of(words, s, f)?;
     let owner = mesh_area::owner_of(words, s, f);
     if owner == cell {
-        return Found::At(n);
+        return Some(n);
     }
-    Found::At(owner)
+    Some(owner)
 }
 
 // d is one of the n words at a place.
@@ -52,7 +49,7 @@ fn add_beyond(words: &mut [u32], s: Sizes, cell: usize, f: usize, at: usize, n: 
     requires { LentWords s words.old × (at + n < length words.old) × (n < 2^32) }
     ensures { AddBeyondExit s words.old words.new cell f at n result }
 {
-    let Found::At(d) = beyond(words, s, cell, f) else {
+    let Some(d) = beyond(words, s, cell, f) else {
         return n;
     };
     add_new(words, at, n, d)

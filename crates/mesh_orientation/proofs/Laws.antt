@@ -1,7 +1,7 @@
 -- Faces of the table: a face between its cells, and none that is misplaced. Assumes nothing.
 use Prim.Native.Nat.{ℕ, zero, suc, ◌+◌, ◌<◌}
 use native.Mathlib.Omega.{arith}
-use Rattle.std.specs.Prelude.{◌||◌}
+use Rattle.std.specs.Prelude.{◌||◌, Some, None}
 use Rattle.std.specs.List.{list_any, range_with_len}
 use Rattle.std.proofs.Common.{zero-add}
 use mathlib.Core.Path.{◌≡◌, refl, sym, ◌∙◌}
@@ -17,7 +17,6 @@ use Rattle.mesh_area.specs.Layout.{faces_in}
 use Rattle.mesh_area.specs.declared.Sizes.{Sizes}
 use Rattle.mesh_area.proofs.LayoutLaws.{length-faces_in}
 use Rattle.mesh_area.specs.Tables.{Cell, cell_at}
-use Rattle.arith.specs.declared.Found.TheVariants.{At, Nothing}
 use Rattle.mesh_orientation.specs.Orientation.{behind, misplaced, neighbour_behind}
 
 -- ---- faces of the table: none is misplaced
@@ -47,10 +46,10 @@ module _ (cs : List Cell) (f : Face) (centre normal at : Vec3) (c : centre ≡ f
   unfolding misplaced
   owner-behind e = rw (rw (c, n, o) at e)
 
-  pub alone : behind centre at normal ≡ false → f.neighbour ≡ Nothing → false ≡ misplaced cs f
+  pub alone : behind centre at normal ≡ false → f.neighbour ≡ None → false ≡ misplaced cs f
   unfolding misplaced neighbour_behind
   alone e g = rw (rw (c, n, o) at e, g, neighbour_behind)
 
-  pub between : (r : Bool) (k : ℕ) → behind centre at normal ≡ false → f.neighbour ≡ At k → r ≡ behind (cell_at cs k).centre centre normal → r ≡ misplaced cs f
+  pub between : (r : Bool) (k : ℕ) → behind centre at normal ≡ false → f.neighbour ≡ Some k → r ≡ behind (cell_at cs k).centre centre normal → r ≡ misplaced cs f
   unfolding misplaced neighbour_behind
   between r k e g h = rw (rw (c, n, o) at e, g, neighbour_behind) (rw (c, n) at h)

@@ -7,7 +7,7 @@ ghost use Rattle.mesh_area.specs.Tables.{face_at};
 ghost use Rattle.mesh_area.specs.Layout.{faces_in, cells_in, LentWords, LentFloats};
 ghost use Rattle.mesh_orientation.specs.Orientation as Orientation;
 
-use arith::{Found, Vec3};
+use arith::Vec3;
 use mesh_area::Sizes;
 
 // `to` does not lie beyond `from`, along the normal.
@@ -29,8 +29,8 @@ fn is_misplaced(words: &[u32], floats: &[f64], s: Sizes, f: usize) -> bool
     let owner = mesh_area::owner_of(words, s, f);
     behind(centre, mesh_area::centre_of(floats, s, owner), normal)
         || match mesh_area::neighbour_of(words, s, f) {
-            Found::Nothing => false,
-            Found::At(n) => behind(mesh_area::centre_of(floats, s, n), centre, normal),
+            None => false,
+            Some(n) => behind(mesh_area::centre_of(floats, s, n), centre, normal),
         }
 }
 

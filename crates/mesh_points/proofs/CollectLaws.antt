@@ -11,7 +11,7 @@ use borrow.Author.Tests.{eq-eqb, ne_eqb}
 use Rattle.arith.specs.Lists.{fold, any_of, flatten}
 use Rattle.arith.specs.declared.Vec3.{Vec3}
 use Rattle.arith.proofs.ListLaws.{left_at}
-use Rattle.reading.specs.Result.{Result, refused, fine, ◌>>=◌, refuse, steps}
+use Rattle.reading.specs.Result.{Refusable, ◌>>=◌, refuse, steps}
 use Rattle.case_definitions.specs.Faces.{Definition, faces_of}
 use Rattle.case_definitions.specs.Ensures.{definition_at, face_at, HeadAt}
 use Rattle.case_faces.specs.Ensures.{AtFace, next_face, CopyFaceExit}
@@ -22,10 +22,10 @@ use Rattle.case_definitions.proofs.Walking.{head-faces}
 use Rattle.mesh_averages.specs.Averages.{average}
 use Rattle.mesh_numbers.specs.Numbers.{insert_new, rising, insert_below, numbers_in}
 use Rattle.mesh_numbers.specs.Ensures.{CollectFaceExit}
-use Rattle.mesh_numbers.specs.declared.Collected.{Collected}
-use Rattle.mesh_numbers.specs.declared.Collected.TheVariants.{Numbers, Missing}
-use Rattle.mesh_points.specs.Collect.{wrong_kind, missing, reference_of, checked, reference_case}
-use Rattle.mesh_points.specs.declared.Reference.TheVariants.{Point, Refused}
+use Rattle.mesh_points.specs.Collect.{wrong_kind, missing, reference_of, checked}
+use Rattle.std.specs.Prelude.{Some, None, Ok, Err}
+use Rattle.std.specs.declared.option.Option.{Option}
+use Rattle.refusal.specs.declared.Refusal.TheVariants.{WrongKind, NoSuchPoint}
 
 -- ---- refusal 11
 
@@ -83,14 +83,14 @@ module _ (d : ℕ) (ws : List ℕ) (h : Head) (g : HeadAt ws h) where
 
 -- ---- the faces of a record, one after another
 
-steps-append : {A B : Type 0} (f : B → A → Result B) (s : B) (l k : List A) → steps f s (l ++ k) ≡ (steps f s l >>= λ t. steps f t k)
+steps-append : {A B : Type 0} (f : B → A → Refusable B) (s : B) (l k : List A) → steps f s (l ++ k) ≡ (steps f s l >>= λ t. steps f t k)
 unfolding steps ◌>>=◌
 steps-append f s [] k = refl
 steps-append {A} {B} f s (a ∷ l) k = by (f s a) (λ t. steps-append f t l k)
   where
-    by : (r : Result B) → ((t : B) → steps f t (l ++ k) ≡ (steps f t l >>= λ u. steps f u k)) → (r >>= λ t. steps f t (l ++ k)) ≡ ((r >>= λ t. steps f t l) >>= λ t. steps f t k)
-    by (refused n) next = refl
-    by (fine t) next = next t
+    by : (r : Refusable B) → ((t : B) → steps f t (l ++ k) ≡ (steps f t l >>= λ u. steps f u k)) → (r >>= λ t. steps f t (l ++ k)) ≡ ((r >>= λ t. steps f t l) >>= λ t. steps f t k)
+    by (Err n) next = refl
+    by (Ok t) next = next t
 
 -- the numbers that were copied are all lent, and the next face follows
 module _ (ws : List ℕ) (h : Head) (c : FaceCursor) (vs₀ vs : List ℕ) (count : ℕ) (next : FaceCursor) (f : CopyFaceExit ws h c vs₀ vs count next) where
@@ -135,7 +135,7 @@ module _ (ws : List ℕ) (h : Head) (points : ℕ) (out₀ out : List ℕ) (n : 
       let l : length (take count vs) ≡ count = ap length f.front ∙ sym f.counted in
       omega (arith, u.long, u.few, f.small, (head-faces ws h u.at-face.headed).few)
 
-  module _ (vs₀ vs : List ℕ) (count : ℕ) (next : FaceCursor) (f : CopyFaceExit ws h c vs₀ vs count next) (out' : List ℕ) (r : Collected)
+  module _ (vs₀ vs : List ℕ) (count : ℕ) (next : FaceCursor) (f : CopyFaceExit ws h c vs₀ vs count next) (out' : List ℕ) (r : Option ℕ)
       (got : CollectFaceExit points (take n out) (take count vs) out' (n + length (take count vs)) r) where
     one-face : steps (insert_below points) (take n out) (flatten (drop c.face faces)) ≡ (numbers_in out' r >>= λ t. steps (insert_below points) t (flatten (drop (c.face + 1) faces)))
     unfolding flatten face_at
@@ -144,7 +144,7 @@ module _ (ws : List ℕ) (h : Head) (points : ℕ) (out₀ out : List ℕ) (n : 
         (steps-append (insert_below points) (take n out) (get_or faces c.face []) (flatten (drop (c.face + 1) faces))
         ∙ rw (← f.front, ← got.same))
 
-    pub unite-turn : (m : ℕ) → r ≡ Numbers m → length out' ≡ length out → Uniting ws h points out₀ out' m next
+    pub unite-turn : (m : ℕ) → r ≡ Some m → length out' ≡ length out → Uniting ws h points out₀ out' m next
     unfolding numbers_in ◌>>=◌
     unite-turn m e long =
         let l : length (take count vs) ≡ count = ap length f.front ∙ sym f.counted in
@@ -158,12 +158,12 @@ module _ (ws : List ℕ) (h : Head) (points : ℕ) (out₀ out : List ℕ) (n : 
           rest = rw goes (sym (rw e at one-face) ∙ u.rest);
         }
 
-    pub unite-missing : (out'' : List ℕ) → r ≡ Missing → CollectFaceExit points [] (flatten faces) out'' 192 Missing
+    pub unite-missing : (out'' : List ℕ) → r ≡ None → CollectFaceExit points [] (flatten faces) out'' 192 None
     unfolding numbers_in ◌>>=◌
     unite-missing out'' e = record { same = sym (rw e at one-face) ∙ u.rest; few = omega arith }
 
 pub unite-done : (ws : List ℕ) (h : Head) (points : ℕ) (out₀ out : List ℕ) (n : ℕ) (c : FaceCursor) → Uniting ws h points out₀ out n c → h.faces ≤ c.face
-    → CollectFaceExit points [] (flatten (faces_of (definition_at ws h.at))) out 192 (Numbers n)
+    → CollectFaceExit points [] (flatten (faces_of (definition_at ws h.at))) out 192 (Some n)
 unfolding numbers_in steps flatten
 unite-done ws h points out₀ out n c u end =
     let f = head-faces ws h u.at-face.headed in
@@ -174,40 +174,40 @@ unite-done ws h points out₀ out n c u end =
 
 -- ---- refusal 12, and the average
 
-below_all : (points : ℕ) (l xs : List ℕ) → steps (insert_below points) l xs ≡ (refuse 12 (any_of (leb points) xs) >>= λ _. fine (fold insert_new l xs))
+below_all : (points : ℕ) (l xs : List ℕ) → steps (insert_below points) l xs ≡ (refuse NoSuchPoint (any_of (leb points) xs) >>= λ _. Ok (fold insert_new l xs))
 unfolding steps insert_below any_of fold ◌>>=◌ refuse
 below_all points l [] = refl
 below_all points l (x ∷ xs) = by (leb points x) refl (below_all points (insert_new l x) xs)
   where
-    by : (t : Bool) → leb points x ≡ t → steps (insert_below points) (insert_new l x) xs ≡ (refuse 12 (any_of (leb points) xs) >>= λ _. fine (fold insert_new (insert_new l x) xs))
-        → (insert_below points l x >>= λ k. steps (insert_below points) k xs) ≡ (refuse 12 (any_of (leb points) (x ∷ xs)) >>= λ _. fine (fold insert_new (insert_new l x) xs))
+    by : (t : Bool) → leb points x ≡ t → steps (insert_below points) (insert_new l x) xs ≡ (refuse NoSuchPoint (any_of (leb points) xs) >>= λ _. Ok (fold insert_new (insert_new l x) xs))
+        → (insert_below points l x >>= λ k. steps (insert_below points) k xs) ≡ (refuse NoSuchPoint (any_of (leb points) (x ∷ xs)) >>= λ _. Ok (fold insert_new (insert_new l x) xs))
     by true e next = rw (e, any_of)
     by false e next = rw (e, any_of) next
 
 module _ (d : ℕ) (ps : List Vec3) (def : Definition) (t : Bool) (et : t ≡ wrong_kind d def) where
-  pub checked-kind : t ≡ true → reference_case (Refused 11) ≡ checked d ps def
-  unfolding reference_case checked refuse ◌>>=◌
+  pub checked-kind : t ≡ true → (Err WrongKind) ≡ checked d ps def
+  unfolding checked refuse ◌>>=◌
   checked-kind e = rw (← et, e)
 
-  module _ (right : t ≡ false) (points : ℕ) (out : List ℕ) (r : Collected) (long : length ps ≡ points)
+  module _ (right : t ≡ false) (points : ℕ) (out : List ℕ) (r : Option ℕ) (long : length ps ≡ points)
       (got : CollectFaceExit points [] (flatten (faces_of def)) out 192 r) where
-    all_of : numbers_in out r ≡ (refuse 12 (missing ps def) >>= λ _. fine (rising (flatten (faces_of def))))
+    all_of : numbers_in out r ≡ (refuse NoSuchPoint (missing ps def) >>= λ _. Ok (rising (flatten (faces_of def))))
     unfolding missing rising
     all_of = got.same ∙ below_all points [] (flatten (faces_of def)) ∙ rw long
 
-    pub checked-missing : r ≡ Missing → reference_case (Refused 12) ≡ checked d ps def
-    unfolding reference_case checked numbers_in refuse ◌>>=◌
+    pub checked-missing : r ≡ None → (Err NoSuchPoint) ≡ checked d ps def
+    unfolding checked numbers_in refuse ◌>>=◌
     checked-missing e = by (missing ps def) refl
       where
-        by : (m : Bool) → missing ps def ≡ m → refused 12 ≡ (refuse 11 (wrong_kind d def) >>= λ _. refuse 12 (missing ps def) >>= λ _. fine (reference_of ps def))
+        by : (m : Bool) → missing ps def ≡ m → Err NoSuchPoint ≡ (refuse WrongKind (wrong_kind d def) >>= λ _. refuse NoSuchPoint (missing ps def) >>= λ _. Ok (reference_of ps def))
         by true q = rw (← et, right, q)
         by false q = absurd (let h = rw (e, q) at all_of in let z : ◌≡◌ {A = ℕ} 0 1 = cc in omega arith)
 
-    pub checked-point : (n : ℕ) (v : Vec3) → r ≡ Numbers n → v ≡ average ps (take n out) → reference_case (Point v) ≡ checked d ps def
-    unfolding reference_case checked numbers_in refuse ◌>>=◌ reference_of
+    pub checked-point : (n : ℕ) (v : Vec3) → r ≡ Some n → v ≡ average ps (take n out) → (Ok v) ≡ checked d ps def
+    unfolding checked numbers_in refuse ◌>>=◌ reference_of
     checked-point n v e ev = by (missing ps def) refl
       where
-        by : (m : Bool) → missing ps def ≡ m → fine v ≡ (refuse 11 (wrong_kind d def) >>= λ _. refuse 12 (missing ps def) >>= λ _. fine (average ps (rising (flatten (faces_of def)))))
+        by : (m : Bool) → missing ps def ≡ m → Ok v ≡ (refuse WrongKind (wrong_kind d def) >>= λ _. refuse NoSuchPoint (missing ps def) >>= λ _. Ok (average ps (rising (flatten (faces_of def)))))
         by true q = absurd (let h = rw (e, q) at all_of in let z : ◌≡◌ {A = ℕ} 0 1 = cc in omega arith)
         by false q =
             let h = rw (e, q) at all_of in

@@ -1,13 +1,12 @@
 -- What `from_cells` asks of a cell before its faces: refusals 11 and 12, and the average of its points.
-use Rattle.std.specs.Prelude.{ℕ, Bool, not, ◌||◌, List, leb, ltb, eqb, length}
+use Rattle.std.specs.Prelude.{ℕ, Bool, not, ◌||◌, List, leb, ltb, eqb, length, Ok, Err}
 use Rattle.arith.specs.Lists.{any_of, flatten}
 use Rattle.arith.specs.declared.Vec3.{Vec3}
-use Rattle.reading.specs.Result.{Result, refused, fine, ◌>>=◌, refuse}
+use Rattle.reading.specs.Result.{Refusable, ◌>>=◌, refuse}
 use Rattle.case_definitions.specs.Faces.{Definition, polygon, solid, polyhedron, faces_of}
 use Rattle.mesh_averages.specs.Averages.{average}
 use Rattle.mesh_numbers.specs.Numbers.{rising}
-use Rattle.mesh_points.specs.declared.Reference.{Reference}
-use Rattle.mesh_points.specs.declared.Reference.TheVariants.{Point, Refused}
+use Rattle.refusal.specs.declared.Refusal.TheVariants.{WrongKind, NoSuchPoint}
 
 -- refusal 11: "polygon under 3 points, polyhedron under 4 faces, kind against dimension"
 unfoldable pub wrong_kind : ℕ → Definition → Bool
@@ -24,10 +23,7 @@ unfoldable pub reference_of : List Vec3 → Definition → Vec3
 reference_of ps def = average ps (rising (flatten (faces_of def)))
 
 -- refusals 11 and 12 of a cell, or the average of its points
-unfoldable pub checked : ℕ → List Vec3 → Definition → Result Vec3
-checked d ps def = refuse 11 (wrong_kind d def) >>= λ _. refuse 12 (missing ps def) >>= λ _. fine (reference_of ps def)
+unfoldable pub checked : ℕ → List Vec3 → Definition → Refusable Vec3
+checked d ps def = refuse WrongKind (wrong_kind d def) >>= λ _. refuse NoSuchPoint (missing ps def) >>= λ _. Ok (reference_of ps def)
 
 -- what each case of the answer stands for
-unfoldable pub reference_case : Reference → Result Vec3
-reference_case (Point v) = fine v
-reference_case (Refused k) = refused k

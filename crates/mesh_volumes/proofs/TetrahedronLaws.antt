@@ -7,15 +7,15 @@ use lib.ListN.{length, get_or, drop, length-drop}
 use Rattle.arith.specs.Lists.{fold, Side, windows, sides_with}
 use Rattle.arith.specs.declared.Vec3.{Vec3}
 use Rattle.arith.proofs.ListLaws.{left_at}
-use Rattle.reading.specs.Result.{refused, fine}
 use Rattle.mesh_area.specs.Tables.{point_at}
 use Rattle.mesh_geometry.specs.declared.FaceGeometry.{FaceGeometry}
-use Rattle.mesh_geometry.specs.declared.TurnedFace.{TurnedFace}
-use Rattle.mesh_geometry.specs.declared.TurnedFace.TheVariants as Turned
 use Rattle.mesh_geometry.specs.Faces.{oriented_face}
 use Rattle.mesh_geometry.specs.Ensures.{face_of, OrientedFaceExit}
 use Rattle.mesh_volumes.specs.declared.Weight.{Weight}
 use Rattle.mesh_volumes.specs.Geometry.{add_tetrahedron, add_tetrahedra, tetrahedra_of, add_face_3d}
+use Rattle.std.specs.Prelude.{Some, None, Ok, Err}
+use Rattle.std.specs.declared.option.Option.{Option}
+use Rattle.refusal.specs.declared.Refusal.TheVariants.{NoVolume}
 
 -- ---- the tetrahedra of a face: its first point stays, two more in a row
 
@@ -45,11 +45,11 @@ tetrahedra-start ps reference w (i ∷ l) = refl
 
 -- ---- a face of a cell in 3D, from what `oriented_face` promises
 
-module _ (ps : List Vec3) (reference : Vec3) (l l' : List ℕ) (r : TurnedFace) (w : Weight) (h : OrientedFaceExit 3 ps reference l l' r) where
-  pub face-added : (g : FaceGeometry) → r ≡ Turned.Face g → add_face_3d ps reference w l ≡ fine (add_tetrahedra ps reference w l')
+module _ (ps : List Vec3) (reference : Vec3) (l l' : List ℕ) (r : Option FaceGeometry) (w : Weight) (h : OrientedFaceExit 3 ps reference l l' r) where
+  pub face-added : (g : FaceGeometry) → r ≡ Some g → add_face_3d ps reference w l ≡ Ok (add_tetrahedra ps reference w l')
   unfolding add_face_3d tetrahedra_of face_of
-  face-added g e = let m : oriented_face 3 ps reference l ≡ face_of l' (Turned.Face g) = sym h.face ∙ ap (face_of l') e in rw m
+  face-added g e = let m : oriented_face 3 ps reference l ≡ face_of l' (Some g) = sym h.face ∙ ap (face_of l') e in rw m
 
-  pub face-refused : r ≡ Turned.Degenerate → add_face_3d ps reference w l ≡ refused 15
+  pub face-refused : r ≡ None → add_face_3d ps reference w l ≡ Err NoVolume
   unfolding add_face_3d tetrahedra_of face_of
-  face-refused e = let m : oriented_face 3 ps reference l ≡ face_of l' Turned.Degenerate = sym h.face ∙ ap (face_of l') e in rw m
+  face-refused e = let m : oriented_face 3 ps reference l ≡ face_of l' None = sym h.face ∙ ap (face_of l') e in rw m

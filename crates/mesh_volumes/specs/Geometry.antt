@@ -4,18 +4,18 @@
 -- `tetrahedron_volume`, `add_volume`, `add_tetrahedron`, `add_tetrahedra`, `tetrahedra_of`, `add_face_3d`, `centre_3d`: a cell in 3D.
 -- `geometry_in`, `cell_geometry`: a cell, by dimension.
 -- `cell_of`: what an answer means.
-use Rattle.std.specs.Prelude.{ℕ, Bool, true, false, cond, List, [], ◌∷◌, eqb, get_or, Float}
+use Rattle.std.specs.Prelude.{ℕ, Bool, true, false, cond, List, [], ◌∷◌, eqb, get_or, Float, Some, None, Ok, Err}
 use Rattle.arith.specs.F64.{◌⊕◌, ◌⊖◌, ◌⊗◌, ◌⊘◌, ◌≺◌, 0·0, 0·5, 3·0, 4·0, 6·0, 1e-12, abs}
 use Rattle.arith.specs.Lists.{fold, Side, windows}
 use Rattle.arith.specs.Vec.{origin, plus, minus, times, over, dot, cross}
 use Rattle.arith.specs.declared.Vec3.{Vec3}
-use Rattle.reading.specs.Result.{Result, refused, fine, ◌>>=◌, steps}
+use Rattle.reading.specs.Result.{Refusable, ◌>>=◌, steps}
 use Rattle.mesh_area.specs.Tables.{point_at}
 use Rattle.mesh_geometry.specs.Faces.{Oriented, oriented_face}
 use Rattle.mesh_volumes.specs.declared.Weight.{Weight}
 use Rattle.mesh_volumes.specs.declared.CellGeometry.{CellGeometry}
-use Rattle.mesh_volumes.specs.declared.CellMeasure.{CellMeasure}
-use Rattle.mesh_volumes.specs.declared.CellMeasure.TheVariants as Measure
+use Rattle.std.specs.declared.option.Option.{Option}
+use Rattle.refusal.specs.declared.Refusal.TheVariants.{NoVolume}
 
 -- ---- sums of measures, and of centres weighted with them
 
@@ -41,10 +41,10 @@ add_triangle ps reference w edge =
     add_part w (twice_area a b) (times (plus a b) (twice_area a b))
 
 -- the area is half the sum, the centre lies at a third of the moment; refusal 15, "zero volume"
-unfoldable pub centre_2d : Vec3 → Weight → Result CellGeometry
+unfoldable pub centre_2d : Vec3 → Weight → Refusable CellGeometry
 centre_2d reference w =
     let area = abs (w.measure ⊗ 0·5) in
-    cond (1e-12 ≺ area) (fine (record { centre = plus reference (over w.moment (3·0 ⊗ w.measure)); volume = area })) (refused 15)
+    cond (1e-12 ≺ area) (Ok (record { centre = plus reference (over w.moment (3·0 ⊗ w.measure)); volume = area })) (Err NoVolume)
 
 -- ---- in 3D
 
@@ -68,32 +68,32 @@ add_tetrahedra ps reference w [] = w
 add_tetrahedra ps reference w (i ∷ l) = fold (add_tetrahedron ps reference (point_at ps i)) w (windows l)
 
 -- the face, "turned outward"; it was found not degenerate before, so that it is not refused here
-unfoldable pub tetrahedra_of : List Vec3 → Vec3 → Weight → Result Oriented → Result Weight
-tetrahedra_of ps reference w (refused n) = refused 15
-tetrahedra_of ps reference w (fine f) = fine (add_tetrahedra ps reference w f.vertices)
+unfoldable pub tetrahedra_of : List Vec3 → Vec3 → Weight → Refusable Oriented → Refusable Weight
+tetrahedra_of ps reference w (Err n) = Err NoVolume
+tetrahedra_of ps reference w (Ok f) = Ok (add_tetrahedra ps reference w f.vertices)
 
 -- a face's tetrahedra added
-unfoldable pub add_face_3d : List Vec3 → Vec3 → Weight → List ℕ → Result Weight
+unfoldable pub add_face_3d : List Vec3 → Vec3 → Weight → List ℕ → Refusable Weight
 add_face_3d ps reference w l = tetrahedra_of ps reference w (oriented_face 3 ps reference l)
 
 -- the moment over the volume; refusal 15
-unfoldable pub centre_3d : Weight → Result CellGeometry
-centre_3d w = cond (1e-12 ≺ w.measure) (fine (record { centre = over w.moment w.measure; volume = w.measure })) (refused 15)
+unfoldable pub centre_3d : Weight → Refusable CellGeometry
+centre_3d w = cond (1e-12 ≺ w.measure) (Ok (record { centre = over w.moment w.measure; volume = w.measure })) (Err NoVolume)
 
 -- ---- by dimension
 
 -- the centre and volume of a cell, in 2D or in 3D
-unfoldable pub geometry_in : Bool → List Vec3 → Vec3 → List (List ℕ) → Result CellGeometry
+unfoldable pub geometry_in : Bool → List Vec3 → Vec3 → List (List ℕ) → Refusable CellGeometry
 geometry_in true ps reference faces = centre_2d reference (fold (add_triangle ps reference) no_weight faces)
 geometry_in false ps reference faces = steps (add_face_3d ps reference) no_weight faces >>= centre_3d
 
 -- the same, by the number of the dimension
-unfoldable pub cell_geometry : ℕ → List Vec3 → Vec3 → List (List ℕ) → Result CellGeometry
+unfoldable pub cell_geometry : ℕ → List Vec3 → Vec3 → List (List ℕ) → Refusable CellGeometry
 cell_geometry d ps reference faces = geometry_in (eqb d 2) ps reference faces
 
 -- ---- what an answer means: 15 "zero volume"
 
 -- the geometry, or 15
-unfoldable pub cell_of : CellMeasure → Result CellGeometry
-cell_of (Measure.Cell g) = fine g
-cell_of Measure.ZeroVolume = refused 15
+unfoldable pub cell_of : Option CellGeometry → Refusable CellGeometry
+cell_of (Some g) = Ok g
+cell_of None = Err NoVolume

@@ -24,13 +24,6 @@ pub struct CellGeometry {
     pub volume: f64,
 }
 
-// A cell's centre and volume, or that it has no volume.
-#[derive(Clone, Copy)]
-pub enum CellMeasure {
-    Cell(CellGeometry),
-    ZeroVolume,
-}
-
 // Nothing summed yet.
 pub fn no_weight() -> Weight
     ensures { result ≡ Geometry.no_weight }
@@ -70,19 +63,19 @@ pub fn add_triangle(
 }
 
 // The centre and the area of a cell in 2D whose triangles are summed.
-pub fn centre_2d(reference: Vec3, weight: Weight) -> CellMeasure
+pub fn centre_2d(reference: Vec3, weight: Weight) -> Option<CellGeometry>
     ensures { Geometry.cell_of result ≡ Geometry.centre_2d reference weight }
 {
     let area = float::abs(weight.measure * 0.5);
     if area > 1.0e-12 {
         let moment = weight.moment;
         let centre = reference.add(moment.div(3.0 * weight.measure));
-        CellMeasure::Cell(CellGeometry {
+        Some(CellGeometry {
             centre,
             volume: area,
         })
     } else {
-        CellMeasure::ZeroVolume
+        None
     }
 }
 
@@ -143,15 +136,15 @@ pub fn add_tetrahedra(
 }
 
 // The centre and the volume of a cell in 3D whose tetrahedra are summed.
-pub fn centre_3d(weight: Weight) -> CellMeasure
+pub fn centre_3d(weight: Weight) -> Option<CellGeometry>
     ensures { Geometry.cell_of result ≡ Geometry.centre_3d weight }
 {
     let volume = weight.measure;
     if volume > 1.0e-12 {
         let moment = weight.moment;
         let centre = moment.div(volume);
-        CellMeasure::Cell(CellGeometry { centre, volume })
+        Some(CellGeometry { centre, volume })
     } else {
-        CellMeasure::ZeroVolume
+        None
     }
 }

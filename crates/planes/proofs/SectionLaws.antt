@@ -9,16 +9,14 @@ use lib.Seq.{sets}
 use Rattle.arith.specs.Lists.{fold, flatten}
 use Rattle.reading.specs.declared.Values.{Values}
 use Rattle.reading.specs.Result as result
-use Rattle.reading.specs.Result.{Result, refused, fine}
+use Rattle.reading.specs.Result.{Refusable}
 use Rattle.reading.specs.Asks.{run, reads}
 use Rattle.reading.specs.Marks.{mark_all}
 use Rattle.mesh_area.specs.Tables.{Mesh}
 use Rattle.planes_cut.specs.declared.Cut.{Cut}
 use Rattle.planes_cut.specs.declared.Plane.{Plane}
 use Rattle.planes_sections.specs.Intersect.{PlaneCell, intersect}
-use Rattle.answers.specs.declared.Answered.{Answered}
 use Rattle.answers.specs.Ensures.{length_of, replied, Reply}
-use Rattle.planes_samples.specs.declared.Accumulated.{Accumulated}
 use Rattle.planes_sums.specs.Sample.{Sample}
 use Rattle.planes.specs.Answers.{sampled, section_words, section_of}
 use Rattle.planes_sums.specs.Words.{sample_words}
@@ -28,6 +26,10 @@ use Rattle.planes.specs.Ensures.{left_by, ended, last_words, FinishExit}
 use Rattle.answers.proofs.WordLaws.{sets-append, sets-set}
 use Rattle.planes_samples.proofs.StreamLaws.{stream-marks}
 use Rattle.planes.proofs.TreeLaws.{goods, BadRun, GoodRun, stream-run, run-sampled, reads-sampled}
+use Rattle.std.specs.Prelude.{Ok, Err}
+use Rattle.std.specs.declared.option.Option.{Option}
+use Rattle.refusal.specs.declared.Refusal.TheVariants.{SampleNotFinite}
+use Rattle.planes_sums.specs.declared.Accumulator.{Accumulator}
 
 -- the words of some samples
 abbrev words_for : List Sample → List ℕ
@@ -70,24 +72,24 @@ fold-section c n i (s ∷ ss) =
     ∙ fold-section c (suc n) (i + length (sample_words s)) ss
     ∙ ap₂ of_section (omega arith) (let e = length-append (sample_words s) (words_for ss) in omega arith)
 
-bad-result : (t : Result SampleSums) (e : Result (List ℕ)) → t ≡ refused 39 → e ≡ refused 39 → ended t ≡ length_of e
+bad-result : (t : Refusable SampleSums) (e : Refusable (List ℕ)) → t ≡ Err SampleNotFinite → e ≡ Err SampleNotFinite → ended t ≡ length_of e
 unfolding ended length_of
 bad-result t e a b = rw (a, b)
 
-bad-answers : (t : Result SampleSums) (e : Result (List ℕ)) (o o₁ left : List ℕ) → t ≡ refused 39 → e ≡ refused 39 → o₁ ≡ left → sets o₁ 0 (last_words t) ≡ replied o left e
+bad-answers : (t : Refusable SampleSums) (e : Refusable (List ℕ)) (o o₁ left : List ℕ) → t ≡ Err SampleNotFinite → e ≡ Err SampleNotFinite → o₁ ≡ left → sets o₁ 0 (last_words t) ≡ replied o left e
 unfolding last_words replied
 bad-answers t e o o₁ left a b h = rw (a, b) h
 
-good-result : (t : Result SampleSums) (e : Result (List ℕ)) (ss : List Sample) → t ≡ fine (of_section (length ss) (suc (length (words_for ss)))) → e ≡ fine (section_words ss) → ended t ≡ length_of e
+good-result : (t : Refusable SampleSums) (e : Refusable (List ℕ)) (ss : List Sample) → t ≡ Ok (of_section (length ss) (suc (length (words_for ss)))) → e ≡ Ok (section_words ss) → ended t ≡ length_of e
 unfolding ended length_of section_words
 good-result t e ss a b = rw (a, b)
 
-good-answers : (t : Result SampleSums) (e : Result (List ℕ)) (ss : List Sample) (o o₁ left : List ℕ) → t ≡ fine (of_section (length ss) (suc (length (words_for ss)))) →
-    e ≡ fine (section_words ss) → o₁ ≡ sets o 1 (words_for ss) → sets o₁ 0 (last_words t) ≡ replied o left e
+good-answers : (t : Refusable SampleSums) (e : Refusable (List ℕ)) (ss : List Sample) (o o₁ left : List ℕ) → t ≡ Ok (of_section (length ss) (suc (length (words_for ss)))) →
+    e ≡ Ok (section_words ss) → o₁ ≡ sets o 1 (words_for ss) → sets o₁ 0 (last_words t) ≡ replied o left e
 unfolding last_words replied section_words
 good-answers t e ss o o₁ left a b h = rw (a, b, h) (sets-set (words_for ss) o 0 1 (length ss) (omega arith))
 
-pub section-reply : (mesh : Mesh) (plane : Plane) (f : ℕ → Values) (c : Cut) (o o₁ o₂ m m₁ : List ℕ) (r : Accumulated) (a : Answered) →
+pub section-reply : (mesh : Mesh) (plane : Plane) (f : ℕ → Values) (c : Cut) (o o₁ o₂ m m₁ : List ℕ) (r : Option Accumulator) (a : Refusable ℕ) →
     SampleAllExit (stream c f (intersect mesh plane) (of_section 0 1) o m) r o₁ m₁ → FinishExit (accumulated_of r) a o₁ o₂ →
     Reply (section_of mesh plane) f (left_by f (intersect mesh plane) o) a o o₂ m m₁
 unfolding section_of left_by
@@ -96,8 +98,8 @@ section-reply mesh plane f c o o₁ o₂ m m₁ r a s d = by (stream-run c f l (
     l : List PlaneCell
     l = intersect mesh plane
 
-    answer : List Sample → Result (List ℕ)
-    answer ss = fine (section_words ss)
+    answer : List Sample → Refusable (List ℕ)
+    answer ss = Ok (section_words ss)
 
     there : o₁ ≡ sets o 1 (words_for (goods f l))
     there = s.answers ∙ stream-section c f l 0 1 o m
@@ -107,17 +109,17 @@ section-reply mesh plane f c o o₁ o₂ m m₁ r a s d = by (stream-run c f l (
 
     by : BadRun c f l (of_section 0 1) o m ⊎ GoodRun c f l (of_section 0 1) o m → Reply (sampled mesh plane answer) f (sets o 1 (words_for (goods f l))) a o o₂ m m₁
     by (inl b) =
-        let e : run (sampled mesh plane answer) f ≡ refused 39 = run-sampled mesh plane answer f ∙ rw b.tree (unfold result.◌>>=◌ in refl) in
-        let k : accumulated_of r ≡ refused 39 = s.outcome ∙ b.outcome in
+        let e : run (sampled mesh plane answer) f ≡ Err SampleNotFinite = run-sampled mesh plane answer f ∙ rw b.tree (unfold result.◌>>=◌ in refl) in
+        let k : accumulated_of r ≡ Err SampleNotFinite = s.outcome ∙ b.outcome in
         record {
           result = d.result ∙ bad-result (accumulated_of r) _ k e;
           answers = d.answers ∙ bad-answers (accumulated_of r) _ o o₁ _ k e there;
           marks = marked;
         }
     by (inr g) =
-        let e : run (sampled mesh plane answer) f ≡ fine (section_words (goods f l)) = run-sampled mesh plane answer f ∙ rw g.tree (unfold result.◌>>=◌ in refl) in
-        let k : accumulated_of r ≡ fine (of_section (length (goods f l)) (suc (length (words_for (goods f l))))) =
-        s.outcome ∙ g.outcome ∙ ap fine (fold-section c 0 1 (goods f l) ∙ ap₂ of_section (omega arith) (omega arith)) in
+        let e : run (sampled mesh plane answer) f ≡ Ok (section_words (goods f l)) = run-sampled mesh plane answer f ∙ rw g.tree (unfold result.◌>>=◌ in refl) in
+        let k : accumulated_of r ≡ Ok (of_section (length (goods f l)) (suc (length (words_for (goods f l))))) =
+        s.outcome ∙ g.outcome ∙ ap Ok (fold-section c 0 1 (goods f l) ∙ ap₂ of_section (omega arith) (omega arith)) in
         record {
           result = d.result ∙ good-result (accumulated_of r) _ (goods f l) k e;
           answers = d.answers ∙ good-answers (accumulated_of r) _ (goods f l) o o₁ _ k e there;

@@ -14,14 +14,14 @@ ghost use Rattle.planes_samples.specs.Ensures.{accumulated_of, SampleEntry};
 ghost use Rattle.answers.specs.Ensures.{Reply};
 ghost use Rattle.planes.specs.Ensures.{statistics_end, integrals_end, missing, left_by, EndExit, FinishExit};
 
-use answers::Answered;
 use arith::{Vec2, Vec3, bytes, float};
 use case_file::Counts;
 use mesh_area::Sizes;
 use planes_cut::Plane;
-use planes_samples::{Accumulated, walk};
-use planes_sums::{Accumulator, Integral, Probed, Summed, Sums, Weighed, measures};
+use planes_samples::walk;
+use planes_sums::{Accumulator, Integral, Sums, measures};
 use reading::Values;
+use refusal::Refusal;
 
 // All four are finite.
 fn are_finite(a: f64, b: f64, c: f64, d: f64) -> bool
@@ -58,20 +58,15 @@ fn put_integrals(answers: &mut [u64], t: Integral)
 }
 
 // The answer by the integrals.
-fn end_integrals(r: Weighed, answers: &mut [u64]) -> Answered
+fn end_integrals(r: Option<Integral>, answers: &mut [u64]) -> Result<usize, Refusal>
     ensures { EndExit (integrals_end (integral_of r)) result answers.old answers.new }
 {
-    match r {
-        Weighed::Whole(t) => {
-            if lacks_integrals(t) {
-                Answered::Refused(43)
-            } else {
-                put_integrals(answers, t);
-                Answered::Words(4)
-            }
-        }
-        Weighed::Unweighed => Answered::Refused(42),
+    let t = r.ok_or(Refusal::InvalidSample)?;
+    if lacks_integrals(t) {
+        return Err(Refusal::NoIntegrals);
     }
+    put_integrals(answers, t);
+    Ok(4)
 }
 
 // All sums are finite.
@@ -133,32 +128,27 @@ fn put_statistics(answers: &mut [u64], t: Sums)
 }
 
 // The answer by the sums.
-fn end_statistics(r: Summed, answers: &mut [u64]) -> Answered
+fn end_statistics(r: Option<Sums>, answers: &mut [u64]) -> Result<usize, Refusal>
     ensures { EndExit (statistics_end (sums_of r)) result answers.old answers.new }
 {
-    match r {
-        Summed::Total(t) => {
-            if is_empty(t) {
-                Answered::Refused(41)
-            } else {
-                put_statistics(answers, t);
-                Answered::Words(13)
-            }
-        }
-        Summed::Unsummed => Answered::Refused(40),
+    let t = r.ok_or(Refusal::FluxNotFinite)?;
+    if is_empty(t) {
+        return Err(Refusal::NoStatistics);
     }
+    put_statistics(answers, t);
+    Ok(13)
 }
 
 // The cell with its values, or none.
-fn put_probed(r: Probed, answers: &mut [u64])
+fn put_probed(r: Option<(usize, Values)>, answers: &mut [u64])
     ensures { answers.new ≡ sets answers.old 0 (probe_words r) }
 {
     match r {
-        Probed::Hit(i, v) => {
+        Some((i, v)) => {
             answers::put(answers, 0, i as u64);
             answers::put_values(answers, 1, v);
         }
-        Probed::Missed => {
+        None => {
             let nothing = Vec3 {
                 x: 0.0,
                 y: 0.0,
@@ -178,23 +168,21 @@ fn put_probed(r: Probed, answers: &mut [u64])
 }
 
 // The answer by what was kept.
-fn finish(r: Accumulated, answers: &mut [u64]) -> Answered
+fn finish(r: Option<Accumulator>, answers: &mut [u64]) -> Result<usize, Refusal>
     ensures { FinishExit (accumulated_of r) result answers.old answers.new }
 {
-    match r {
-        Accumulated::Done(t) => match t {
-            Accumulator::Section(polygons, at) => {
-                answers::put(answers, 0, polygons as u64);
-                Answered::Words(at)
-            }
-            Accumulator::Statistics(_, sums) => end_statistics(sums, answers),
-            Accumulator::Integrals(sums) => end_integrals(sums, answers),
-            Accumulator::Probe(_, found) => {
-                put_probed(found, answers);
-                Answered::Words(5)
-            }
-        },
-        Accumulated::Bad => Answered::Refused(39),
+    let t = r.ok_or(Refusal::SampleNotFinite)?;
+    match t {
+        Accumulator::Section(polygons, at) => {
+            answers::put(answers, 0, polygons as u64);
+            Ok(at)
+        }
+        Accumulator::Statistics(_, sums) => end_statistics(sums, answers),
+        Accumulator::Integrals(sums) => end_integrals(sums, answers),
+        Accumulator::Probe(_, found) => {
+            put_probed(found, answers);
+            Ok(5)
+        }
     }
 }
 
@@ -208,7 +196,7 @@ pub fn section(
     plane: Plane,
     answers: &mut [u64],
     marks: &mut [u8],
-) -> Answered
+) -> Result<usize, Refusal>
     requires { SampleEntry case.now n s words.now marks.old }
     ensures { (floats : List Float) → Reply
         (section_of (mesh_in (points_in case.now n.points) s words.now floats) plane)
@@ -231,7 +219,7 @@ pub fn integrals(
     plane: Plane,
     answers: &mut [u64],
     marks: &mut [u8],
-) -> Answered
+) -> Result<usize, Refusal>
     requires { SampleEntry case.now n s words.now marks.old }
     ensures { (floats : List Float) → Reply
         (integrals_of (mesh_in (points_in case.now n.points) s words.now floats) plane)
@@ -244,20 +232,18 @@ pub fn integrals(
         speed: 0.0,
         flux: 0.0,
     };
-    let t = Accumulator::Integrals(Weighed::Whole(none));
+    let t = Accumulator::Integrals(Some(none));
     let r = walk::sample_all(case, n, words, s, plane, t, answers, marks);
     finish(r, answers)
 }
 
 // What was kept; nothing was found where the point is off the plane.
-fn unless_off(away: bool, q: Vec2, r: Accumulated) -> Accumulated
+fn unless_off(away: bool, q: Vec2, r: Option<Accumulator>) -> Option<Accumulator>
     ensures { accumulated_of result ≡ missing away q (accumulated_of r) }
 {
     if away {
-        match r {
-            Accumulated::Done(_) => Accumulated::Done(Accumulator::Probe(q, Probed::Missed)),
-            Accumulated::Bad => Accumulated::Bad,
-        }
+        r?;
+        Some(Accumulator::Probe(q, None))
     } else {
         r
     }
@@ -273,7 +259,7 @@ pub fn probe(
     p: Vec3,
     answers: &mut [u64],
     marks: &mut [u8],
-) -> Answered
+) -> Result<usize, Refusal>
     requires { SampleEntry case.now n s words.now marks.old }
     ensures { (floats : List Float) → Reply
         (probe_of (mesh_in (points_in case.now n.points) s words.now floats) plane p)
@@ -282,7 +268,7 @@ pub fn probe(
 {
     let away = measures::off(plane, p);
     let q = measures::project(plane, p);
-    let t = Accumulator::Probe(q, Probed::Missed);
+    let t = Accumulator::Probe(q, None);
     let r = walk::sample_all(case, n, words, s, plane, t, answers, marks);
     finish(unless_off(away, q, r), answers)
 }
@@ -297,7 +283,7 @@ pub fn statistics(
     field: u64,
     answers: &mut [u64],
     marks: &mut [u8],
-) -> Answered
+) -> Result<usize, Refusal>
     requires { SampleEntry case.now n s words.now marks.old }
     ensures { (floats : List Float) → Reply
         (statistics_of (mesh_in (points_in case.now n.points) s words.now floats) plane field)
@@ -315,7 +301,7 @@ pub fn statistics(
         negative: 0.0,
         weighted: 0.0,
     };
-    let t = Accumulator::Statistics(field, Summed::Total(none));
+    let t = Accumulator::Statistics(field, Some(none));
     let r = walk::sample_all(case, n, words, s, plane, t, answers, marks);
     finish(r, answers)
 }

@@ -11,10 +11,10 @@ use Rattle.arith.specs.F64.{abs}
 use Rattle.arith.specs.Lists.{add_new}
 use Rattle.arith.specs.declared.Vec3.{Vec3}
 use Rattle.planes_cut.specs.declared.Cut.{Cut}
-use Rattle.planes_crossings.specs.declared.Crossing.TheVariants.{Point, None}
 use Rattle.planes_cut.specs.Cut.{height, near, below, above}
 use Rattle.planes_crossings.specs.Crossings.{rises, parted, close, between, add_end, add_between, add_crossing}
 use Rattle.planes_crossings.specs.Ensures.{crossing_of}
+use Rattle.std.specs.Prelude.{Some, None}
 
 or_cases : (a b : Bool) → (a || b) ≡ true → a ≡ false → b ≡ true
 or_cases true b e f = absurd (true≢false f)
@@ -79,11 +79,11 @@ module _ (c : Cut) (a b : Vec3) where
       last false = refl
 
   module _ (l : List Vec3) where
-    pub meeting-point : (p : Vec3) → crossing_of c a b ≡ Point p → add_new (close c) l p ≡ add_crossing c l a b
+    pub meeting-point : (p : Vec3) → crossing_of c a b ≡ Some p → add_new (close c) l p ≡ add_crossing c l a b
     unfolding crossing_of add_crossing add_end add_between
     meeting-point p e = by (near c a) refl (parted c a b) refl e
       where
-        by : (t : Bool) → near c a ≡ t → (u : Bool) → parted c a b ≡ u → cond t (Point a) (cond u (Point (between c a b)) None) ≡ Point p →
+        by : (t : Bool) → near c a ≡ t → (u : Bool) → parted c a b ≡ u → cond t (Some a) (cond u (Some (between c a b)) None) ≡ Some p →
             add_new (close c) l p ≡ cond (parted c a b) (add_new (close c) (cond (near c a) (add_new (close c) l a) l) (between c a b)) (cond (near c a) (add_new (close c) l a) l)
         by true g u k e = let w : a ≡ p = cc in rw (near-not-parted g, g, w)
         by false g true k e = let w : between c a b ≡ p = cc in rw (k, g, w)
@@ -93,7 +93,7 @@ module _ (c : Cut) (a b : Vec3) where
     unfolding crossing_of add_crossing add_end add_between
     meeting-none e = by (near c a) refl (parted c a b) refl e
       where
-        by : (t : Bool) → near c a ≡ t → (u : Bool) → parted c a b ≡ u → cond t (Point a) (cond u (Point (between c a b)) None) ≡ None →
+        by : (t : Bool) → near c a ≡ t → (u : Bool) → parted c a b ≡ u → cond t (Some a) (cond u (Some (between c a b)) None) ≡ None →
             l ≡ cond (parted c a b) (add_new (close c) (cond (near c a) (add_new (close c) l a) l) (between c a b)) (cond (near c a) (add_new (close c) l a) l)
         by true g u k e = absurd (let z : ◌≡◌ {A = ℕ} 0 1 = cc in omega arith)
         by false g true k e = absurd (let z : ◌≡◌ {A = ℕ} 0 1 = cc in omega arith)

@@ -3,16 +3,15 @@
 -- `add_end`, `add_between`, `add_crossing`: the points with those of one more side.
 -- `shared`, `on_plane`, `foreign`: a face in the plane that another cell owns.
 -- `add_side`, `add_face`, `crossings`: the points of a side, of a face, and of a cell.
-use Rattle.std.specs.Prelude.{ℕ, Bool, true, false, not, cond, ◌&&◌, ◌||◌, List, [], eqb}
+use Rattle.std.specs.Prelude.{ℕ, Bool, true, false, not, cond, ◌&&◌, ◌||◌, List, [], eqb, Some, None}
 use Rattle.arith.specs.F64.{◌⊖◌, ◌⊘◌, ◌≼◌}
 use Rattle.arith.specs.Lists.{fold, all_of, add_new, Side, sides}
 use Rattle.arith.specs.Vec.{plus, minus, times, norm}
 use Rattle.arith.specs.declared.Vec3.{Vec3}
-use Rattle.arith.specs.declared.Found.{Found}
-use Rattle.arith.specs.declared.Found.TheVariants.{At, Nothing}
 use Rattle.mesh_area.specs.Tables.{Mesh, point_at, face_at}
 use Rattle.planes_cut.specs.declared.Cut.{Cut}
 use Rattle.planes_cut.specs.Cut.{height, near, below, above}
+use Rattle.std.specs.declared.option.Option.{Option}
 
 module _ (c : Cut) where
   -- q is as good as p: their distance is within the tolerance
@@ -44,9 +43,9 @@ module _ (c : Cut) where
   add_crossing l a b = add_between (add_end l a) a b
 
 -- there is a cell on the other side
-unfoldable pub shared : Found → Bool
-shared (At n) = true
-shared Nothing = false
+unfoldable pub shared : Option ℕ → Bool
+shared (Some n) = true
+shared None = false
 
 module _ (m : Mesh) (c : Cut) where
   -- a point, by its number, lies in the plane

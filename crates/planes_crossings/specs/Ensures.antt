@@ -2,7 +2,7 @@
 -- `point_in`, `slice_points`, `SliceLengths`: the points in the slices. `store`: `StoreExit`.
 -- `add_new`, `add_crossing`, `add_face` and `crossings`: `SlicesKept`, `PointList`.
 -- `MeshLimits`: what the mesh layer promises. `side_at`: a side by its place. `TrueHeight`: the height of an end. `crossing`: `crossing_of`.
-use Rattle.std.specs.Prelude.{ℕ, ◌≤◌, ◌≡◌, cond, List, length, drop, get_or, set, Float}
+use Rattle.std.specs.Prelude.{ℕ, ◌≤◌, ◌≡◌, cond, List, length, drop, get_or, set, Float, Some, None}
 use Rattle.std.specs.Float.{nan}
 use Rattle.arith.specs.Lists.{Side, after}
 use Rattle.arith.specs.Records.{tab}
@@ -12,9 +12,8 @@ use Rattle.mesh_area.specs.Tables.{Mesh, face_at, cell_at}
 use Rattle.planes_cut.specs.declared.Cut.{Cut}
 use Rattle.planes_cut.specs.Cut.{height, near}
 use Rattle.planes_crossings.specs.declared.End.{End}
-use Rattle.planes_crossings.specs.declared.Crossing.{Crossing}
-use Rattle.planes_crossings.specs.declared.Crossing.TheVariants.{Point, None}
 use Rattle.planes_crossings.specs.Crossings.{parted, between}
+use Rattle.std.specs.declared.option.Option.{Option}
 
 -- ---- points held in three slices
 
@@ -69,5 +68,5 @@ pub record TrueHeight (c : Cut) (a : End) : Type 0 where
   pub same : a.height ≡ height c a.point
 
 -- where a side from a to b meets the plane, or that it does not
-unfoldable pub crossing_of : Cut → Vec3 → Vec3 → Crossing
-crossing_of c a b = cond (near c a) (Point a) (cond (parted c a b) (Point (between c a b)) None)
+unfoldable pub crossing_of : Cut → Vec3 → Vec3 → Option Vec3
+crossing_of c a b = cond (near c a) (Some a) (cond (parted c a b) (Some (between c a b)) None)

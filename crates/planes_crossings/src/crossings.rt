@@ -8,9 +8,9 @@ ghost use Rattle.planes_crossings.specs.Crossings.{on_plane, foreign, add_crossi
 ghost use Rattle.planes_crossings.specs.Ensures.{slice_points, SliceLengths, PointList, MeshLimits, TrueHeight, crossing_of};
 ghost use Rattle.planes_cut.specs.Ensures.{bare, MeshLent, face_vertex};
 
-use crate::{Crossing, End, slices};
+use crate::{End, slices};
+use arith::Vec3;
 use arith::number::next_of;
-use arith::{Found, Vec3};
 use mesh_area::Sizes;
 use planes_cut::{Cut, heights};
 
@@ -47,17 +47,17 @@ fn between(cut: Cut, a: End, b: End) -> Vec3
 }
 
 // Where the side from a to b meets the plane.
-fn crossing(cut: Cut, a: End, b: End) -> Crossing
+fn crossing(cut: Cut, a: End, b: End) -> Option<Vec3>
     requires { TrueHeight cut a × TrueHeight cut b }
     ensures { result ≡ crossing_of cut a.point b.point }
 {
     let p = a.point;
     if is_near_end(cut, a) {
-        Crossing::Point(p)
+        Some(p)
     } else if parted(cut, a, b) {
-        Crossing::Point(between(cut, a, b))
+        Some(between(cut, a, b))
     } else {
-        Crossing::None
+        None
     }
 }
 
@@ -78,8 +78,8 @@ fn add_crossing(
 {
     let m = crossing(cut, a, b);
     match m {
-        Crossing::Point(p) => slices::add_new(cut, p, x, y, z, n),
-        Crossing::None => n,
+        Some(p) => slices::add_new(cut, p, x, y, z, n),
+        None => n,
     }
 }
 
@@ -178,10 +178,10 @@ fn is_foreign(
 {
     let other = mesh_area::neighbour_of(words, s, f);
     match other {
-        Found::At(_) => {
+        Some(_) => {
             mesh_area::owner_of(words, s, f) != cell && on_plane(case, points, words, s, cut, f)
         }
-        Found::Nothing => false,
+        None => false,
     }
 }
 

@@ -12,10 +12,3 @@ struct End {
     point: Vec3,
     height: f64,
 }
-
-// Where a side meets the plane.
-#[derive(Clone, Copy)]
-enum Crossing {
-    Point(Vec3),
-    None,
-}

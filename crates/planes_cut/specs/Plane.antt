@@ -1,5 +1,5 @@
 -- A plane by its origin and two axes. Refusals 36 and 37.
--- `finite_axes`, `not_unit`, `not_orthogonal`, `invalid`: 36. `origin_beyond`: 37. `plane_refusal`: the first of the two, or 0.
+-- `finite_axes`, `not_unit`, `not_orthogonal`, `invalid`: 36. `origin_beyond`: 37. `validated`: the first of the two, if one is due.
 -- `normal_of`, `along`: its normal, and a difference along its axes.
 use Rattle.std.specs.Prelude.{ℕ, Bool, not, cond, ◌&&◌, ◌||◌}
 use Rattle.arith.specs.F64.{◌⊖◌, ◌≺◌, 1·0, 1e-7, abs, finite, within}
@@ -7,6 +7,8 @@ use Rattle.arith.specs.Vec.{pair, dot, cross, norm, each3}
 use Rattle.arith.specs.declared.Vec2.{Vec2}
 use Rattle.arith.specs.declared.Vec3.{Vec3}
 use Rattle.planes_cut.specs.declared.Plane.{Plane}
+use Rattle.reading.specs.Result.{Refusable, ◌>>=◌, refuse}
+use Rattle.refusal.specs.declared.Refusal.TheVariants.{WrongPlane, OriginTooLarge}
 
 -- the origin and both axes are finite
 unfoldable pub finite_axes : Plane → Bool
@@ -28,9 +30,9 @@ invalid s = not (finite_axes s) || (not_unit s.u || (not_unit s.v || not_orthogo
 unfoldable pub origin_beyond : Plane → Bool
 origin_beyond s = not (each3 within s.origin)
 
--- refusal 36 or 37, or 0
-unfoldable pub plane_refusal : Plane → ℕ
-plane_refusal s = cond (invalid s) 36 (cond (origin_beyond s) 37 0)
+-- refusals 36 and 37
+unfoldable pub validated : Plane → Refusable (Unit {0})
+validated s = refuse WrongPlane (invalid s) >>= λ _. refuse OriginTooLarge (origin_beyond s)
 
 -- `normal`
 unfoldable pub normal_of : Plane → Vec3

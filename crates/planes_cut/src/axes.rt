@@ -10,6 +10,7 @@ ghost use Rattle.planes_cut.specs.Cut as Cuts;
 
 use crate::{Cut, Plane, Reach};
 use arith::{Vec3, float};
+use refusal::Refusal;
 
 // The origin and both axes are finite.
 fn finite_axes(plane: Plane) -> bool
@@ -42,17 +43,17 @@ fn invalid(plane: Plane) -> bool
         || not_orthogonal(plane.u, plane.v)
 }
 
-// Refusal 36 or 37 of a plane, or 0.
-pub fn validate(plane: Plane) -> u64
-    ensures { result ≡ Axes.plane_refusal plane }
+// Refusals 36 and 37 of a plane.
+pub fn validate(plane: Plane) -> Result<(), Refusal>
+    ensures { result ≡ Axes.validated plane }
 {
     if invalid(plane) {
-        36
-    } else if plane.origin.is_within() {
-        0
-    } else {
-        37
+        return Err(Refusal::WrongPlane);
     }
+    if !plane.origin.is_within() {
+        return Err(Refusal::OriginTooLarge);
+    }
+    Ok(())
 }
 
 // How far the points reach, from the origin of the plane and from (0, 0, 0): the roots of the

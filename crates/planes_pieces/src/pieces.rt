@@ -7,10 +7,11 @@ ghost use Rattle.planes_cut.specs.Ensures.{MeshLent, bare};
 ghost use Rattle.planes_sections.specs.Ensures.{PieceAboutExit, PieceOfExit};
 
 use crate::arrange;
+use arith::Vec3;
 use mesh_area::Sizes;
 use planes_crossings::crossings;
 use planes_cut::{Cut, heights};
-use planes_sections::{Piece, measures};
+use planes_sections::measures;
 
 // The polygon's area is above the square of the tolerance.
 fn is_wide(cut: Cut, x: &[f64], y: &[f64], z: &[f64], n: usize) -> bool
@@ -31,20 +32,20 @@ fn piece_about(
     x: &mut [f64],
     y: &mut [f64],
     z: &mut [f64],
-) -> Piece
+) -> Option<(Vec3, usize)>
     requires { SliceLengths px.now py.now pz.now n × SliceLengths x.old y.old z.old n × (n ≤ 192) }
     ensures { PieceAboutExit cut (slice_points px.now py.now pz.now n) result
         x.old y.old z.old x.new y.new z.new }
 {
     if n < 3 {
-        return Piece::Empty;
+        return None;
     }
     let centre = measures::section_centre(px, py, pz, n);
     arrange::arrange(cut.plane, centre, px, py, pz, n, x, y, z);
     if is_wide(cut, x, y, z, n) {
-        Piece::Of(centre, n)
+        Some((centre, n))
     } else {
-        Piece::Empty
+        None
     }
 }
 
@@ -59,14 +60,14 @@ fn cut_cell(
     x: &mut [f64],
     y: &mut [f64],
     z: &mut [f64],
-) -> Piece
+) -> Option<(Vec3, usize)>
     requires mesh_lent { MeshLent case.now points s words.now × SliceLengths x.old y.old z.old 192 }
     requires mesh_limits { MeshLimits (bare case.now points s words.now) }
     ensures { PieceOfExit (bare case.now points s words.now) cut cell result
         x.old y.old z.old x.new y.new z.new }
 {
     if crossings::has_foreign(case, points, words, s, cut, cell) {
-        return Piece::Empty;
+        return None;
     }
     let mut px = [0.0; 192];
     let mut py = [0.0; 192];
@@ -86,7 +87,7 @@ pub fn piece_of(
     x: &mut [f64],
     y: &mut [f64],
     z: &mut [f64],
-) -> Piece
+) -> Option<(Vec3, usize)>
     requires mesh_lent { MeshLent case.now points s words.now × SliceLengths x.old y.old z.old 192 }
     requires mesh_limits { MeshLimits (bare case.now points s words.now) }
     ensures { (floats : List Float) → PieceOfExit
@@ -96,6 +97,6 @@ pub fn piece_of(
     if heights::may_meet(case, points, words, s, cut, cell) {
         cut_cell(case, points, words, s, cut, cell, x, y, z)
     } else {
-        Piece::Empty
+        None
     }
 }

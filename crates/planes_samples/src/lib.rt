@@ -5,10 +5,3 @@
 use planes_sums::Accumulator;
 
 pub mod walk;
-
-// How the reading of the samples ends.
-#[derive(Clone, Copy)]
-pub enum Accumulated {
-    Done(Accumulator),
-    Bad,
-}

@@ -12,13 +12,11 @@ ghost use Rattle.planes_sums.specs.Kept.{sample_sums_of, cell_in, size_of};
 ghost use Rattle.case_file.specs.Trailer.{opened};
 ghost use Rattle.case_file.specs.Field.{values_of};
 
-use crate::Accumulated;
 use arith::Vec3;
-use case_file::{Counts, Opened, field};
+use case_file::{Counts, field};
 use mesh_area::Sizes;
 use planes_cut::{Cut, Plane, axes};
 use planes_pieces::pieces;
-use planes_sections::Piece;
 use planes_sums::{Accumulator, keep, measures};
 
 // One piece, whose polygon stands in three slices: what is kept with it, or that it is bad.
@@ -35,8 +33,8 @@ fn take_sample(
     z: &[f64],
     answers: &mut [u64],
     marks: &mut [u8],
-) -> Accumulated
-    requires case_value { opened case.now ≡ Opened.Case n }
+) -> Option<Accumulator>
+    requires case_value { opened case.now ≡ Ok n }
     requires slice_lengths { SliceLengths x.now y.now z.now k × (1 ≤ k) × (k ≤ 192)
         × (size_of (sample_sums_of t) < 1073741824) }
     ensures { StepExit (stream cut (values_of case.now)
@@ -45,9 +43,9 @@ fn take_sample(
 {
     let v = field::read_cell(case, n, marks, cell);
     if measures::has_finite_values(v) {
-        Accumulated::Done(keep::add(cut, t, cell, centre, k, v, x, y, z, answers))
+        Some(keep::add(cut, t, cell, centre, k, v, x, y, z, answers))
     } else {
-        Accumulated::Bad
+        None
     }
 }
 
@@ -65,7 +63,7 @@ fn step(
     z: &mut [f64],
     answers: &mut [u64],
     marks: &mut [u8],
-) -> Accumulated
+) -> Option<Accumulator>
     requires sample_entry { SampleEntry case.now n s words.now marks.old × (cell < s.cells) }
     requires slice_lengths { SliceLengths x.old y.old z.old 192 × (size_of (sample_sums_of t) < 1073741824) }
     ensures { StepExit (stream cut (values_of case.now)
@@ -75,10 +73,10 @@ fn step(
 {
     let piece = pieces::piece_of(case, n.points, words, s, cut, cell, x, y, z);
     match piece {
-        Piece::Of(centre, k) => {
+        Some((centre, k)) => {
             take_sample(case, n, cut, t, cell, centre, k, x, y, z, answers, marks)
         }
-        Piece::Empty => Accumulated::Done(t),
+        None => Some(t),
     }
 }
 
@@ -95,7 +93,7 @@ fn sample_each(
     z: &mut [f64],
     answers: &mut [u64],
     marks: &mut [u8],
-) -> Accumulated
+) -> Option<Accumulator>
     requires sample_entry { SampleEntry case.now n s words.now marks.old × (s.cells ≤ most_cells) }
     requires slice_lengths { SliceLengths x.old y.old z.old 192 × (size_of (sample_sums_of t) ≤ 1) }
     ensures { SampleAllExit (stream cut (values_of case.now)
@@ -105,14 +103,9 @@ fn sample_each(
 {
     let mut tally = t;
     for i in 0..s.cells {
-        let Accumulated::Done(next) = step(
-            case, n, words, s, cut, tally, i, x, y, z, answers, marks,
-        ) else {
-            return Accumulated::Bad;
-        };
-        tally = next;
+        tally = step(case, n, words, s, cut, tally, i, x, y, z, answers, marks)?;
     }
-    Accumulated::Done(tally)
+    Some(tally)
 }
 
 // The section's cells in turn.
@@ -125,7 +118,7 @@ pub fn sample_all(
     t: Accumulator,
     answers: &mut [u64],
     marks: &mut [u8],
-) -> Accumulated
+) -> Option<Accumulator>
     requires { SampleEntry case.now n s words.now marks.old × (size_of (sample_sums_of t) ≤ 1) }
     ensures { (floats : List Float) → SampleAllExit
         (stream (cut_of (points_in case.now n.points) plane) (values_of case.now)

@@ -20,14 +20,14 @@ use Rattle.mesh_area.proofs.LayoutLaws.{face-in, face-out, cell-in, cell-out}
 use Rattle.planes_cut.specs.declared.Cut.{Cut}
 use Rattle.planes_cut.specs.declared.Signs.{Signs}
 use Rattle.planes_crossings.proofs.HeldLaws.{held-left, length-held, rest-same, rest-as}
-use Rattle.planes_sections.specs.declared.Piece.{Piece}
-use Rattle.planes_sections.specs.declared.Piece.TheVariants.{Of, Empty}
 use Rattle.planes_cut.specs.Cut.{near, below, above}
 use Rattle.planes_crossings.specs.Crossings.{rises, parted, add_end, add_between, add_crossing, on_plane, foreign, add_side, add_face, crossings}
 use Rattle.planes_sections.specs.Intersect.{earlier_on, add_area, area_of, section_centre, wide, piece_about, piece_of}
 use Rattle.planes_crossings.specs.Ensures.{slice_points, point_in, SlicesKept, MeshLimits}
 use Rattle.planes_cut.specs.Ensures.{sign_with, add_sign, face_signs, signs_of, no_signs, may_meet, bare}
 use Rattle.planes_sections.specs.Ensures.{piece_in, vertices_of, arranged_about, arranged_of, FrontPoints, PieceAboutExit, PieceOfExit}
+use Rattle.std.specs.Prelude.{Some, None}
+use Rattle.std.specs.declared.option.Option.{Option}
 
 -- ---- the area of a polygon, from the first point
 
@@ -49,7 +49,7 @@ laid-first {l} {x} {y} {z} {x'} {y'} {z'} n e h =
     record { list = rw k at e; rest = rest-as k h }
 
 module _ (c : Cut) (l : List Vec3) (n : ℕ) (len : n ≡ length l) where
-  pub piece-few : (x y z : List Float) → n < 3 → PieceAboutExit c l Empty x y z x y z
+  pub piece-few : (x y z : List Float) → n < 3 → PieceAboutExit c l None x y z x y z
   unfolding piece_about arranged_about piece_in only vertices_of
   piece-few x y z h =
       record {
@@ -65,7 +65,7 @@ module _ (c : Cut) (l : List Vec3) (n : ℕ) (len : n ≡ length l) where
     unfolding arranged_about
     laid-all = rw (← len, le-leb 3 n three, ← ec) (laid-first n el er)
 
-    pub piece-wide : t ≡ true → n ≤ 192 → PieceAboutExit c l (Of centre n) x₀ y₀ z₀ x y z
+    pub piece-wide : t ≡ true → n ≤ 192 → PieceAboutExit c l (Some (centre, n)) x₀ y₀ z₀ x y z
     unfolding piece_about piece_in only vertices_of
     piece-wide h b =
         record {
@@ -75,7 +75,7 @@ module _ (c : Cut) (l : List Vec3) (n : ℕ) (len : n ≡ length l) where
           laid = laid-all;
         }
 
-    pub piece-flat : t ≡ false → PieceAboutExit c l Empty x₀ y₀ z₀ x y z
+    pub piece-flat : t ≡ false → PieceAboutExit c l None x₀ y₀ z₀ x y z
     unfolding piece_about piece_in only vertices_of
     piece-flat h =
         record {
@@ -88,11 +88,11 @@ module _ (c : Cut) (l : List Vec3) (n : ℕ) (len : n ≡ length l) where
 -- ---- the piece of a cell
 
 module _ (m : Mesh) (c : Cut) (cell : ℕ) where
-  pub piece-foreign : (x y z : List Float) (t : Bool) → t ≡ any_of (foreign m c cell) (cell_at m.cells cell).faces → t ≡ true → PieceOfExit m c cell Empty x y z x y z
+  pub piece-foreign : (x y z : List Float) (t : Bool) → t ≡ any_of (foreign m c cell) (cell_at m.cells cell).faces → t ≡ true → PieceOfExit m c cell None x y z x y z
   unfolding piece_of arranged_of piece_in vertices_of
   piece-foreign x y z t e h = record { piece = rw (sym e ∙ h); few = omega arith; full = tt; laid = rw (sym e ∙ h) (laid_nil x y z) }
 
-  pub piece-met : {x₀ y₀ z₀ x y z : List Float} (t : Bool) (l : List Vec3) (r : Piece) → t ≡ any_of (foreign m c cell) (cell_at m.cells cell).faces → t ≡ false →
+  pub piece-met : {x₀ y₀ z₀ x y z : List Float} (t : Bool) (l : List Vec3) (r : Option (Vec3 × ℕ)) → t ≡ any_of (foreign m c cell) (cell_at m.cells cell).faces → t ≡ false →
       l ≡ crossings m c (cell_at m.cells cell).faces → PieceAboutExit c l r x₀ y₀ z₀ x y z → PieceOfExit m c cell r x₀ y₀ z₀ x y z
   unfolding piece_of arranged_of
   piece-met t l r e h el p =
@@ -190,7 +190,7 @@ module _ (m : Mesh) (c : Cut) where
       (λ a. none-met (λ p. (near c p ≡ false) × (above c p ≡ false)) not-above fs (all_without (λ p. near c p ≡ false) (λ p. above c p ≡ false) fs n.1 (signs-clear (λ g. g.above) (above c) (λ g p. unfold sign_with in refl) no_signs fs a).1))
       (and-false (fold (face_signs m c) no_signs fs).below (fold (face_signs m c) no_signs fs).above r.1)
 
-  pub piece-unmet : (cell : ℕ) (x y z : List Float) (t : Bool) → t ≡ may_meet (signs_of m c cell) → t ≡ false → PieceOfExit m c cell Empty x y z x y z
+  pub piece-unmet : (cell : ℕ) (x y z : List Float) (t : Bool) → t ≡ may_meet (signs_of m c cell) → t ≡ false → PieceOfExit m c cell None x y z x y z
   unfolding piece_of piece_about arranged_of arranged_about piece_in only vertices_of
   piece-unmet cell x y z t e h =
       record {
@@ -256,7 +256,7 @@ module _ (points : List Vec3) (s : Sizes) (words : List ℕ) (floats : List Floa
         few-vertices = λ f. rw (← same-vertices f) (b.few-vertices f);
       }
 
-pub pieced-any : (case : List ℕ) (n : ℕ) (s : Sizes) (words : List ℕ) (c : Cut) (cell : ℕ) (r : Piece) {x y z x' y' z' : List Float} → PieceOfExit (bare case n s words) c cell r x y z x' y' z' →
+pub pieced-any : (case : List ℕ) (n : ℕ) (s : Sizes) (words : List ℕ) (c : Cut) (cell : ℕ) (r : Option (Vec3 × ℕ)) {x y z x' y' z' : List Float} → PieceOfExit (bare case n s words) c cell r x y z x' y' z' →
     (floats : List Float) → PieceOfExit (mesh_in (points_in case n) s words floats) c cell r x y z x' y' z'
 unfolding bare
 pieced-any case n s words c cell r p floats =

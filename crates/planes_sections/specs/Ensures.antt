@@ -2,7 +2,7 @@
 -- `piece_in`, `vertices_of`, `Full`: the piece that was found. `arranged_about`, `arranged_of`, `FrontPoints`: the points that stand in the slices.
 -- `piece_about`: `PieceAboutExit`. `cut_cell` and `piece_of`: `PieceOfExit`.
 -- `angle_on`: `angle_on`. `angles_of`: `AnglesOfExit`. `gather`: `GatherEntry`.
-use Rattle.std.specs.Prelude.{ℕ, ◌+◌, ◌≤◌, ◌<◌, ◌≡◌, cond, List, [], ◌∷◌, leb, length, get_or, Float}
+use Rattle.std.specs.Prelude.{ℕ, ◌+◌, ◌≤◌, ◌<◌, ◌≡◌, cond, List, [], ◌∷◌, leb, length, get_or, Float, Some, None}
 use Rattle.std.specs.Float.{nan}
 use Rattle.arith.specs.Lists.{any_of, sort}
 use Rattle.arith.specs.Vec.{minus}
@@ -15,26 +15,25 @@ use Rattle.planes_cut.specs.declared.Plane.{Plane}
 use Rattle.planes_cut.specs.Plane.{along}
 use Rattle.planes_crossings.specs.Crossings.{foreign, crossings}
 use Rattle.planes_crossings.specs.Ensures.{slice_points, SliceLengths, SlicesKept}
-use Rattle.planes_sections.specs.declared.Piece.{Piece}
-use Rattle.planes_sections.specs.declared.Piece.TheVariants.{Of, Empty}
 use Rattle.planes_sections.specs.Intersect.{PlaneCell, earlier_on, piece_about, piece_of, section_centre}
+use Rattle.std.specs.declared.option.Option.{Option}
 
 -- ---- the piece that was found, with its polygon in the slices
 
 -- one, or none
-unfoldable pub piece_in : ℕ → Piece → List Float → List Float → List Float → List PlaneCell
-piece_in cell (Of centre n) x y z = record { cell = cell; centre = centre; polygon = slice_points x y z n } ∷ []
-piece_in cell Empty x y z = []
+unfoldable pub piece_in : ℕ → Option (Vec3 × ℕ) → List Float → List Float → List Float → List PlaneCell
+piece_in cell (Some (centre, n)) x y z = record { cell = cell; centre = centre; polygon = slice_points x y z n } ∷ []
+piece_in cell None x y z = []
 
 -- how many vertices it has
-unfoldable pub vertices_of : Piece → ℕ
-vertices_of (Of centre n) = n
-vertices_of Empty = 0
+unfoldable pub vertices_of : Option (Vec3 × ℕ) → ℕ
+vertices_of (Some (centre, n)) = n
+vertices_of None = 0
 
 -- it has three vertices or more
-abbrev pub Full : Piece → Type 0
-Full (Of centre n) = 3 ≤ n
-Full Empty = Unit
+abbrev pub Full : Option (Vec3 × ℕ) → Type 0
+Full (Some (centre, n)) = 3 ≤ n
+Full None = Unit
 
 -- three points or more are arranged before their area is known, so that they stand in the slices where there is no piece too
 unfoldable pub arranged_about : Cut → List Vec3 → List Vec3
@@ -50,14 +49,14 @@ pub record FrontPoints (l : List Vec3) (x y z x' y' z' : List Float) : Type 0 wh
   pub rest : SlicesKept x y z x' y' z' (length l)
 
 -- the piece is that of the points l, and has at most 192 vertices
-pub record PieceAboutExit (c : Cut) (l : List Vec3) (r : Piece) (x y z x' y' z' : List Float) : Type 0 where
+pub record PieceAboutExit (c : Cut) (l : List Vec3) (r : Option (Vec3 × ℕ)) (x y z x' y' z' : List Float) : Type 0 where
   pub piece : (cell : ℕ) → piece_in cell r x' y' z' ≡ piece_about c cell l (section_centre l)
   pub few : vertices_of r ≤ 192
   pub full : Full r
   pub laid : FrontPoints (arranged_about c l) x y z x' y' z'
 
 -- the piece is that of a cell of the mesh
-pub record PieceOfExit (m : Mesh) (c : Cut) (cell : ℕ) (r : Piece) (x y z x' y' z' : List Float) : Type 0 where
+pub record PieceOfExit (m : Mesh) (c : Cut) (cell : ℕ) (r : Option (Vec3 × ℕ)) (x y z x' y' z' : List Float) : Type 0 where
   pub piece : piece_in cell r x' y' z' ≡ piece_of m c cell (cell_at m.cells cell)
   pub few : vertices_of r ≤ 192
   pub full : Full r

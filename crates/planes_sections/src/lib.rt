@@ -5,10 +5,3 @@ use arith::Vec3;
 
 pub mod angles;
 pub mod measures;
-
-// The piece of a cell: its centre and how many vertices it has.
-#[derive(Clone, Copy)]
-pub enum Piece {
-    Of(Vec3, usize),
-    Empty,
-}

@@ -2,15 +2,16 @@
 -- piece has three points or more (`piece_about`, crates/planes_sections/specs/Intersect.antt).
 -- `scalar_of`: the value of a sample. `no_sums`, `including`: the sums. `counted`, `summing`, `add_sample`: with one more sample, or 40.
 -- `finite_sums`, `empty`: 41. `fraction_words`, `statistics_words`, `statistics_from`: the answer, or 41. `statistics`: all samples in turn.
-use Rattle.std.specs.Prelude.{ℕ, suc, Bool, true, false, not, cond, ◌&&◌, ◌||◌, List, [], ◌∷◌, get_or, Float}
+use Rattle.std.specs.Prelude.{ℕ, suc, Bool, true, false, not, cond, ◌&&◌, ◌||◌, List, [], ◌∷◌, get_or, Float, Ok, Err}
 use Rattle.std.specs.Float.Ieee.{neg}
 use Rattle.arith.specs.F64.{◌⊕◌, ◌⊖◌, ◌⊗◌, ◌⊘◌, ◌≺◌, ◌≼◌, 0·0, +∞, -∞, word, abs, finite, fmin, fmax}
 use Rattle.arith.specs.Vec.{dot, norm}
 use Rattle.arith.specs.declared.Vec3.{Vec3}
 use Rattle.reading.specs.declared.Values.{Values}
-use Rattle.reading.specs.Result.{Result, refused, fine, ◌>>=◌, steps}
+use Rattle.reading.specs.Result.{Refusable, ◌>>=◌, steps}
 use Rattle.planes_sums.specs.declared.Sums.{Sums}
 use Rattle.planes_sums.specs.Sample.{Sample, measure_of}
+use Rattle.refusal.specs.declared.Refusal.TheVariants.{FluxNotFinite, NoStatistics}
 
 -- `sample_scalar`: field 0 speed, 1 pressure, 2 to 4 velocity, 5 normal velocity
 unfoldable pub scalar_of : Vec3 → ℕ → Values → Float
@@ -42,12 +43,12 @@ unfoldable pub counted : Float → Float → Bool
 counted measure value = finite measure && (not (measure ≼ 0·0) && finite value)
 
 -- a sample of this measure and value; refusal 40, "non-finite flux"
-unfoldable pub summing : Bool → Sums → Float → Float → Float → Result Sums
-summing false t measure value flux = fine t
-summing true t measure value flux = cond (finite flux) (fine (including t measure value flux)) (refused 40)
+unfoldable pub summing : Bool → Sums → Float → Float → Float → Refusable Sums
+summing false t measure value flux = Ok t
+summing true t measure value flux = cond (finite flux) (Ok (including t measure value flux)) (Err FluxNotFinite)
 
 -- a sample, by its measure, its value and its flux
-unfoldable pub add_sample : Vec3 → ℕ → Sums → Sample → Result Sums
+unfoldable pub add_sample : Vec3 → ℕ → Sums → Sample → Refusable Sums
 add_sample normal field t s =
     let measure = measure_of normal s.geometry.polygon in
     let value = scalar_of normal field s.values in
@@ -75,9 +76,9 @@ statistics_words t =
     ∷ fraction_words t (t.positive ⊖ t.negative)
 
 -- refusal 41, or the answer
-unfoldable pub statistics_from : Sums → Result (List ℕ)
-statistics_from t = cond (empty t) (refused 41) (fine (statistics_words t))
+unfoldable pub statistics_from : Sums → Refusable (List ℕ)
+statistics_from t = cond (empty t) (Err NoStatistics) (Ok (statistics_words t))
 
 -- all samples in turn, with refusal 40
-unfoldable pub statistics : Vec3 → ℕ → List Sample → Result (List ℕ)
+unfoldable pub statistics : Vec3 → ℕ → List Sample → Refusable (List ℕ)
 statistics normal field l = steps (add_sample normal field) no_sums l >>= statistics_from

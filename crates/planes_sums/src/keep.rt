@@ -6,7 +6,7 @@ ghost use Rattle.planes_sums.specs.Integrals as Integrals;
 ghost use Rattle.planes_sums.specs.Kept.{sample_sums_of, sums_of, integral_of, summing_of, weighing_of, add_summed, add_weighed, add_probed, sample_in, used_of, size_of, AddExit};
 ghost use Rattle.planes_crossings.specs.Ensures.{SliceLengths};
 
-use crate::{Accumulator, Integral, Probed, Summed, Sums, Weighed, measures, write};
+use crate::{Accumulator, Integral, Sums, measures, write};
 use arith::{Vec2, Vec3, float};
 use planes_cut::Cut;
 use reading::Values;
@@ -42,7 +42,7 @@ fn including(t: Sums, measure: f64, value: f64, flux: f64) -> Sums
 }
 
 // The sums with a sample of this measure and these values.
-fn add_sample(normal: Vec3, field: u64, t: Sums, measure: f64, v: Values) -> Summed
+fn add_sample(normal: Vec3, field: u64, t: Sums, measure: f64, v: Values) -> Option<Sums>
     requires { t.used < 2^32 }
     ensures { sums_of result ≡ summing_of normal field t measure v }
 {
@@ -50,12 +50,12 @@ fn add_sample(normal: Vec3, field: u64, t: Sums, measure: f64, v: Values) -> Sum
     if counted(measure, value) {
         let flux = v.velocity.dot(normal) * measure;
         if float::is_finite(flux) {
-            Summed::Total(including(t, measure, value, flux))
+            Some(including(t, measure, value, flux))
         } else {
-            Summed::Unsummed
+            None
         }
     } else {
-        Summed::Total(t)
+        Some(t)
     }
 }
 
@@ -81,13 +81,13 @@ fn weighing(normal: Vec3, t: Integral, a: f64, v: Values) -> Integral
 }
 
 // The same, or that the sample is invalid.
-fn add_integral(normal: Vec3, t: Integral, a: f64, v: Values) -> Weighed
+fn add_integral(normal: Vec3, t: Integral, a: f64, v: Values) -> Option<Integral>
     ensures { integral_of result ≡ weighing_of normal t a v }
 {
     if is_valid(a, v) {
-        Weighed::Whole(weighing(normal, t, a, v))
+        Some(weighing(normal, t, a, v))
     } else {
-        Weighed::Unweighed
+        None
     }
 }
 
@@ -95,72 +95,64 @@ fn add_integral(normal: Vec3, t: Integral, a: f64, v: Values) -> Weighed
 fn add_summed(
     normal: Vec3,
     field: u64,
-    t: Summed,
+    t: Option<Sums>,
     n: usize,
     v: Values,
     x: &[f64],
     y: &[f64],
     z: &[f64],
-) -> Summed
+) -> Option<Sums>
     requires { SliceLengths x.now y.now z.now n × (1 ≤ n) × (used_of (sums_of t) < 2^32) }
     ensures { (cell : ℕ) (centre : Vec3) → sums_of result ≡ add_summed normal field (sums_of t)
         (sample_in cell centre n v x.now y.now z.now) }
 {
-    match t {
-        Summed::Total(sums) => {
-            let area = measures::measure(normal, x, y, z, n);
-            add_sample(normal, field, sums, area, v)
-        }
-        Summed::Unsummed => Summed::Unsummed,
-    }
+    let sums = t?;
+    let area = measures::measure(normal, x, y, z, n);
+    add_sample(normal, field, sums, area, v)
 }
 
 // The integrals with it.
 fn add_weighed(
     normal: Vec3,
-    t: Weighed,
+    t: Option<Integral>,
     n: usize,
     v: Values,
     x: &[f64],
     y: &[f64],
     z: &[f64],
-) -> Weighed
+) -> Option<Integral>
     requires { SliceLengths x.now y.now z.now n × (1 ≤ n) }
     ensures { (cell : ℕ) (centre : Vec3) → integral_of result ≡ add_weighed normal (integral_of t)
         (sample_in cell centre n v x.now y.now z.now) }
 {
-    match t {
-        Weighed::Whole(sums) => {
-            let area = measures::measure(normal, x, y, z, n);
-            add_integral(normal, sums, area, v)
-        }
-        Weighed::Unweighed => Weighed::Unweighed,
-    }
+    let sums = t?;
+    let area = measures::measure(normal, x, y, z, n);
+    add_integral(normal, sums, area, v)
 }
 
 // The first sample over q, with it.
 fn add_probed(
     cut: Cut,
     q: Vec2,
-    t: Probed,
+    t: Option<(usize, Values)>,
     cell: usize,
     n: usize,
     v: Values,
     x: &[f64],
     y: &[f64],
     z: &[f64],
-) -> Probed
+) -> Option<(usize, Values)>
     requires { SliceLengths x.now y.now z.now n }
     ensures { (centre : Vec3) → result ≡ add_probed cut q t
         (sample_in cell centre n v x.now y.now z.now) }
 {
     match t {
-        Probed::Hit(i, w) => Probed::Hit(i, w),
-        Probed::Missed => {
+        Some((i, w)) => Some((i, w)),
+        None => {
             if measures::covers(cut.plane, q, x, y, z, n) {
-                Probed::Hit(cell, v)
+                Some((cell, v))
             } else {
-                Probed::Missed
+                None
             }
         }
     }

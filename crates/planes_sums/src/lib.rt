@@ -22,13 +22,6 @@ pub struct Sums {
     pub weighted: f64,
 }
 
-// The running sums, or that a flux was not finite.
-#[derive(Clone, Copy)]
-pub enum Summed {
-    Total(Sums),
-    Unsummed,
-}
-
 // The running sums of `plane_integrals::sample`.
 #[derive(Clone, Copy)]
 pub struct Integral {
@@ -38,26 +31,12 @@ pub struct Integral {
     pub flux: f64,
 }
 
-// The running sums, or that a sample was invalid.
-#[derive(Clone, Copy)]
-pub enum Weighed {
-    Whole(Integral),
-    Unweighed,
-}
-
-// The cell under a point of a section with its values, or that there is none.
-#[derive(Clone, Copy)]
-pub enum Probed {
-    Hit(usize, Values),
-    Missed,
-}
-
 // What is kept of the samples: how many polygons were written and where the next one goes;
 // the sums of a field; the integrals; the sample over a point.
 #[derive(Clone, Copy)]
 pub enum Accumulator {
     Section(usize, usize),
-    Statistics(u64, Summed),
-    Integrals(Weighed),
-    Probe(Vec2, Probed),
+    Statistics(u64, Option<Sums>),
+    Integrals(Option<Integral>),
+    Probe(Vec2, Option<(usize, Values)>),
 }

@@ -1,28 +1,29 @@
--- "Refused jobs (1 to 19) give only the number": a value, or the number of a refusal.
-use Rattle.std.specs.Prelude.{ℕ, Bool, true, false, List, [], ◌∷◌}
+-- "Refused jobs (1 to 19) give only the number": a value, or a refusal.
+use Rattle.std.specs.Prelude.{Bool, true, false, List, [], ◌∷◌, Ok, Err}
+use Rattle.std.specs.declared.result.Result.{Result}
+use Rattle.refusal.specs.declared.Refusal.{Refusal}
 
--- refused, with 01's number, or fine
-pub data Result (A : Type 0) : Type 0 where
-  refused : ℕ → Result A
-  fine : A → Result A
+-- a value, or why there is none
+abbrev pub Refusable : Type 0 → Type 0
+Refusable A = Result A Refusal
 
 -- goes on with a value; a refusal stays
 infixl 20 ◌>>=◌
-unfoldable pub ◌>>=◌ : {A B : Type 0} → Result A → (A → Result B) → Result B
-◌>>=◌ (refused n) h = refused n
-◌>>=◌ (fine a) h = h a
+unfoldable pub ◌>>=◌ : {A B : Type 0} → Refusable A → (A → Refusable B) → Refusable B
+◌>>=◌ (Err r) h = Err r
+◌>>=◌ (Ok a) h = h a
 
--- refusal n where the test holds; "Checked in rising order"
-unfoldable pub refuse : ℕ → Bool → Result (Unit {0})
-refuse n true = refused n
-refuse n false = fine tt
+-- refusal r where the test holds; "Checked in rising order"
+unfoldable pub refuse : Refusal → Bool → Refusable (Unit {0})
+refuse r true = Err r
+refuse r false = Ok tt
 
 -- the state after each element in turn, or the first refusal
-unfoldable pub steps : {A B : Type 0} → (B → A → Result B) → B → List A → Result B
-steps f s [] = fine s
+unfoldable pub steps : {A B : Type 0} → (B → A → Refusable B) → B → List A → Refusable B
+steps f s [] = Ok s
 steps f s (a ∷ l) = f s a >>= λ t. steps f t l
 
 -- each element's value, or the first refusal: "cell by cell"
-unfoldable pub map_all : {A B : Type 0} → (A → Result B) → List A → Result (List B)
-map_all f [] = fine []
-map_all f (a ∷ l) = f a >>= λ b. map_all f l >>= λ bs. fine (b ∷ bs)
+unfoldable pub map_all : {A B : Type 0} → (A → Refusable B) → List A → Refusable (List B)
+map_all f [] = Ok []
+map_all f (a ∷ l) = f a >>= λ b. map_all f l >>= λ bs. Ok (b ∷ bs)

@@ -6,27 +6,26 @@
 // each is due.
 #![tactic(auto)]
 
-use case_definitions::{Walked, walker};
-use case_file::{Opened, trailer};
+use case_definitions::walker;
+use case_file::trailer;
+use refusal::Refusal;
 use std::fs::File;
 
 // The length of a case with every count one past its limit.
 const LONGEST: usize = 6_291_548;
 
 // The number of faces of a case, or refusal 1, 2 or 3.
-fn read(case: &[u8]) -> Walked {
-    match trailer::open(case) {
-        Opened::Refused(r) => Walked::Refused(r),
-        Opened::Case(n) => walker::walk(walker::words(case, n), n.cells),
-    }
+fn read(case: &[u8]) -> Result<usize, Refusal> {
+    let n = trailer::open(case)?;
+    walker::walk(walker::words(case, n), n.cells)
 }
 
-fn print(rt: &impl Print, w: Walked) {
+fn print(rt: &impl Print, w: Result<usize, Refusal>) {
     match w {
-        Walked::Refused(r) => {
-            let _ = rt.print(r);
+        Err(r) => {
+            let _ = rt.print(r.number());
         }
-        Walked::Faces(n) => {
+        Ok(n) => {
             let _ = rt.write_all(b"0 ");
             let _ = rt.print(n as u64);
         }

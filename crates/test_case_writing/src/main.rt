@@ -14,7 +14,7 @@ ghost use Rattle.std.specs.Prelude.{◌≤◌, length};
 
 use arith::bytes;
 use case_file::Counts;
-use case_writer::Written;
+use refusal::Refusal;
 use std::fs::File;
 use test_stored::fnv;
 
@@ -104,15 +104,15 @@ fn hash_of(out: &[u8]) -> u64 {
 }
 
 // Ends the line of an input.
-fn show_written(rt: &impl Print, w: Written, out: &[u8]) {
+fn show_written(rt: &impl Print, w: Result<usize, Refusal>, out: &[u8]) {
     match w {
-        Written::Length(n) => {
+        Ok(n) => {
             let _ = rt.write_all(b"done ");
             let _ = rt.print(n as u64);
         }
-        Written::Refused(k) => {
+        Err(refusal) => {
             let _ = rt.write_all(b"refused ");
-            let _ = rt.print(k);
+            let _ = rt.print(refusal.number());
         }
     }
     let _ = rt.write_all(b" ");

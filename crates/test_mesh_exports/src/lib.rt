@@ -8,8 +8,6 @@ ghost use Rattle.case_survey.specs.Survey.{survey_of};
 ghost use Rattle.mesh.specs.Case.{case_faces, mesh_from};
 ghost use Rattle.test_mesh_exports.specs.Exported.{FromCellsExit};
 
-use mesh::Built;
-
 // Builds the mesh of a case in the lent area and answers 0, or the refusal. The sizes are the
 // number of faces of all definitions, of faces and of cells, which say where the area has what.
 #[unsafe(no_mangle)]
@@ -26,8 +24,8 @@ pub extern "C" fn hookyellow_from_cells(
         sizes.old sizes.new result }
 {
     match mesh::from_cells(case, words, floats) {
-        Built::Refused(k) => k,
-        Built::Mesh(s) => {
+        Err(refusal) => refusal.number(),
+        Ok(s) => {
             if sizes.len() < 3 {
                 return 0;
             }

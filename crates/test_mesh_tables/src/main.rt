@@ -12,8 +12,7 @@
 
 ghost use Rattle.mesh_area.specs.Layout.{LentWords, LentFloats};
 
-use arith::{Found, Vec3, bytes};
-use mesh::Built;
+use arith::{Vec3, bytes};
 use mesh_area::Sizes;
 use std::fs::File;
 use std::io::Read;
@@ -60,10 +59,10 @@ fn put_vec(rt: &impl Print, d: Digest, v: Vec3) -> Digest {
 }
 
 // 1 and the number, or 0 for none.
-fn put_found(rt: &impl Print, d: Digest, n: Found) -> Digest {
+fn put_found(rt: &impl Print, d: Digest, n: Option<usize>) -> Digest {
     match n {
-        Found::At(i) => put(rt, put(rt, d, 1), i as u64),
-        Found::Nothing => put(rt, d, 0),
+        Some(i) => put(rt, put(rt, d, 1), i as u64),
+        None => put(rt, d, 0),
     }
 }
 
@@ -188,12 +187,12 @@ fn show_mesh(rt: &impl Print, shown: bool, words: &[u32], floats: &[f64], s: Siz
 // Builds a case's mesh and shows it.
 fn show_case(rt: &impl Print, shown: bool, case: &[u8], words: &mut [u32], floats: &mut [f64]) {
     match mesh::from_cells(case, words, floats) {
-        Built::Refused(k) => {
+        Err(refusal) => {
             let _ = rt.write_all(b"refused ");
-            let _ = rt.print(k);
+            let _ = rt.print(refusal.number());
             let _ = rt.write_all(b"\n");
         }
-        Built::Mesh(s) => show_mesh(rt, shown, words, floats, s),
+        Ok(s) => show_mesh(rt, shown, words, floats, s),
     }
 }
 

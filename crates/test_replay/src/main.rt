@@ -10,7 +10,6 @@
 // the reference say what each pair is due.
 #![tactic(auto)]
 
-use job_promise::Outcome;
 use std::fs::File;
 use test_stored::fnv;
 
@@ -110,8 +109,8 @@ fn show_job(
     answers.fill(0x5555_5555_5555_5555);
     marks.fill(7);
     match job::job(case, requests, words, floats, marks, answers) {
-        Outcome::Refused(k) => show_refusal(rt, shown, k, marks, answers, text),
-        Outcome::Done => show_done(rt, shown, requests.len() / 128, marks, answers, text),
+        Err(refusal) => show_refusal(rt, shown, refusal.number(), marks, answers, text),
+        Ok(()) => show_done(rt, shown, requests.len() / 128, marks, answers, text),
     }
 }
 

@@ -1,7 +1,7 @@
 -- Two cubes, a plane above the mesh: no polygon, 41, 43, none
-use Rattle.std.specs.Prelude.{ℕ, refl, List, [], ◌∷◌, ◌++◌}
+use Rattle.std.specs.Prelude.{ℕ, refl, List, [], ◌∷◌, ◌++◌, Ok}
 use Rattle.test_rooms.specs.Computing.{computing}
-use Rattle.reading.specs.Result.{Result, fine}
+use Rattle.reading.specs.Result.{Refusable}
 use Rattle.test_rooms.specs.Printed.{Printed, Known, bytes, bytes_from, lends}
 use Rattle.test_rooms.specs.OnePass.{Computes, ran, below, seen, one_pass, due, by-computing}
 
@@ -19,9 +19,9 @@ requests =
     bytes 8 (5 ∷ 0 ∷ 0 ∷ 0x4014000000000000 ∷ 0x3ff0000000000000 ∷ 0 ∷ 0 ∷ 0 ∷ 0x3ff0000000000000 ∷ 0 ∷ 0 ∷ 0 ∷ 0 ∷ 0 ∷ 0 ∷ 0 ∷ 6 ∷ 0 ∷ 0 ∷ 0x4014000000000000 ∷ 0x3ff0000000000000 ∷ 0 ∷ 0 ∷ 0 ∷ 0x3ff0000000000000 ∷ 0 ∷ 0 ∷ 0 ∷ 0 ∷ 0 ∷ 0 ∷ 0 ∷ 7 ∷ 0 ∷ 0 ∷ 0x4014000000000000 ∷ 0x3ff0000000000000 ∷ 0 ∷ 0 ∷ 0 ∷ 0x3ff0000000000000 ∷ 0 ∷ 0 ∷ 0 ∷ 0 ∷ 0 ∷ 0 ∷ 0 ∷ 8 ∷ 0 ∷ 0 ∷ 0x4014000000000000 ∷ 0x3ff0000000000000 ∷ 0 ∷ 0 ∷ 0 ∷ 0x3ff0000000000000 ∷ 0 ∷ 0x3fe0000000000000 ∷ 0x3fe0000000000000 ∷ 0x4014000000000000 ∷ 0 ∷ 0 ∷ 0 ∷ [])
 
 -- what the job gives
-unfoldable pub expected : Result Printed
+unfoldable pub expected : Refusable Printed
 expected =
-    fine
+    Ok
     (record {
       words = 0 ∷ 1 ∷ 0 ∷ 0x29 ∷ 0 ∷ 0x2b ∷ 0 ∷ 0 ∷ 5 ∷ 0xffffffffffffffff ∷ 0 ∷ 0 ∷ 0 ∷ 0 ∷ [];
       cells = [];

@@ -1,10 +1,10 @@
 -- Case files and request bytes, written from their parts.
-use Rattle.std.specs.Prelude.{ℕ, ◌+◌, ◌-◌, ◌*◌, List, [], ◌∷◌, ◌++◌, map, length, replicate, Float}
+use Rattle.std.specs.Prelude.{ℕ, ◌+◌, ◌-◌, ◌*◌, List, [], ◌∷◌, ◌++◌, map, length, replicate, Float, Ok}
 use Rattle.arith.specs.F64.{word}
 use Rattle.arith.specs.Lists.{flatten}
 use Rattle.arith.specs.declared.Vec3.{Vec3}
 use Rattle.answers.specs.Words.{vec_words}
-use Rattle.reading.specs.Result.{Result, fine}
+use Rattle.reading.specs.Result.{Refusable}
 use Rattle.test_rooms.specs.Printed.{Printed, Known, bytes, lends}
 use Rattle.test_rooms.specs.OnePass.{Computes}
 
@@ -25,8 +25,8 @@ unfoldable pub request : List ℕ → List ℕ
 request l = bytes 8 (l ++ replicate (16 - length l) 0)
 
 -- an answer of these words, made from these cells
-unfoldable pub told : List ℕ → List ℕ → Result Printed
-told words cells = fine (record { words = 0 ∷ length words ∷ words; cells = cells })
+unfoldable pub told : List ℕ → List ℕ → Refusable Printed
+told words cells = Ok (record { words = 0 ∷ length words ∷ words; cells = cells })
 
 -- a job of one request gives these words, made from these cells; `airjob` "lends 16,384 words, 8,192 floats, 16,384 marks and 8,192 answer words"
 abbrev pub Gives : List ℕ → List ℕ → List ℕ → List ℕ → Type 0

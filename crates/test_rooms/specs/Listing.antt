@@ -1,7 +1,7 @@
 -- 01's listing: Pair with locate (1.5,0.5,0), velocity (0.75,0.5,0), the 0.5 line
-use Rattle.std.specs.Prelude.{ℕ, refl, List, [], ◌∷◌, ◌++◌}
+use Rattle.std.specs.Prelude.{ℕ, refl, List, [], ◌∷◌, ◌++◌, Ok}
 use Rattle.test_rooms.specs.Computing.{computing}
-use Rattle.reading.specs.Result.{Result, fine}
+use Rattle.reading.specs.Result.{Refusable}
 use Rattle.test_rooms.specs.Printed.{Printed, Known, bytes, bytes_from, lends}
 use Rattle.test_rooms.specs.OnePass.{Computes, ran, below, seen, one_pass, due, by-computing}
 
@@ -19,9 +19,9 @@ requests =
     bytes 8 (1 ∷ 0x3ff8000000000000 ∷ 0x3fe0000000000000 ∷ 0 ∷ 0 ∷ 0 ∷ 0 ∷ 0 ∷ 0 ∷ 0 ∷ 0 ∷ 0 ∷ 0 ∷ 0 ∷ 0 ∷ 0 ∷ 2 ∷ 0x3fe8000000000000 ∷ 0x3fe0000000000000 ∷ 0 ∷ 0 ∷ 0 ∷ 0 ∷ 0 ∷ 0 ∷ 0 ∷ 0 ∷ 0 ∷ 0 ∷ 0 ∷ 0 ∷ 0 ∷ 3 ∷ 0x3fd0000000000000 ∷ 0x3fe0000000000000 ∷ 0 ∷ 0 ∷ 0x3fd0000000000000 ∷ 0xa ∷ 0x3fe0000000000000 ∷ 0 ∷ 0 ∷ 0 ∷ 0 ∷ 0 ∷ 0 ∷ 0 ∷ 0 ∷ [])
 
 -- what the job gives
-unfoldable pub expected : Result Printed
+unfoldable pub expected : Refusable Printed
 expected =
-    fine
+    Ok
     (record {
       words = 0 ∷ 2 ∷ 0xffffffffffffffff ∷ 0 ∷ 0 ∷ 4 ∷ 1 ∷ 0x3ff8000000000000 ∷ 0 ∷ 0 ∷ 0 ∷ 0xa ∷ 3 ∷ 0x3fd0000000000000 ∷ 0x3fe0000000000000 ∷ 0 ∷ 0x3fe0000000000000 ∷ 0x3fe0000000000000 ∷ 0 ∷ 0x3fe8000000000000 ∷ 0x3fe0000000000000 ∷ 0 ∷ [];
       cells = 0 ∷ 1 ∷ [];

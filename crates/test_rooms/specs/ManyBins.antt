@@ -1,9 +1,10 @@
 -- One cell, more than 65,536 bins: 19
-use Rattle.std.specs.Prelude.{ℕ, refl, List, [], ◌∷◌, ◌++◌}
+use Rattle.std.specs.Prelude.{ℕ, refl, List, [], ◌∷◌, ◌++◌, Err}
 use Rattle.test_rooms.specs.Computing.{computing}
-use Rattle.reading.specs.Result.{Result, refused}
+use Rattle.reading.specs.Result.{Refusable}
 use Rattle.test_rooms.specs.Printed.{Printed, Known, bytes, bytes_from, lends}
 use Rattle.test_rooms.specs.OnePass.{Computes, ran, below, seen, one_pass, due, by-computing}
+use Rattle.refusal.specs.declared.Refusal.TheVariants.{TooManyBins}
 
 -- the case
 unfoldable pub file : List ℕ
@@ -19,8 +20,8 @@ requests =
     bytes 8 ([])
 
 -- what the job gives
-unfoldable pub expected : Result Printed
-expected = refused 19
+unfoldable pub expected : Refusable Printed
+expected = Err TooManyBins
 
 -- computed in one pass
 computed : Computes file requests (lends 16384 8192 16384 8192) expected

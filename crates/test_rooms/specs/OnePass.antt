@@ -1,10 +1,10 @@
 -- How a room is computed. `outcome` walks the tree of a job for its answer and again for its cells, over the buffers that are lent; here both come of one
 -- pass, without the buffers.
-use Rattle.std.specs.Prelude.{ℕ, ◌≡◌, refl, Bool, true, false, ◌&&◌, List, [], ◌∷◌, ◌++◌, ltb, length, drop, set, replicate}
+use Rattle.std.specs.Prelude.{ℕ, ◌≡◌, refl, Bool, true, false, ◌&&◌, List, [], ◌∷◌, ◌++◌, ltb, length, drop, set, replicate, Ok, Err}
 use Rattle.std.proofs.Common.{ap, ◌∙◌, length-set, ltb-true}
 use Rattle.std.proofs.lemmas.List.{length-replicate, set-append_left}
 use Rattle.reading.specs.declared.Values.{Values}
-use Rattle.reading.specs.Result.{Result, refused, fine}
+use Rattle.reading.specs.Result.{Refusable}
 use Rattle.reading.specs.Asks.{Asks, give, ask, run, reads}
 use Rattle.reading.specs.Marks.{mark_all}
 use Rattle.reading.specs.After.{done}
@@ -34,17 +34,17 @@ unfoldable pub seen : ℕ → Printed → Bool → Seen
 seen cells p inside = record { words = p.words; marks = mark_all (replicate cells 0) p.cells; inside = inside }
 
 -- a job in one pass
-unfoldable pub one_pass : ℕ → Result (Asks (List ℕ)) → (ℕ → Values) → Result Seen
-one_pass cells (refused k) f = refused k
-one_pass cells (fine t) f = let r = ran t f in fine (seen cells r (below cells r.cells))
+unfoldable pub one_pass : ℕ → Refusable (Asks (List ℕ)) → (ℕ → Values) → Refusable Seen
+one_pass cells (Err k) f = Err k
+one_pass cells (Ok t) f = let r = ran t f in Ok (seen cells r (below cells r.cells))
 
 -- what is to be seen
-unfoldable pub due : ℕ → Result Printed → Result Seen
-due cells (refused k) = refused k
-due cells (fine p) = fine (seen cells p true)
+unfoldable pub due : ℕ → Refusable Printed → Refusable Seen
+due cells (Err k) = Err k
+due cells (Ok p) = Ok (seen cells p true)
 
 -- the one pass gives what is told: this is computed
-pub record Computes (file requests : List ℕ) (lent : Lent) (p : Result Printed) : Type 0 where
+pub record Computes (file requests : List ℕ) (lent : Lent) (p : Refusable Printed) : Type 0 where
   pub pass : one_pass (cells_of file) (job_of (outside file) requests lent) (values_of file) ≡ due (cells_of file) p
 
 -- ---- then the room is known
@@ -77,14 +77,14 @@ marks-inside (i ∷ l) m rest e =
 
 -- a job whose pass gives what is told ends as told
 ends_so
-    : (j : Result (Asks (List ℕ))) (f : ℕ → Values) (cells : ℕ) (p : Result Printed) (answers marks : List ℕ)
+    : (j : Refusable (Asks (List ℕ))) (f : ℕ → Values) (cells : ℕ) (p : Refusable Printed) (answers marks : List ℕ)
     → one_pass cells j f ≡ due cells p
     → done j f cells answers marks ≡ end_of p cells answers marks
 unfolding done end_of one_pass due seen
-ends_so (refused k) f cells (refused l) answers marks e = cc
-ends_so (refused k) f cells (fine p) answers marks e = cc
-ends_so (fine t) f cells (refused l) answers marks e = cc
-ends_so (fine t) f cells (fine p) answers marks e =
+ends_so (Err k) f cells (Err l) answers marks e = cc
+ends_so (Err k) f cells (Ok p) answers marks e = cc
+ends_so (Ok t) f cells (Err l) answers marks e = cc
+ends_so (Ok t) f cells (Ok p) answers marks e =
     let s : seen cells (ran t f) (below cells (ran t f).cells) ≡ seen cells p true = cc in
     let w : (ran t f).words ≡ p.words = ap (λ (x : Seen). x.words) s in
     let b : mark_all (replicate cells 0) (ran t f).cells ≡ mark_all (replicate cells 0) p.cells = ap (λ (x : Seen). x.marks) s in
@@ -95,7 +95,7 @@ ends_so (fine t) f cells (fine p) answers marks e =
     rw (ran-words t f, ran-cells t f, w, m, b)
 
 -- a room that is computed is known
-pub by-computing : {file requests : List ℕ} {lent : Lent} {p : Result Printed} → Computes file requests lent p → Known file requests lent p
+pub by-computing : {file requests : List ℕ} {lent : Lent} {p : Refusable Printed} → Computes file requests lent p → Known file requests lent p
 unfolding outcome
 by-computing {file} {requests} {lent} {p} e =
     record {

@@ -1,7 +1,7 @@
 -- Two prisms, a section (corpus/984 request 23 kinds (3, 3) code 5 -> 0)
-use Rattle.std.specs.Prelude.{ℕ, refl, List, [], ◌∷◌, ◌++◌}
+use Rattle.std.specs.Prelude.{ℕ, refl, List, [], ◌∷◌, ◌++◌, Ok}
 use Rattle.test_rooms.specs.Computing.{computing}
-use Rattle.reading.specs.Result.{Result, fine}
+use Rattle.reading.specs.Result.{Refusable}
 use Rattle.test_rooms.specs.Printed.{Printed, Known, bytes, bytes_from, lends}
 use Rattle.test_rooms.specs.OnePass.{Computes, ran, below, seen, one_pass, due, by-computing}
 
@@ -19,9 +19,9 @@ requests =
     bytes 8 (5 ∷ 0x40133bf4b81e8ff0 ∷ 0 ∷ 0 ∷ 0x3fe18d12a29f50fc ∷ 0x3fb4d799cf78c245 ∷ 0x3feaa15b0da8a06c ∷ 0x3fda8f8d76ae370c ∷ 0x3feaccdb83bc8da5 ∷ 0xbfd6bfc054f804e4 ∷ 0 ∷ 0 ∷ 0 ∷ 0 ∷ 0 ∷ 0 ∷ [])
 
 -- what the job gives
-unfoldable pub expected : Result Printed
+unfoldable pub expected : Refusable Printed
 expected =
-    fine
+    Ok
     (record {
       words = 0 ∷ 1 ∷ 0 ∷ [];
       cells = [];

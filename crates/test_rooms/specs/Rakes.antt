@@ -1,7 +1,7 @@
 -- Pair: rakes with -0 and huge heights, and the refusals 32 to 35
-use Rattle.std.specs.Prelude.{ℕ, refl, List, [], ◌∷◌, ◌++◌}
+use Rattle.std.specs.Prelude.{ℕ, refl, List, [], ◌∷◌, ◌++◌, Ok}
 use Rattle.test_rooms.specs.Computing.{computing}
-use Rattle.reading.specs.Result.{Result, fine}
+use Rattle.reading.specs.Result.{Refusable}
 use Rattle.test_rooms.specs.Printed.{Printed, Known, bytes, bytes_from, lends}
 use Rattle.test_rooms.specs.OnePass.{Computes, ran, below, seen, one_pass, due, by-computing}
 
@@ -19,9 +19,9 @@ requests =
     bytes 8 (4 ∷ 0x3fd0000000000000 ∷ 0x3fd0000000000000 ∷ 0x8000000000000000 ∷ 0x3fd0000000000000 ∷ 0x3fe8000000000000 ∷ 0x8000000000000000 ∷ 2 ∷ 0 ∷ 0x3fb999999999999a ∷ 1 ∷ 0x3fe0000000000000 ∷ 0 ∷ 0 ∷ 0 ∷ 0 ∷ 4 ∷ 0x3fd0000000000000 ∷ 0x3fd0000000000000 ∷ 0x7fe1ccf385ebc8a0 ∷ 0x3fd0000000000000 ∷ 0x3fe8000000000000 ∷ 0xffe1ccf385ebc8a0 ∷ 3 ∷ 0 ∷ 0x3fb999999999999a ∷ 1 ∷ 0x3fe0000000000000 ∷ 0 ∷ 0 ∷ 0 ∷ 0 ∷ 4 ∷ 0x3fd0000000000000 ∷ 0x3fd0000000000000 ∷ 0 ∷ 0x3fd0000000000000 ∷ 0x3fe8000000000000 ∷ 0 ∷ 1 ∷ 0 ∷ 0x3fb999999999999a ∷ 1 ∷ 0x3fe0000000000000 ∷ 0 ∷ 0 ∷ 0 ∷ 0 ∷ 4 ∷ 0x3fd0000000000000 ∷ 0x3fd0000000000000 ∷ 0 ∷ 0x3fd0000000000000 ∷ 0x3fe8000000000000 ∷ 0 ∷ 0x41 ∷ 0 ∷ 0x3fb999999999999a ∷ 1 ∷ 0x3fe0000000000000 ∷ 0 ∷ 0 ∷ 0 ∷ 0 ∷ 4 ∷ 0x3fd0000000000000 ∷ 0x3fd0000000000000 ∷ 0 ∷ 0x3fd0000000000000 ∷ 0x3fe8000000000000 ∷ 0 ∷ 1 ∷ 0 ∷ 0x3fb999999999999a ∷ 0x10001 ∷ 0x3fe0000000000000 ∷ 0 ∷ 0 ∷ 0 ∷ 0 ∷ 4 ∷ 0x3fd0000000000000 ∷ 0x3fd0000000000000 ∷ 0 ∷ 0x3fd0000000000000 ∷ 0x3fe8000000000000 ∷ 0 ∷ 2 ∷ 0 ∷ 0x3fb999999999999a ∷ 0 ∷ 0x3fe0000000000000 ∷ 0 ∷ 0 ∷ 0 ∷ 0 ∷ 4 ∷ 0x3fd0000000000000 ∷ 0x3fd0000000000000 ∷ 0 ∷ 0x3fd0000000000000 ∷ 0x3fe8000000000000 ∷ 0 ∷ 2 ∷ 0 ∷ 0x7ff8000000000000 ∷ 5 ∷ 0x3fe0000000000000 ∷ 0 ∷ 0 ∷ 0 ∷ 0 ∷ 4 ∷ 0x3fd0000000000000 ∷ 0x3fe0000000000000 ∷ 0 ∷ 0x3ffc000000000000 ∷ 0x3fe0000000000000 ∷ 0 ∷ 2 ∷ 0 ∷ 0x3fb999999999999a ∷ 5 ∷ 0x3fe0000000000000 ∷ 0 ∷ 0 ∷ 0 ∷ 0 ∷ [])
 
 -- what the job gives
-unfoldable pub expected : Result Printed
+unfoldable pub expected : Refusable Printed
 expected =
-    fine
+    Ok
     (record {
       words = 0 ∷ 0xf ∷ 2 ∷ 2 ∷ 0x3fd0000000000000 ∷ 0x3fd0000000000000 ∷ 0 ∷ 0x3fd6666666666666 ∷ 0x3fd0000000000000 ∷ 0 ∷ 2 ∷ 0x3fd0000000000000 ∷ 0x3fe8000000000000 ∷ 0 ∷ 0x3fd6666666666666 ∷ 0x3fe8000000000000 ∷ 0 ∷ 0 ∷ 0xd ∷ 3 ∷ 1 ∷ 0x3fd0000000000000 ∷ 0x3fd0000000000000 ∷ 0x7ff8000000000000 ∷ 1 ∷ 0x3fd0000000000000 ∷ 0x3fe0000000000000 ∷ 0xfff0000000000000 ∷ 1 ∷ 0x3fd0000000000000 ∷ 0x3fe8000000000000 ∷ 0xfff0000000000000 ∷ 0x20 ∷ 0 ∷ 0x21 ∷ 0 ∷ 0x20 ∷ 0 ∷ 0x22 ∷ 0 ∷ 0x22 ∷ 0 ∷ 0x23 ∷ 0 ∷ [];
       cells = 0 ∷ 1 ∷ [];

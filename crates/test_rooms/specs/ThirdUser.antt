@@ -1,9 +1,10 @@
 -- The same square three times: 14
-use Rattle.std.specs.Prelude.{ℕ, refl, List, [], ◌∷◌, ◌++◌}
+use Rattle.std.specs.Prelude.{ℕ, refl, List, [], ◌∷◌, ◌++◌, Err}
 use Rattle.test_rooms.specs.Computing.{computing}
-use Rattle.reading.specs.Result.{Result, refused}
+use Rattle.reading.specs.Result.{Refusable}
 use Rattle.test_rooms.specs.Printed.{Printed, Known, bytes, bytes_from, lends}
 use Rattle.test_rooms.specs.OnePass.{Computes, ran, below, seen, one_pass, due, by-computing}
+use Rattle.refusal.specs.declared.Refusal.TheVariants.{ThirdUser}
 
 -- the case
 unfoldable pub file : List ℕ
@@ -19,8 +20,8 @@ requests =
     bytes 8 ([])
 
 -- what the job gives
-unfoldable pub expected : Result Printed
-expected = refused 14
+unfoldable pub expected : Refusable Printed
+expected = Err ThirdUser
 
 -- computed in one pass
 computed : Computes file requests (lends 16384 8192 16384 8192) expected

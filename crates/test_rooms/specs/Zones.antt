@@ -1,7 +1,7 @@
 -- Pair in edition 2, with zones 7 and 255: a line that ends at their border, a rake from both sides of it, and a sheet from a seed on it
-use Rattle.std.specs.Prelude.{ℕ, refl, List, [], ◌∷◌, ◌++◌}
+use Rattle.std.specs.Prelude.{ℕ, refl, List, [], ◌∷◌, ◌++◌, Ok}
 use Rattle.test_rooms.specs.Computing.{computing}
-use Rattle.reading.specs.Result.{Result, fine}
+use Rattle.reading.specs.Result.{Refusable}
 use Rattle.test_rooms.specs.Printed.{Printed, Known, bytes, bytes_from, lends}
 use Rattle.test_rooms.specs.OnePass.{Computes, ran, below, seen, one_pass, due, by-computing}
 
@@ -19,9 +19,9 @@ requests =
     bytes 8 (3 ∷ 0x3fe0000000000000 ∷ 0x3fe0000000000000 ∷ 0 ∷ 0 ∷ 0x3fd0000000000000 ∷ 0xa ∷ 0x4008000000000000 ∷ 0 ∷ 0 ∷ 0 ∷ 0 ∷ 0 ∷ 0 ∷ 0 ∷ 0 ∷ 0xc ∷ 0x3fe8000000000000 ∷ 0x3fe0000000000000 ∷ 0 ∷ 0x3ff4000000000000 ∷ 0x3fe0000000000000 ∷ 0 ∷ 2 ∷ 1 ∷ 0x3fc0000000000000 ∷ 4 ∷ 0x4008000000000000 ∷ 0 ∷ 0 ∷ 0 ∷ 0 ∷ 0xd ∷ 0x3ff0000000000000 ∷ 0x3fe0000000000000 ∷ 0 ∷ 0 ∷ 0x3fd0000000000000 ∷ 0xa ∷ 0x4008000000000000 ∷ 0 ∷ 0 ∷ 0 ∷ 0 ∷ 0 ∷ 0 ∷ 0 ∷ 0 ∷ [])
 
 -- what the job gives
-unfoldable pub expected : Result Printed
+unfoldable pub expected : Refusable Printed
 expected =
-    fine
+    Ok
     (record {
       words = 0 ∷ 0xa ∷ 3 ∷ 0x3fe0000000000000 ∷ 0x3fe0000000000000 ∷ 0 ∷ 0x3fe8000000000000 ∷ 0x3fe0000000000000 ∷ 0 ∷ 0x3ff0000000000000 ∷ 0x3fe0000000000000 ∷ 0 ∷ 0 ∷ 0x18 ∷ 2 ∷ 5 ∷ 0x3fe8000000000000 ∷ 0x3fe0000000000000 ∷ 0 ∷ 0x3fe4000000000000 ∷ 0x3fe0000000000000 ∷ 0 ∷ 0x3fe0000000000000 ∷ 0x3fe0000000000000 ∷ 0 ∷ 0x3fd8000000000000 ∷ 0x3fe0000000000000 ∷ 0 ∷ 0x3fd0000000000000 ∷ 0x3fe0000000000000 ∷ 0 ∷ 2 ∷ 0x3ff4000000000000 ∷ 0x3fe0000000000000 ∷ 0 ∷ 0x3ff2000000000000 ∷ 0x3fe0000000000000 ∷ 0 ∷ 0 ∷ 3 ∷ 1 ∷ 0x3e8 ∷ 0x1f4 ∷ [];
       cells = 0 ∷ 1 ∷ [];

@@ -3,10 +3,10 @@ use Rattle.answers.specs.Words.{vec_words}
 use Rattle.job_serve.specs.Serve.{velocity_words}
 use Rattle.job_serve.proofs.put_velocity.Goals as goal
 
-pub returns-in-Here : goal.returns-in-Here
+pub returns-in-Some : goal.returns-in-Some
 unfolding velocity_words
-returns-in-Here c = rw (c.in-Here.is, c.put_vec.ensures, c.put.ensures)
+returns-in-Some c = rw (c.in-Some.is, c.put_vec.ensures, c.put.ensures)
 
-pub returns-in-Nowhere : goal.returns-in-Nowhere
+pub returns-in-None : goal.returns-in-None
 unfolding velocity_words vec_words
-returns-in-Nowhere c = rw (c.in-Nowhere.is, c.put_vec-in-Nowhere.ensures, c.new.ensures, c.put-in-Nowhere.ensures, no_word)
+returns-in-None c = rw (c.in-None.is, c.put_vec-in-None.ensures, c.new.ensures, c.put-in-None.ensures, no_word)

@@ -1,5 +1,6 @@
-use mathlib.Core.Path.{refl, sym}
+use mathlib.Core.Path.{refl, sym, ◌∙◌}
 use native.Mathlib.Omega.{arith}
+use Rattle.std.proofs.lemmas.Result.{err_from_is_err_and}
 use Rattle.case_file.specs.Trailer.{words_from}
 use Rattle.case_file.proofs.TrailerLaws.{opens}
 use Rattle.case_definitions.proofs.Walking.{length-definitions}
@@ -8,11 +9,13 @@ use Rattle.mesh.proofs.Laws.{from-refused, from-filled, built-as, barred}
 use borrow.Author.Rules.{rules}
 use Rattle.mesh.proofs.build.Goals as goal
 
-pub unacceptable-k-requires : goal.unacceptable-k-requires
-unacceptable-k-requires c = let o = opens _ _ c.requires.opens in record { few = o.points; long = omega arith }
+pub accept-requires : goal.accept-requires
+accept-requires c = let o = opens _ _ c.requires.opens in record { few = o.points; long = omega arith }
 
-pub returns-then-k-ne0 : goal.returns-then-k-ne0
-returns-then-k-ne0 c = λ defs e. barred (from-refused _ defs _ _ (c.unacceptable-k.ensures defs (length-definitions _ _ _ e)) c.if-k-ne0.true)
+pub returns-in_err-accept : goal.returns-in_err-accept
+returns-in_err-accept c =
+    let p = err_from_is_err_and c.from_residual.result c.from_residual.ensures.1 in
+    rw (p.1, p.2) (λ defs e. barred (from-refused _ defs _ _ (sym c.in_err-accept.was ∙ c.accept.ensures defs (length-definitions _ _ _ e))))
 
 pub words-ws-requires : goal.words-ws-requires
 unfolding words_from
@@ -38,5 +41,5 @@ fill-requires c =
 
 pub returns : goal.returns
 returns c = λ defs e.
-    built-as (sym (from-filled _ defs _ _ (c.unacceptable-k.ensures defs (length-definitions _ _ _ e)) c.if-k-ne0.false)) refl
+    built-as (sym (from-filled _ defs _ (sym c.in_ok-accept.was ∙ c.accept.ensures defs (length-definitions _ _ _ e)))) refl
     (c.fill.ensures defs (rw (words_same _ _ c.requires.opens _ c.words-ws.ensures) e))

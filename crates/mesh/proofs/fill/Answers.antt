@@ -1,4 +1,5 @@
 use mathlib.Core.Path.{refl, ap, ◌∙◌}
+use Rattle.std.proofs.lemmas.Result.{err_from_is_err_and}
 use Rattle.mesh_centres.proofs.HeldLaws.{held-finishable}
 use Rattle.mesh.specs.Mesh.{completed}
 use Rattle.mesh.proofs.Laws.{adding-refused, adding-faces, held-is, held-sized, lent-words, lent-floats, filled-refused, filled-fine, built-as, barred}
@@ -8,7 +9,7 @@ use Rattle.mesh.proofs.fill.Goals as goal
 pub complete-requires : goal.complete-requires
 complete-requires c =
     let p = c.requires in
-    let a = adding-faces _ (c.add_cells.ensures p.defs p.right) c.in-Faces.is in
+    let a = adding-faces _ (c.add_cells.ensures p.defs p.right) c.in_ok-faces.was in
     let h = held-sized _ _ _ _ _ _ a.held in
     record {
       finishable =
@@ -19,10 +20,12 @@ complete-requires c =
       vertices = a.held.vertices;
     }
 
-pub returns-in-Refused : goal.returns-in-Refused
-returns-in-Refused c = λ defs e. barred (filled-refused _ defs _ _ (adding-refused _ (c.add_cells.ensures defs e) c.in-Refused.is))
+pub returns-in_err-faces : goal.returns-in_err-faces
+returns-in_err-faces c =
+    let p = err_from_is_err_and c.from_residual.result c.from_residual.ensures.1 in
+    rw (p.1, p.2) (λ defs e. barred (filled-refused _ defs _ _ (adding-refused _ (c.add_cells.ensures defs e) c.in_err-faces.was)))
 
-pub returns-in-Faces : goal.returns-in-Faces
-returns-in-Faces c = λ defs e.
-    let a = adding-faces _ (c.add_cells.ensures defs e) c.in-Faces.is in
+pub returns : goal.returns
+returns c = λ defs e.
+    let a = adding-faces _ (c.add_cells.ensures defs e) c.in_ok-faces.was in
     built-as (ap (completed _ _) (held-is _ _ _ _ _ _ a.held) ∙ filled-fine _ defs _ _ a.partial) refl c.complete.ensures

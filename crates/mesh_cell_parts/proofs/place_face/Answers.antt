@@ -12,10 +12,10 @@ pub overflow_add-result : goal.overflow_add-result
 overflow_add-result c = let p = c.requires.0 in omega (arith, p.space, p.lent-words.few-slots)
 
 pub returns-in-New : goal.returns-in-New
-returns-in-New c = place-new _ _ _ _ _ _ _ _ _ c.oriented_face-turned.ensures _ c.in-Face.is _ _ _ c.use_face-added.ensures _ c.in-New.is
+returns-in-New c = place-new _ _ _ _ _ _ _ _ _ c.oriented_face-turned.ensures _ c.in-Some.is _ _ _ c.use_face-added.ensures _ c.in-New.is
 
 pub returns-in-Second : goal.returns-in-Second
-returns-in-Second c = place-second _ _ _ _ _ _ _ _ _ c.oriented_face-turned.ensures _ c.in-Face.is _ _ _ c.use_face-added.ensures _ c.in-Second.is
+returns-in-Second c = place-second _ _ _ _ _ _ _ _ _ c.oriented_face-turned.ensures _ c.in-Some.is _ _ _ c.use_face-added.ensures _ c.in-Second.is
 
 pub returns-in-Third : goal.returns-in-Third
-returns-in-Third c = place-third _ _ _ _ _ _ _ _ _ c.oriented_face-turned.ensures _ c.in-Face.is _ _ _ c.use_face-added.ensures c.in-Third.is
+returns-in-Third c = place-third _ _ _ _ _ _ _ _ _ c.oriented_face-turned.ensures _ c.in-Some.is _ _ _ c.use_face-added.ensures c.in-Third.is

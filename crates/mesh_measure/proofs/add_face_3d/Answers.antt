@@ -13,14 +13,14 @@ slice_bounds-add_turned-end c = simp length-take (omega arith)
 pub add_turned-requires : goal.add_turned-requires
 add_turned-requires c = record { point_bytes = search rules; vertices_len_bound = simp length-take (omega arith) }
 
-pub returns-in-Degenerate : goal.returns-in-Degenerate
+pub returns-in_err-sum : goal.returns-in_err-sum
 unfolding weight_of
-returns-in-Degenerate c =
+returns-in_err-sum c =
     let k = c.copy_face-copied.ensures in
-    degenerate (ap (add_face_3d _ _ _) (sym k.front) ∙ sym c.add_turned.ensures ∙ ap weight_of c.in-Degenerate.is)
+    rw c.from_residual.ensures (degenerate (ap (add_face_3d _ _ _) (sym k.front) ∙ sym c.add_turned.ensures ∙ ap weight_of c.in_err-sum.was))
 
-pub returns-in-Sum : goal.returns-in-Sum
+pub returns : goal.returns
 unfolding weight_of
-returns-in-Sum c =
+returns c =
     let k = c.copy_face-copied.ensures in
-    added (ap (add_face_3d _ _ _) (sym k.front) ∙ sym c.add_turned.ensures ∙ ap weight_of c.in-Sum.is) (record { face = next-number _ _ _ _ k.follows; at-face = k.goes })
+    added (ap (add_face_3d _ _ _) (sym k.front) ∙ sym c.add_turned.ensures ∙ ap weight_of c.in_ok-sum.was) (record { face = next-number _ _ _ _ k.follows; at-face = k.goes })

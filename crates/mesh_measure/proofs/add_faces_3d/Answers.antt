@@ -7,6 +7,7 @@ use Rattle.reading.specs.Result.{steps}
 use Rattle.mesh_measure.proofs.Laws.{steps_on, steps-stop, faces_at-end, fan-degenerate, fan-sum, fan-next}
 use borrow.Author.Rules.{rules}
 use Rattle.mesh_measure.proofs.add_faces_3d.Goals as goal
+use Rattle.refusal.specs.declared.Refusal.TheVariants.{NoVolume}
 
 pub loop-init : goal.loop-init
 loop-init c =
@@ -18,20 +19,20 @@ add_face_3d-requires c =
     let more : c.loop.c.face < c.args.h.faces = omega arith in
     record { point_bytes = search rules; face_entry = record { at-face = c.loop.invariant.0; more = more } }
 
-pub returns-in_default : goal.returns-in_default
+pub returns-in_err-t : goal.returns-in_err-t
 unfolding weight_of
-returns-in_default c =
+returns-in_err-t c =
     let i = c.loop.invariant in
     let more : c.loop.c.face < c.args.h.faces = omega arith in
-    let e = fan-degenerate c.add_face_3d.ensures c.in_default.is in
-    sym (steps-stop _ _ c.requires.head_at _ more _ _ 15 e) ∙ i.2
+    let e = fan-degenerate c.add_face_3d.ensures c.in_err-t.was in
+    rw c.from_residual.ensures (sym (steps-stop _ _ c.requires.head_at _ more _ _ NoVolume e) ∙ i.2)
 
 pub loop-preserved : goal.loop-preserved
 loop-preserved c =
     let i = c.loop.invariant in
     let more : c.loop.c.face < c.args.h.faces = omega arith in
-    let e = fan-sum _ c.add_face_3d.ensures c.in-Added.is in
-    let n = fan-next _ c.add_face_3d.ensures c.in-Added.is in
+    let e = fan-sum _ c.add_face_3d.ensures c.in_ok-t.was in
+    let n = fan-next _ c.add_face_3d.ensures c.in_ok-t.was in
     (n.at-face, rw n.face (omega arith), rw n.face (sym (steps_on _ _ c.requires.head_at _ more _ _ _ e) ∙ i.2))
 
 pub returns : goal.returns

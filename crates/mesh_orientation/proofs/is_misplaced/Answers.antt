@@ -17,22 +17,22 @@ returns-then-behind c =
     let owner = c.centre_of.ensures words ∙ ap (λ (o : ℕ). (cell_at (cells_in a.s words floats) o).centre) (c.owner_of-owner.ensures.0 floats) in
     c.if-behind.true ∙ owner-behind (cells_in a.s words floats) _ _ _ _ centre normal owner (sym c.behind.ensures ∙ c.if-behind.true)
 
-pub returns-in-Nothing : goal.returns-in-Nothing
-returns-in-Nothing c =
+pub returns-in-None : goal.returns-in-None
+returns-in-None c =
     let a = c.args in
     let words = a.words.now in
     let floats = a.floats.now in
     let centre = c.face_centre-centre.ensures words in
     let normal = c.face_normal-normal.ensures words in
     let owner = c.centre_of.ensures words ∙ ap (λ (o : ℕ). (cell_at (cells_in a.s words floats) o).centre) (c.owner_of-owner.ensures.0 floats) in
-    alone (cells_in a.s words floats) _ _ _ _ centre normal owner (sym c.behind.ensures ∙ c.if-behind.false) (sym (c.in-Nothing.ensures floats))
+    alone (cells_in a.s words floats) _ _ _ _ centre normal owner (sym c.behind.ensures ∙ c.if-behind.false) (sym (c.in-None.ensures floats))
 
-pub returns-in-At : goal.returns-in-At
-returns-in-At c =
+pub returns-in-Some : goal.returns-in-Some
+returns-in-Some c =
     let a = c.args in
     let words = a.words.now in
     let floats = a.floats.now in
     let centre = c.face_centre-centre.ensures words in
     let normal = c.face_normal-normal.ensures words in
     let owner = c.centre_of.ensures words ∙ ap (λ (o : ℕ). (cell_at (cells_in a.s words floats) o).centre) (c.owner_of-owner.ensures.0 floats) in
-    between (cells_in a.s words floats) _ _ _ _ centre normal owner _ _ (sym c.behind.ensures ∙ c.if-behind.false) (sym (c.in-At.ensures floats)) (c.behind-in-At.ensures ∙ ap (λ (p : Vec3). behind p c.face_centre-centre.result c.face_normal-normal.result) (c.centre_of-in-At.ensures words))
+    between (cells_in a.s words floats) _ _ _ _ centre normal owner _ _ (sym c.behind.ensures ∙ c.if-behind.false) (sym (c.in-Some.ensures floats)) (c.behind-in-Some.ensures ∙ ap (λ (p : Vec3). behind p c.face_centre-centre.result c.face_normal-normal.result) (c.centre_of-in-Some.ensures words))

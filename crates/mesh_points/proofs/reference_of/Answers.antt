@@ -1,32 +1,23 @@
 use native.Mathlib.Omega.{arith}
-use lib.ListN.{length-take}
-use lib.Seq.{length-take-le}
-use mathlib.Core.Path.{sym}
+use mathlib.Core.Path.{◌≡◌}
+use Rattle.std.specs.Prelude.{Some, None}
+use Rattle.std.proofs.lemmas.Result.{err_from_is_err_and}
+use Rattle.refusal.specs.declared.Refusal.TheVariants.{NoSuchPoint}
 use Rattle.mesh_area.proofs.LayoutLaws.{length-points}
-use Rattle.mesh_numbers.proofs.Laws.{collect-few}
 use Rattle.mesh_points.proofs.CollectLaws.{checked-kind, checked-missing, checked-point}
-use borrow.Author.Rules.{rules}
 use Rattle.mesh_points.proofs.reference_of.Goals as goal
 
 pub returns-then-wrong_kind : goal.returns-then-wrong_kind
 returns-then-wrong_kind c = checked-kind _ _ _ _ (c.wrong_kind.ensures _ c.requires.0) c.if-wrong_kind.true
 
-pub returns-in_default : goal.returns-in_default
-returns-in_default c =
-    checked-missing _ _ _ _ (c.wrong_kind.ensures _ c.requires.0) c.if-wrong_kind.false _ _ _ (length-points _ _) c.unique_vertices.ensures c.in_default.is
-
-pub slice_bounds-numbers-end : goal.slice_bounds-numbers-end
-slice_bounds-numbers-end c = omega (arith, collect-few _ _ _ _ _ _ _ c.unique_vertices.ensures c.in-Numbers.is)
-
-pub slice_bounds-average_point-end : goal.slice_bounds-average_point-end
-slice_bounds-average_point-end c =
-    sym (length-take-le _ _ (omega (arith, collect-few _ _ _ _ _ _ _ c.unique_vertices.ensures c.in-Numbers.is)))
-
-pub average_point-requires : goal.average_point-requires
-average_point-requires c =
-    let few = collect-few _ _ _ _ _ _ _ c.unique_vertices.ensures c.in-Numbers.is in
-    (search rules, search rules, simp length-take (omega arith))
+pub returns-in_err-n : goal.returns-in_err-n
+returns-in_err-n c =
+    let p = err_from_is_err_and c.from_residual.result c.from_residual.ensures.1 in
+    let none : c.unique_vertices.result ≡ None = grind arith in
+    let missing : c.in_err-n.field-0.0 ≡ NoSuchPoint = grind arith in
+    rw (p.1, p.2, missing) (checked-missing _ _ _ _ (c.wrong_kind.ensures _ c.requires.0) c.if-wrong_kind.false _ _ _ (length-points _ _) c.unique_vertices.ensures none)
 
 pub returns : goal.returns
 returns c =
-    checked-point _ _ _ _ (c.wrong_kind.ensures _ c.requires.0) c.if-wrong_kind.false _ _ _ (length-points _ _) c.unique_vertices.ensures _ _ c.in-Numbers.is c.average_point.ensures
+    let some : c.unique_vertices.result ≡ Some c.in_ok-n.n = grind arith in
+    checked-point _ _ _ _ (c.wrong_kind.ensures _ c.requires.0) c.if-wrong_kind.false _ _ _ (length-points _ _) c.unique_vertices.ensures _ _ some c.average_point.ensures

@@ -7,4 +7,4 @@ use Rattle.test_case_refusals.proofs.read.Goals as goal
 -- `test_case_refusals::read` is safe: a case that opened has its definition words. Assumes nothing.
 pub words-requires : goal.words-requires
 unfolding words_from
-words-requires c = omega (arith, (opens _ _ (sym c.in-Case.ensures)).whole)
+words-requires c = omega (arith, (opens _ _ (sym c.in_ok-n.ensures)).whole)

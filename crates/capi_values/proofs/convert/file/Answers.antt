@@ -1,11 +1,10 @@
-use Rattle.case_writer.specs.Ensures.{length_of}
 use Rattle.capi_values.specs.Convert.{file_told}
 use Rattle.capi_values.proofs.convert.file.Goals as goal
 
-pub returns-in-Length : goal.returns-in-Length
-unfolding file_told length_of
-returns-in-Length c = rw c.in-Length.is
+pub returns-in-Ok : goal.returns-in-Ok
+unfolding file_told
+returns-in-Ok c = rw c.in-Ok.is
 
-pub returns-in-Refused : goal.returns-in-Refused
-unfolding file_told length_of
-returns-in-Refused c = rw c.in-Refused.is
+pub returns-in-Err : goal.returns-in-Err
+unfolding file_told
+returns-in-Err c = rw (c.in-Err.is, c.number.ensures)

@@ -3,10 +3,11 @@ use Rattle.lines.specs.Line.{integrate}
 use mathlib.Core.Path.{refl, sym, ◌∙◌}
 use native.Mathlib.Omega.{arith}
 use Rattle.lines.proofs.integrate.integrate.Goals as goal
+use Rattle.refusal.specs.declared.Refusal.TheVariants.{SeedNowhere, WrongOptions}
 
 pub returns-then-is_nowhere : goal.returns-then-is_nowhere
 unfolding integrate
-returns-then-is_nowhere c = answered-refused 35 (is_lost _ _ c.are_accepted.ensures c.if-are_accepted.true (c.is_nowhere.ensures _) c.if-is_nowhere.true)
+returns-then-is_nowhere c = answered-refused SeedNowhere (is_lost _ _ c.are_accepted.ensures c.if-are_accepted.true (c.is_nowhere.ensures _) c.if-is_nowhere.true)
 
 pub trace-count-requires : goal.trace-count-requires
 trace-count-requires c =
@@ -23,4 +24,4 @@ returns-then-are_accepted c =
 
 pub returns : goal.returns
 unfolding integrate
-returns c = answered-refused 34 (not_good _ _ c.are_accepted.ensures c.if-are_accepted.false)
+returns c = answered-refused WrongOptions (not_good _ _ c.are_accepted.ensures c.if-are_accepted.false)

@@ -1,6 +1,6 @@
 use mathlib.Core.Path.{sym, ◌∙◌}
 use Rattle.mesh_coordinates.proofs.Laws.{accept-8, accept-9, accept-10, accept-all}
-use Rattle.mesh_coordinates.proofs.unacceptable.Goals as goal
+use Rattle.mesh_coordinates.proofs.accept.Goals as goal
 
 pub returns-then-n-eq0 : goal.returns-then-n-eq0
 returns-then-n-eq0 c = λ defs e. accept-8 _ defs (e ∙ c.if-n-eq0.true)
