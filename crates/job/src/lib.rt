@@ -43,7 +43,8 @@ fn answer(
     answers: &mut [u64],
     at: usize,
 ) -> usize
-    requires room_stands { RoomStands case.now words.now floats.now place × ((counts_in place).cells ≤ length marks.old) }
+    requires room_stands { RoomStands case.now words.now floats.now place
+        × ((counts_in place).cells ≤ length marks.old) }
     requires i_in_bounds { (i < length requests.now / 128)
         × (at + 2 + 2 * later_than requests.now i ≤ length answers.old) }
     ensures { ServeAllExit (answer_to (room_in case.now words.now floats.now
@@ -67,7 +68,8 @@ fn serve_all(
     marks: &mut [u8],
     answers: &mut [u64],
 ) -> usize
-    requires room_stands { RoomStands case.now words.now floats.now place × ((counts_in place).cells ≤ length marks.old) }
+    requires room_stands { RoomStands case.now words.now floats.now place
+        × ((counts_in place).cells ≤ length marks.old) }
     requires requests_in_bounds { 2 * (length requests.now / 128) ≤ length answers.old }
     ensures { ServeAllExit (serve_all (room_in case.now words.now floats.now
         place) (length answers.old) (requests_in requests.now)) (values_of case.now)
@@ -90,7 +92,8 @@ fn run(
     marks: &mut [u8],
     answers: &mut [u64],
 )
-    requires room_stands { RoomStands case.now words.now floats.now place × ((counts_in place).cells ≤ length marks.old) }
+    requires room_stands { RoomStands case.now words.now floats.now place
+        × ((counts_in place).cells ≤ length marks.old) }
     requires requests_in_bounds { 2 * (length requests.now / 128) ≤ length answers.old }
     ensures { Left (done (Ok (serve_all (room_in case.now words.now floats.now
         place) (length answers.old) (requests_in requests.now))) (values_of case.now)

@@ -235,12 +235,7 @@ pub fn from_dataset(
     put_cells(case, points, words, floats, s);
     let b = bounds::all_bounds(words, floats, s);
     let n = bins::bin_counts(s.cells, b);
-    let built = bins::grid_for(b, n);
-    match built {
-        Err(_) => {}
-        Ok(g) => {
-            bins::index_cells(words, floats, s, g);
-        }
-    }
-    built
+    let g = bins::grid_for(b, n)?;
+    bins::index_cells(words, floats, s, g);
+    Ok(g)
 }

@@ -69,8 +69,8 @@ fn add_face(
     ys: &mut [f64],
     from: usize,
 ) -> usize
-    requires points_le_most_points { (points ≤ most_points) × (24 * points ≤ length case.now) × LentWords s words.now × (from ≤ 24)
-        × (length xs.old ≡ 24) × (length ys.old ≡ 24) }
+    requires points_le_most_points { (points ≤ most_points) × (24 * points ≤ length case.now) × LentWords s words.now
+        × (from ≤ 24) × (length xs.old ≡ 24) × (length ys.old ≡ 24) }
     requires f_len_bound { length (add_vertices (mesh_in (points_in case.now points) s words.now [])
         (vertices_in xs.old ys.old from) f) ≤ 24 }
     ensures { VerticesExit (add_vertices (mesh_in (points_in case.now points) s words.now [])

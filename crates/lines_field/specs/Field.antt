@@ -31,5 +31,3 @@ unfoldable pub field_of : Mesh → Refusable StreamlineField
 field_of m =
     grid_of (length m.cells) (polygons_of m) >>= λ g.
     Ok (record { polygons = map (listed_in g) (polygons_of m); cells = m.cells; grid = g; search = Bins; zones = []; home = 0 })
-
--- what each case of the answer stands for
