@@ -4,6 +4,8 @@ use mathlib.Core.Path.{◌≡◌, refl, ap, sym}
 use mathlib.Core.Bool.{Bool, true, false}
 use mathlib.Core.List.{List}
 use lib.ListN.{length}
+use Rattle.refusal.specs.Number.{number}
+use Rattle.refusal.specs.declared.Refusal.TheVariants.{FileTooLong}
 use Rattle.reading.specs.After.{After}
 use Rattle.job_promise.specs.Promise.{JobPromise}
 use Rattle.report_parts.specs.Parts.{listing_text, is_too_long}
@@ -17,7 +19,7 @@ module _ (file requests : List ℕ) (words floats : ℕ) (answers marks : List �
       : {b : Bool}
       → b ≡ is_too_long (length file)
       → b ≡ true
-      → ended file requests words floats answers marks ≡ record { result = 20; answers = answers; marks = marks }
+      → ended file requests words floats answers marks ≡ record { result = number FileTooLong; answers = answers; marks = marks }
   unfolding ended
   case-long f h = rw (← f, h) refl
 
@@ -27,7 +29,7 @@ module _ (file requests : List ℕ) (words floats : ℕ) (answers marks : List �
       → b ≡ false
       → d ≡ is_too_long (length requests)
       → d ≡ true
-      → ended file requests words floats answers marks ≡ record { result = 20; answers = answers; marks = marks }
+      → ended file requests words floats answers marks ≡ record { result = number FileTooLong; answers = answers; marks = marks }
   unfolding ended
   requests-long f g q h = rw (← f, g, ← q, h) refl
 

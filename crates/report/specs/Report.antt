@@ -1,5 +1,7 @@
 -- 01, "The program `airjob`": what it prints for the bytes of its two files, and how it leaves the buffers that it lends. Quoted lines are 01's.
 use Rattle.std.specs.Prelude.{ℕ, ◌≡◌, cond, ◌||◌, List, length}
+use Rattle.refusal.specs.Number.{number}
+use Rattle.refusal.specs.declared.Refusal.TheVariants.{FileTooLong}
 use Rattle.reading.specs.After.{After}
 use Rattle.job_promise.specs.Job.{outcome}
 use Rattle.report_parts.specs.Parts.{listing_text, is_too_long}
@@ -9,7 +11,7 @@ use Rattle.listing.specs.Ensures.{ListingExit}
 unfoldable pub ended : List ℕ → List ℕ → ℕ → ℕ → List ℕ → List ℕ → After
 ended file requests words floats answers marks =
     cond (is_too_long (length file) || is_too_long (length requests))
-    (record { result = 20; answers = answers; marks = marks })
+    (record { result = number FileTooLong; answers = answers; marks = marks })
     (outcome file requests words floats answers marks)
 
 -- what `report` promises: the text of an end with `count` requests, and that end's answers and marks
