@@ -112,9 +112,9 @@ module _ (c : Contents) where
         by (Err k) f = let g : r ≡ k = cc in rw (f, g)
         by (Ok u) f = absurd (let z : ◌≡◌ {A = ℕ} 0 1 = cc in omega arith)
 
-    pub write-right : (before after : List ℕ) (r : Refusable ℕ) → (Ok tt) ≡ checked (writable c) → FileExit c before after r → WritePromise c before after (r)
+    pub write-right : (before after : List ℕ) (r : Refusable ℕ) → Ok tt ≡ checked (writable c) → FileExit c before after r → WritePromise c before after r
     unfolding checked written ◌>>=◌
-    write-right before after r e x = write-promise c w before after (r) (by (writable c) refl) x.output
+    write-right before after r e x = write-promise c w before after r (by (writable c) refl) x.output
       where
         by : (t : Refusable (Unit {0})) → writable c ≡ t → r ≡ written c (length before)
         by (Err k) f = absurd (let z : ◌≡◌ {A = ℕ} 0 1 = cc in omega arith)
@@ -216,6 +216,6 @@ module _ (e : ℕ) (case : List ℕ) (bytes : All (λ b. b < 256) case) where
 
 pub converts : (e : ℕ) (case : List ℕ) → All (λ b. b < 256) case → is_edition e ≡ true → ((counts_of case).edition ≡ e → ⊥) → (v : CaseSurvey) → survey_of case ≡ Ok v →
     loses_zones (in_edition e (contents_of case)) ≡ false → (before after : List ℕ) (r : Refusable ℕ) → FileExit (in_edition e (contents_of case)) before after r →
-    ConvertPromise e case before after (r)
+    ConvertPromise e case before after r
 converts e case bytes i d v g l before after r x =
-    convert-promise e case before after bytes (r) (x.answer ∙ sym (goes_on e case bytes (length before) i d v g l)) x.output
+    convert-promise e case before after bytes r (x.answer ∙ sym (goes_on e case bytes (length before) i d v g l)) x.output

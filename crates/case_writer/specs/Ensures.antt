@@ -2,7 +2,7 @@
 -- `holding`: contents from a writer's arguments. `zones_checked`: 45 and 46.
 -- `end_bytes`, `end_from`: the offset of the zones and the trailer, and where they start. `PutFieldsEntry`, `PutEndEntry`, `CopyEntry`, `PutCopyEntry`: what the stores need.
 -- `FileExit`: what is left where nothing is refused but 47.
-use Rattle.std.specs.Prelude.{ℕ, ◌+◌, ◌*◌, ◌≤◌, ◌≡◌, true, cond, not, ◌&&◌, List, ◌++◌, eqb, ltb, length, Ok, Err}
+use Rattle.std.specs.Prelude.{ℕ, ◌+◌, ◌*◌, ◌≤◌, ◌≡◌, true, cond, not, ◌&&◌, List, ◌++◌, eqb, ltb, length, Ok}
 use Rattle.arith.specs.Lists.{all_of}
 use Rattle.arith_bytes.specs.Stored.{all_bytes}
 use Rattle.reading.specs.Result.{Refusable, ◌>>=◌, refuse}
@@ -62,4 +62,4 @@ pub record PutCopyEntry (case : List ℕ) (n : Counts) (e : ℕ) : Type 0 where
 -- the file of contents of which nothing was refused before 47
 pub record FileExit (c : Contents) (before after : List ℕ) (r : Refusable ℕ) : Type 0 where
   pub answer : r ≡ (refuse ShortOutput (ltb (length before) (length (file_of c))) >>= λ _. Ok (length (file_of c)))
-  pub output : after ≡ output_after (r) (file_of c) before
+  pub output : after ≡ output_after r (file_of c) before

@@ -29,7 +29,7 @@ pub fn write_case(
 ) -> Result<usize, Refusal>
     ensures { WritePromise
         (holding n points.now words.now velocities.now pressures.now
-        zones.now) out.old out.new (result) }
+        zones.now) out.old out.new result }
 {
     checks::check(n, points, words, velocities, pressures, zones)?;
     put_file(n, points, words, velocities, pressures, zones, out)
@@ -86,7 +86,7 @@ fn put_copy(case: &[u8], n: Counts, edition: usize, out: &mut [u8]) -> Result<us
 // Writes a case of the other edition to the front of `out` as one of this edition; or answers the
 // refusal and leaves `out` as it was.
 pub fn convert(case: &[u8], edition: usize, out: &mut [u8]) -> Result<usize, Refusal>
-    ensures { ConvertPromise edition case.now out.old out.new (result) }
+    ensures { ConvertPromise edition case.now out.old out.new result }
 {
     if !checks::is_edition(edition) {
         return Err(Refusal::WrongTrailer);
