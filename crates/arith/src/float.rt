@@ -44,7 +44,7 @@ pub fn clamp(x: f64) -> f64
     x.clamp(0.0, 1.0)
 }
 
-// The distance a comes before b: f64::total_cmp on distances, which has no NaN here.
+// The distance a comes before b, where a NaN comes after all others.
 pub fn nearer(a: f64, b: f64) -> bool
     ensures { result ≡ F64.nearer a b }
 {
