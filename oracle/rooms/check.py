@@ -12,7 +12,9 @@ import subprocess
 import sys
 import tempfile
 
-SPECS = os.path.join(os.path.dirname(os.path.abspath(__file__)), "..", "..", "crates", "test_rooms", "specs")
+CRATES = os.path.join(os.path.dirname(os.path.abspath(__file__)), "..", "..", "crates")
+SPECS = os.path.join(CRATES, "test_rooms", "specs")
+NUMBERS = os.path.join(CRATES, "refusal", "specs", "Number.antt")
 
 
 def numbers(text):
@@ -29,11 +31,17 @@ def written(text):
     )
 
 
+def number(refusal):
+    """The number of a refusal, by its name."""
+    with open(NUMBERS) as f:
+        return re.search(r"^number %s = (\d+)$" % refusal, f.read(), re.M).group(1)
+
+
 def printed(expected):
     """The lines that a job with this outcome prints."""
-    refused = re.search(r"refused (\d+)", expected)
+    refused = re.fullmatch(r"Err (\w+)", expected.strip())
     if refused:
-        return ["refused " + refused.group(1)]
+        return ["refused " + number(refused.group(1))]
     part = lambda name: re.search(r"%s = ([^;]*);" % name, expected).group(1)
     words, lines = numbers(part("words")), []
     while words:
