@@ -34,7 +34,7 @@ def read(library):
                 frames[function] += int(size.group(1), 16)
             elif operation == "call" and argument.startswith("*") or operation == "sub" and argument.endswith(",%rsp"):
                 open_lines.append(function + ": " + line.strip())
-            elif operation in ("call", "jmp") and (target := re.search(r"<([^>+]+)(\+0x[0-9a-f]+)?>", argument)):
+            elif operation in ("call", "jmp") and (target := re.search(r"<(.+?)(\+0x[0-9a-f]+)?>$", argument)):
                 if target.group(1) != function or operation == "call" and not target.group(2):
                     calls[function].add(target.group(1))
     return frames, {f: {first.get(g, g) for g in c} for f, c in calls.items()}, open_lines
