@@ -62,7 +62,7 @@ walks ws cells f e = by (definitions cells ws) refl
     by (Err n) g = absurd (let z : ◌≡◌ {A = ℕ} 0 1 = cc in omega arith)
     by (Ok ds) g = record { ds = ds; read = g; count = cc }
 
--- ---- record i of a walk that succeeds: `definitions (cells - i) (drop at ws) ≡ fine (drop i ds)`
+-- ---- record i of a walk that succeeds: `definitions (cells - i) (drop at ws) ≡ Ok (drop i ds)`
 
 -- its definition, and the rest of the walk
 pub record CellRead (ws : List ℕ) (cells i : ℕ) (ds : List Definition) (h : Head) (at next : ℕ) (none : Definition) : Type 0 where

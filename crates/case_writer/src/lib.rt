@@ -16,8 +16,8 @@ use refusal::Refusal;
 mod checks;
 mod parts;
 
-// Writes the file of counts and parts to the front of `out`; or answers the refusal and leaves
-// `out` as it was. Floats are given by their bits.
+// Writes the file of counts and parts to the front of `out` and answers its length; or answers the
+// refusal and leaves `out` as it was. Floats are given by their bits.
 pub fn write_case(
     n: Counts,
     points: &[u64],
@@ -83,8 +83,8 @@ fn put_copy(case: &[u8], n: Counts, edition: usize, out: &mut [u8]) -> Result<us
     Ok(length)
 }
 
-// Writes a case of the other edition to the front of `out` as one of this edition; or answers the
-// refusal and leaves `out` as it was.
+// Writes a case of the other edition to the front of `out` as one of this edition and answers the
+// file's length; or answers the refusal and leaves `out` as it was.
 pub fn convert(case: &[u8], edition: usize, out: &mut [u8]) -> Result<usize, Refusal>
     ensures { ConvertPromise edition case.now out.old out.new result }
 {

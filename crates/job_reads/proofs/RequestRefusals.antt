@@ -66,7 +66,7 @@ good-unless : (n : Refusal) (t : Bool) {q : Request} → among 30 44 (numbers.nu
 unfolding refuse_if
 good-unless n t h g = good-either t (refusal n h) g
 
--- refusal WrongPlane, 37 or none
+-- refusal 36, 37 or none
 good-plane : (t : Refusable (Unit {0})) {q : Request} → Answer t → Good q → Good (unless t q)
 unfolding unless
 good-plane (Err n) (due _ h) g = refusal n h

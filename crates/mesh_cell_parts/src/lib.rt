@@ -23,7 +23,8 @@ pub struct NewCell {
     pub first: usize,
 }
 
-// A face of the cell, turned outward, is added to the table, or gets its second cell.
+// A face of the cell, turned outward, is added to the table, or gets its second cell. The face's
+// number and the number of faces in the table.
 pub fn place_face(
     case: &[u8],
     points: usize,

@@ -29,7 +29,8 @@ struct Progress {
 
 // ---- the faces of a cell
 
-// Face c of the record: its number goes to its place in the cell's list.
+// Face c of the record: its number goes to its place in the cell's list. The next face of the record
+// and the number of faces in the table.
 fn add_face(
     case: &[u8],
     points: usize,
@@ -131,7 +132,7 @@ fn fill_cell(
     add_faces(case, points, dimension, ws, words, floats, s, cell)
 }
 
-// Cell i, whose record is the next one.
+// Cell i, whose record is the next one, and where the record after it starts.
 fn new_cell(
     case: &[u8],
     points: usize,

@@ -4,7 +4,7 @@
 ghost use Rattle.std.specs.Prelude.{◌≡◌};
 ghost use Rattle.refusal.specs.Number.{number};
 
-// Each refusal of 01 and 02, in the order of their numbers.
+// Each refusal of 01 and 02, and 21 of include/hookyellow.h, in the order of their numbers.
 #[derive(Clone, Copy, Debug, PartialEq, Eq)]
 pub enum Refusal {
     // 1: the trailer, or an argument that it would be written from
