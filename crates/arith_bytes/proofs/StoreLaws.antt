@@ -7,7 +7,7 @@ use mathlib.Core.Path.{◌≡◌, ap, sym, ◌∙◌}
 use mathlib.Core.List.{List, ◌∷◌, ◌++◌, append_assoc, append-nil}
 use lib.ListN.{length, get_or, take, drop, set, length-drop}
 use borrow.Rule.Slice.PartMut.{put_mid, Post-is}
-use lib.Seq.{take-suc-set, take_all, length-take-le}
+use lib.Seq.{take-suc-set, take_all, length-take-le, paste, paste-suc}
 use Rattle.arith.proofs.RecordLaws.{left-suc, stride-le, drop-next, drop-end}
 use Rattle.arith_bytes.specs.Stored.{le_bytes, all_bytes, stored}
 use Rattle.arith_bytes.proofs.ByteLaws.{length-le_bytes, length-all_bytes, stored-none, length-stored, stored_more}
@@ -71,8 +71,12 @@ module _ {s : ℕ} {out₀ : List ℕ} {at : ℕ} {ws out : List ℕ} {i : ℕ} 
   unfolding all_bytes
   listing-ends h = sym (stored-none (at + s * i) out) ∙ rw (drop-end ws i h) at l.whole
 
--- ---- bytes copied to the front
+-- ---- bytes copied to the front by a loop: i of them are
 
-pub copied : (from out front : List ℕ) (n : ℕ) → front ≡ take n from → n ≤ length from → front ++ drop n out ≡ stored 0 (take n from) out
+pub copy-turn : (from to₀ to : List ℕ) (i : ℕ) → to ≡ paste to₀ 0 from i → i < length from → i < length to₀ → set to i (get_or from i 0) ≡ paste to₀ 0 from (i + 1)
+copy-turn from to₀ to i e h g =
+    rw (e, add-one i) (ap (λ (k : ℕ). set (paste to₀ 0 from i) k (get_or from i 0)) (sym (zero-add i)) ∙ paste-suc to₀ 0 from i 0 (omega arith) h)
+
+pub copy_done : (from to₀ to : List ℕ) (n : ℕ) → to ≡ paste to₀ 0 from n → n ≤ length from → to ≡ stored 0 (take n from) to₀
 unfolding stored
-copied from out front n e h = rw (length-take-le n from h, zero-add, e)
+copy_done from to₀ to n e h = rw (length-take-le n from h) (e ∙ append_assoc (take 0 to₀) (take n from) (drop (0 + n) to₀))

@@ -41,5 +41,7 @@ pub fn copy(from: &[u8], n: usize, out: &mut [u8])
     requires { (n ≤ length from.now) × (n ≤ length out.old) }
     ensures { out.new ≡ stored 0 (take n from.now) out.old }
 {
-    out[..n].copy_from_slice(&from[..n]);
+    for i in 0..n {
+        out[i] = from[i];
+    }
 }

@@ -2,7 +2,7 @@ use native.Mathlib.Omega.{arith}
 use mathlib.Core.Path.{◌≡◌}
 use lib.Seq.{paste-zero}
 use Rattle.test_arith_exports.specs.Copy.{copied}
-use Rattle.test_arith_exports.proofs.Laws.{copy-turn, copy_done}
+use Rattle.arith_bytes.proofs.StoreLaws.{copy-turn, copy_done}
 use Rattle.test_arith_exports.proofs.copy.hookyellow_copy.Goals as goal
 
 pub loop-i-init : goal.loop-i-init
